@@ -1,0 +1,217 @@
+//! A divider call: the tests that the scope adds, around the extracted Rust.
+
+use crate::job::{Job, POINTS};
+use crate::notes;
+use crate::stage::{self, Builder, Poly};
+
+/// Units in a mm, and the largest coordinate in units and in mm.
+pub const UNITS: f64 = 8192.0;
+pub const FARTHEST: i32 = 8_388_608;
+const FARTHEST_MM: f64 = 1024.0;
+const LARGEST_SHEET: u32 = 2048;
+const MOST_PLACES: usize = 65_535;
+const MOST_CUTS: usize = 32;
+
+pub type Cell = [u16; 4];
+/// What a place of a cell list holds that no call has written.
+pub const UNTOUCHED: Cell = [0xFFFF; 4];
+
+/// A node list: the listed nodes with their pool, its places, and the used
+/// count that the caller names.
+#[derive(Clone, Default)]
+pub struct NodeList {
+    pub nodes: Builder,
+    pub places: usize,
+    pub used: usize,
+}
+
+/// All that a call returns. `n` is zero unless the ring is accepted; `corners`
+/// and `k` are zero but for a cell that fails.
+#[derive(Clone, Copy, Default, PartialEq, Debug)]
+pub struct Answer {
+    pub code: u8,
+    pub corners: usize,
+    pub k: usize,
+    pub n: usize,
+    pub marked: usize,
+    pub cuts: usize,
+    pub pieces: usize,
+    pub turned: i64,
+    pub area: i64,
+    pub nodes: usize,
+    pub cells: usize,
+}
+
+impl NodeList {
+    pub fn empty(places: usize) -> Self {
+        NodeList {
+            places,
+            ..NodeList::default()
+        }
+    }
+
+    /// A list that holds these nodes; of equal keys the first number counts.
+    pub fn holding(places: usize, used: usize, nodes: &[[f64; 2]]) -> Self {
+        let mut list = NodeList {
+            places,
+            used,
+            ..NodeList::default()
+        };
+        for (number, &node) in nodes.iter().enumerate() {
+            list.nodes.points.push(node);
+            list.nodes.pool.entry(stage::pack(node)).or_insert(number);
+        }
+        list
+    }
+}
+
+pub fn in_mm(points: &[[i32; 2]]) -> Vec<[f64; 2]> {
+    points
+        .iter()
+        .map(|p| p.map(|u| f64::from(u) / UNITS))
+        .collect()
+}
+
+pub fn in_units(p: [f64; 2]) -> [i64; 2] {
+    p.map(|mm| (mm * UNITS) as i64)
+}
+
+/// A doubled area in units squared, from an area in mm².
+pub fn doubled(area: f64) -> i64 {
+    (area * 2.0 * UNITS * UNITS) as i64
+}
+
+/// Node places and cell places that a ring of `r` points must find free.
+pub fn room(r: usize) -> (usize, usize) {
+    let m = MOST_CUTS.min(r - 3);
+    (3 * r + 2 * m + 1, r + 2 * m)
+}
+
+/// One divider call over the lent lists. The pieces are those of an accepted
+/// ring, and of one with a cell that fails.
+pub fn divide(
+    job: &Job,
+    list: &mut NodeList,
+    cells: &mut [Cell],
+    cell_count: usize,
+) -> (Answer, Vec<Poly>) {
+    notes::take();
+    let kept = Answer {
+        nodes: list.used,
+        cells: cell_count,
+        ..Answer::default()
+    };
+    let refused = |code| (Answer { code, ..kept }, Vec::new());
+    let code = first_tests(job, list, cells.len(), cell_count);
+    if code != 0 {
+        return refused(code);
+    }
+    let (simplified, run_mids) = stage::simplify_chain(&in_mm(&job.chain));
+    let points = match stage::cleaned(&in_mm(&job.ring), f64::from(job.size)) {
+        Ok(points) => points,
+        Err(text) if text.contains("collapsed") => return refused(5),
+        Err(_) => return refused(6),
+    };
+    let area = doubled(stage::polygon_area(&points));
+    if area <= 0 {
+        return refused(7);
+    }
+    let ring = stage::marked(points, &simplified, &run_mids);
+    let pieces = stage::split_bad_vertices(&ring).expect("the split never fails");
+    let accepted = Answer {
+        n: ring.points.len(),
+        marked: ring.chain_edge.iter().filter(|&&m| m).count(),
+        pieces: pieces.len(),
+        area,
+        ..kept
+    };
+    let room = room(job.ring.len()).1;
+    (
+        write_cells(accepted, &pieces, list, &mut cells[cell_count..], room),
+        pieces,
+    )
+}
+
+/// The cells of the pieces into the free places, or zeros if one fails.
+fn write_cells(
+    accepted: Answer,
+    pieces: &[Poly],
+    list: &mut NodeList,
+    free: &mut [Cell],
+    room: usize,
+) -> Answer {
+    let mut quads = Vec::new();
+    let failed = pieces.iter().find_map(|piece| {
+        let failed = list
+            .nodes
+            .subdivide(piece, &mut quads)
+            .err()
+            .map(|text| place_of(&text));
+        notes::piece_done(failed.map(|(_, k)| k));
+        failed
+    });
+    let before = accepted.cells;
+    list.used = list.nodes.points.len();
+    if let Some((corners, k)) = failed {
+        free[..room].fill([0; 4]);
+        return Answer {
+            code: 8,
+            corners,
+            k,
+            nodes: list.used,
+            cells: before,
+            ..Answer::default()
+        };
+    }
+    for (place, quad) in free.iter_mut().zip(&quads) {
+        *place = quad.map(|number| number as u16);
+    }
+    let notes = notes::look();
+    Answer {
+        cuts: notes.cuts,
+        turned: -doubled(notes.turned_area),
+        nodes: list.used,
+        cells: before + quads.len(),
+        ..accepted
+    }
+}
+
+/// Corners of the piece and number of the cell, from the Rust's error text.
+fn place_of(text: &str) -> (usize, usize) {
+    (number_after(text, "n="), number_after(text, "k="))
+}
+
+/// The number that follows `name` in a text.
+fn number_after(text: &str, name: &str) -> usize {
+    let from = text.find(name).expect("the text names the corner") + name.len();
+    let digits = text[from..].chars().take_while(char::is_ascii_digit);
+    digits
+        .collect::<String>()
+        .parse()
+        .expect("a number follows")
+}
+
+/// Refusals 1 to 4, or 0.
+fn first_tests(job: &Job, list: &NodeList, cell_places: usize, cell_count: usize) -> u8 {
+    let r = job.ring.len();
+    if !(3..=POINTS).contains(&r) || job.chain.len() > POINTS {
+        return 1;
+    }
+    let mut coordinates = job.ring.iter().chain(&job.chain).flatten();
+    let within = |c: &i32| (-FARTHEST..=FARTHEST).contains(c);
+    if !coordinates.all(within) || !(1..=LARGEST_SHEET).contains(&job.size) {
+        return 2;
+    }
+    if list.used > list.places || cell_count > cell_places || list.places > MOST_PLACES {
+        return 3;
+    }
+    let usable = |c: &f64| c.is_finite() && c.abs() <= FARTHEST_MM;
+    if !list.nodes.points.iter().flatten().all(usable) {
+        return 3;
+    }
+    let (nodes, cells) = room(r);
+    if list.places - list.used < nodes || cell_places - cell_count < cells {
+        return 4;
+    }
+    0
+}

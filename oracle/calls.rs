@@ -1,0 +1,56 @@
+//! The `.calls` form: node lists with what they hold, and calls over each.
+//!
+//! list PLACES USED            then a line for each used node, PLACES at most:
+//! put BX BY                   its two doubles as bits
+//! call SIZE CELL_PLACES CELL_COUNT R C x y ..   R ring points, C chain points
+
+use crate::job::{Call, Given, Job};
+
+pub fn read(text: &str) -> Vec<Given> {
+    let mut lists: Vec<Given> = Vec::new();
+    for line in text.lines() {
+        let mut words = line.split_whitespace();
+        let kind = words.next().unwrap_or_default();
+        let words: Vec<&str> = words.collect();
+        if kind == "list" {
+            lists.push(Given::default());
+        }
+        let list = lists.last_mut().expect("a list comes first");
+        match kind {
+            "list" => (list.places, list.used) = (number(words[0]), number(words[1])),
+            "put" => list.nodes.push([double(words[0]), double(words[1])]),
+            "call" => list.calls.push(call(&words)),
+            _ => panic!("no such line: {line}"),
+        }
+    }
+    lists
+}
+
+fn call(words: &[&str]) -> Call {
+    let head: Vec<usize> = words[..5].iter().map(|w| number(w)).collect();
+    let numbers: Vec<i32> = words[5..]
+        .iter()
+        .map(|w| w.parse().expect("a coordinate"))
+        .collect();
+    let points: Vec<[i32; 2]> = numbers.chunks(2).map(|p| [p[0], p[1]]).collect();
+    assert_eq!(points.len(), head[3] + head[4], "the points of a call");
+    let (ring, chain) = points.split_at(head[3]);
+    let job = Job {
+        ring: ring.to_vec(),
+        chain: chain.to_vec(),
+        size: head[0] as u32,
+    };
+    Call {
+        job,
+        cell_places: head[1],
+        cell_count: head[2],
+    }
+}
+
+fn number(word: &str) -> usize {
+    word.parse().expect("a whole number")
+}
+
+fn double(word: &str) -> f64 {
+    f64::from_bits(u64::from_str_radix(word, 16).expect("the bits of a double"))
+}

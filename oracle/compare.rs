@@ -1,0 +1,169 @@
+//! The exported ring divider beside the Rust: every returned value, every node
+//! bit, every cell place, and guards around each list.
+//!
+//! compare blocks < BLOCKS   each ring on an empty list, and all on one list
+//! compare calls < CALLS     calls over prefilled lists
+//! compare details FOLDER    the detailed forms of a folder of vectors
+//! compare time < BLOCKS     both sides on the same rings
+//! compare memory < BLOCKS   stack and heap of a call on both sides
+
+// Shared with the oracle, which uses all of these.
+#[allow(dead_code)]
+mod blocks;
+#[allow(dead_code)]
+mod call;
+mod calls;
+#[allow(dead_code)]
+mod forms;
+mod job;
+mod library;
+mod memory;
+#[allow(dead_code)]
+mod notes;
+mod sides;
+#[path = "../target/oracle/stage.rs"]
+#[allow(dead_code)]
+mod stage;
+mod standin;
+#[allow(dead_code)]
+mod time;
+
+use blocks::Jobs;
+use call::NodeList;
+use forms::{CELL_PLACES, NODE_PLACES};
+use job::Job;
+use library::{compared, node_image, refused, whole};
+use std::io::Read;
+
+/// Differences shown before the rest are only counted.
+const SHOWN: usize = 10;
+
+/// What was compared so far.
+#[derive(Default)]
+struct Tally {
+    compared: usize,
+    different: usize,
+}
+
+impl Tally {
+    fn add<T>(&mut self, name: &str, job: &Job, result: Result<T, String>) {
+        self.compared += 1;
+        if let Err(text) = result {
+            self.different += 1;
+            if self.different <= SHOWN {
+                println!("{name}: {text}");
+                println!(
+                    "  size {} ring {:?} chain {:?}",
+                    job.size, job.ring, job.chain
+                );
+            }
+        }
+    }
+
+    fn end(self) -> ! {
+        println!(
+            "compared {} calls, {} differ",
+            self.compared, self.different
+        );
+        std::process::exit(i32::from(self.different > 0 || self.compared == 0))
+    }
+}
+
+fn main() {
+    let arguments: Vec<String> = std::env::args().skip(1).collect();
+    let words: Vec<&str> = arguments.iter().map(String::as_str).collect();
+    match words.as_slice() {
+        ["blocks"] => over_blocks(&input()),
+        ["calls"] => over_calls(&String::from_utf8(input()).expect("calls are text")),
+        ["details", folder] => over_details(folder),
+        ["time"] => print!("{}", sides::times(&input())),
+        ["memory"] => print!("{}", memory::peaks(&input())),
+        _ => {
+            eprintln!("use: compare blocks|calls|time|memory < INPUT, or details FOLDER");
+            std::process::exit(2)
+        }
+    }
+}
+
+fn input() -> Vec<u8> {
+    let mut bytes = Vec::new();
+    std::io::stdin()
+        .read_to_end(&mut bytes)
+        .expect("standard input can be read");
+    bytes
+}
+
+fn over_blocks(bytes: &[u8]) -> ! {
+    let mut tally = Tally::default();
+    let mut list = NodeList::empty(NODE_PLACES);
+    let mut image = node_image(&list, 0);
+    for (number, job) in Jobs::new(bytes).flatten().enumerate() {
+        let (mut fresh, odd) = (NodeList::empty(NODE_PLACES), number % 4);
+        let mut fresh_image = node_image(&fresh, odd % 2);
+        let alone = compared(&job, &mut fresh, &mut fresh_image, CELL_PLACES, 0, odd);
+        tally.add(&format!("ring {number} alone"), &job, alone);
+        let shared = compared(&job, &mut list, &mut image, CELL_PLACES, 0, 0);
+        tally.add(&format!("ring {number} on one list"), &job, shared);
+        if number % 64 == 0 {
+            wrong_lengths(&mut tally, number, &job);
+        }
+    }
+    tally.end()
+}
+
+/// Odd lengths are 1, and come before counts above their lists, which are 3.
+fn wrong_lengths(tally: &mut Tally, number: usize, job: &Job) {
+    let name = format!("ring {number} with wrong lengths");
+    let (ring, chain) = whole(job);
+    let beyond = (usize::MAX, usize::MAX);
+    if ring > 0 {
+        tally.add(&name, job, refused((ring - 1, chain), job, (0, 0), 1));
+        tally.add(&name, job, refused((ring - 1, chain), job, beyond, 1));
+    }
+    if chain > 0 {
+        tally.add(&name, job, refused((ring, chain - 1), job, beyond, 1));
+    }
+    let square = Job {
+        ring: vec![[0, 0], [9, 0], [9, 9], [0, 9]],
+        size: 1,
+        ..Job::default()
+    };
+    for counts in [(usize::MAX, 0), (0, usize::MAX), (301, 0), (0, 125)] {
+        tally.add(&name, &square, refused(whole(&square), &square, counts, 3));
+    }
+}
+
+fn over_calls(text: &str) -> ! {
+    let mut tally = Tally::default();
+    for (list_number, given) in calls::read(text).iter().enumerate() {
+        let mut list = NodeList::holding(given.places, given.used, &given.nodes);
+        let mut image = node_image(&list, list_number % 2);
+        for call in &given.calls {
+            let (places, count, odd) = (call.cell_places, call.cell_count, list_number % 4);
+            let result = compared(&call.job, &mut list, &mut image, places, count, odd);
+            tally.add(&format!("list {list_number}"), &call.job, result);
+        }
+    }
+    tally.end()
+}
+
+fn over_details(folder: &str) -> ! {
+    let mut different = 0;
+    let mut names: Vec<_> = std::fs::read_dir(folder)
+        .expect("the folder can be read")
+        .map(|entry| entry.expect("an entry").path())
+        .filter(|path| path.extension().is_some_and(|e| e == "bin" || e == "calls"))
+        .collect();
+    names.sort();
+    for name in &names {
+        let agrees = sides::agrees_with_detail(name);
+        println!(
+            "{}  {}",
+            if agrees { "agrees " } else { "DIFFERS" },
+            name.display()
+        );
+        different += usize::from(!agrees);
+    }
+    println!("compared {} files, {different} differ", names.len());
+    std::process::exit(i32::from(different > 0 || names.is_empty()))
+}

@@ -1,0 +1,148 @@
+//! The stand-ins, as edits of the cut text. Each group quotes its sentence of
+//! the scope's list 'Where port and Rust part'; the last three groups join the
+//! cut text to the rest and tell what it does. What the scope adds around the
+//! stage (whole numbers, refusals 1 to 4 and 7, job blocks) is in call.rs and
+//! blocks.rs.
+
+/// One change of the cut text `place`: `old` must be there exactly once.
+pub struct Edit {
+    pub place: &'static str,
+    pub old: &'static str,
+    pub new: &'static str,
+}
+
+pub const fn edit(place: &'static str, old: &'static str, new: &'static str) -> Edit {
+    Edit { place, old, new }
+}
+
+/// "The corner measure and the cosine below replace them, with their limits."
+const ANGLES: [Edit; 14] = [
+    edit(
+        "polygon_interior_angles",
+        "out.push(180.0);",
+        "out.push(2.0);",
+    ),
+    edit(
+        "polygon_interior_angles",
+        "let turn = cross(d1, d2).atan2(dot(d1, d2));",
+        "let measure = standin::corner_measure(cross(d1, d2), dot(d1, d2));",
+    ),
+    edit(
+        "polygon_interior_angles",
+        "out.push((180.0 - turn.to_degrees()).rem_euclid(360.0));",
+        "out.push(measure);",
+    ),
+    edit("angle_between_deg", "return 0.0;", "return 1.0;"),
+    edit("angle_between_deg", ".acos()", ""),
+    edit("angle_between_deg", ".to_degrees()", ""),
+    edit(
+        "simplify_chain",
+        "angle > SMOOTH_TURN_DEG",
+        "angle < SMOOTH_COSINE",
+    ),
+    edit("split_bad_vertices", "a > BAD_ANGLE_DEG", "a > BAD_MEASURE"),
+    edit(
+        "split_polygon_at",
+        "angle1 < MIN_SPLIT_ANGLE_DEG",
+        "angle1 > MIN_SPLIT_COSINE",
+    ),
+    edit(
+        "split_polygon_at",
+        "angle2 < MIN_SPLIT_ANGLE_DEG",
+        "angle2 > MIN_SPLIT_COSINE",
+    ),
+    edit(
+        "split_polygon_at",
+        "angle1 > BAD_ANGLE_DEG",
+        "angle1 < BAD_COSINE",
+    ),
+    edit(
+        "split_polygon_at",
+        "angle2 > BAD_ANGLE_DEG",
+        "angle2 < BAD_COSINE",
+    ),
+    // A smaller angle is a larger cosine: the best diagonal turns round.
+    edit(
+        "split_polygon_at",
+        "angle1.min(angle2)",
+        "angle1.max(angle2)",
+    ),
+    edit("split_polygon_at", "score > s", "score < s"),
+];
+
+/// "Cells of an abandoned snapped attempt are taken back." At the failing cell
+/// k, this attempt has listed k cells.
+const TAKEN_BACK: [Edit; 1] = [edit(
+    "subdivide",
+    "return self.subdivide_unsnapped(polygon, quads);",
+    "quads.truncate(quads.len() - k);\n                    notes::retried(k);\n                    \
+     return self.subdivide_unsnapped(polygon, quads);",
+)];
+
+/// "Nodes drop the Rust's third coordinate, always zero."
+const FLAT_NODES: [Edit; 1] = [edit("add_node", "[p[0], p[1], 0.0]", "[p[0], p[1]]")];
+
+/// "A straight middle in `subdivide` is half the sum of its edge's two listed
+/// ends, whatever form the Rust has."
+const MIDDLES: [Edit; 2] = [
+    edit(
+        "subdivide",
+        "[0.5 * (a[0] + b[0]), 0.5 * (a[1] + b[1])]",
+        "standin::middle(a, b)",
+    ),
+    edit(
+        "subdivide_unsnapped",
+        "[0.5 * (a[0] + b[0]), 0.5 * (a[1] + b[1])]",
+        "standin::middle(a, b)",
+    ),
+];
+
+/// What is out of the stage: the scale becomes the sheet size, the ring comes
+/// from the caller, and every marked edge has its snap point.
+const OUT_OF_STAGE: [Edit; 3] = [
+    edit("cleaned", "self.scale()", "scale"),
+    edit("cleaned", "&chosen", "chosen"),
+    edit(
+        "subdivide",
+        "nearest_boundary_point(self.domain, m)",
+        "unreachable!(\"a marked edge has its snap point\")",
+    ),
+];
+
+/// Values that the caller is told and the Rust does not return (cuts, turned
+/// area), and what the census counts.
+const NOTED: [Edit; 6] = [
+    edit("split_bad_vertices", "splits += 1;", "splits += 1;\n                notes::cut();"),
+    edit(
+        "split_bad_vertices",
+        "if splits >= MAX_SPLITS {",
+        "notes::worst(&angles, index);\n        if splits >= MAX_SPLITS {\n            notes::spent();",
+    ),
+    edit(
+        "make_sub_polygon",
+        "points.reverse();",
+        "notes::turned(polygon_area(&points), &chain_edge);\n        points.reverse();",
+    ),
+    edit("subdivide", "snapped = false;", "snapped = false;\n                    notes::far();"),
+    edit("add_node", "return id;", "notes::met(self.points[id], p);\n            return id;"),
+    edit("subdivide", "m = q;", "notes::near(q, m);\n                    m = q;"),
+];
+
+/// The cut text is called from other files.
+const PUBLIC: [Edit; 3] = [
+    edit("Poly", "    points: ", "    pub points: "),
+    edit("Poly", "    chain_edge: ", "    pub chain_edge: "),
+    edit("Poly", "    snap: ", "    pub snap: "),
+];
+
+/// Every edit, in the order they are made.
+pub fn all_edits() -> impl Iterator<Item = &'static Edit> {
+    ANGLES
+        .iter()
+        .chain(&TAKEN_BACK)
+        .chain(&FLAT_NODES)
+        .chain(&MIDDLES)
+        .chain(&OUT_OF_STAGE)
+        .chain(&NOTED)
+        .chain(&PUBLIC)
+}

@@ -1,0 +1,51 @@
+//! Writing job blocks and calls.
+
+use crate::job::{check, Call, Given, Job, BLOCK, CHECKED};
+
+/// The two blocks of a job, the ring's number first.
+pub fn blocks(job: &Job, number: usize) -> Vec<u8> {
+    let mut bytes = one(1, &job.ring, number, job.size);
+    bytes.extend(one(2, &job.chain, number + 1, 0));
+    bytes
+}
+
+fn one(kind: u8, points: &[[i32; 2]], number: usize, size: u32) -> Vec<u8> {
+    let mut block = vec![0; BLOCK];
+    block[0] = kind;
+    block[1] = points.len() as u8;
+    block[2..4].copy_from_slice(&(number as u16).to_le_bytes());
+    for (k, value) in points.iter().flatten().enumerate() {
+        block[4 + 4 * k..8 + 4 * k].copy_from_slice(&value.to_le_bytes());
+    }
+    block[484..486].copy_from_slice(&(size as u16).to_le_bytes());
+    seal(&mut block);
+    block
+}
+
+/// Puts the check that the bytes now have.
+pub fn seal(block: &mut [u8]) {
+    let sum = check(block);
+    block[CHECKED..].copy_from_slice(&sum.to_le_bytes());
+}
+
+/// A list and its calls as text.
+pub fn calls(given: &Given) -> String {
+    let mut text = format!("list {} {}\n", given.places, given.used);
+    for [x, y] in &given.nodes {
+        text += &format!("put {:016x} {:016x}\n", x.to_bits(), y.to_bits());
+    }
+    for Call {
+        job,
+        cell_places,
+        cell_count,
+    } in &given.calls
+    {
+        let (r, c) = (job.ring.len(), job.chain.len());
+        text += &format!("call {} {cell_places} {cell_count} {r} {c}", job.size);
+        for value in job.ring.iter().chain(&job.chain).flatten() {
+            text += &format!(" {value}");
+        }
+        text.push('\n');
+    }
+    text
+}

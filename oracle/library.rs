@@ -1,0 +1,229 @@
+//! A call of the exported divider over guarded lists, compared with the Rust.
+
+use crate::call::{Answer, Cell, NodeList, UNTOUCHED};
+use crate::forms::run;
+use crate::job::Job;
+
+/// What `ring_divide` answers; `corners` is n, or with 8 the piece's.
+#[repr(C)]
+#[derive(Clone, Copy, PartialEq, Debug)]
+pub struct Returned {
+    pub code: u64,
+    pub corners: u64,
+    pub k: u64,
+    pub marked: u64,
+    pub cuts: u64,
+    pub pieces: u64,
+    pub turned: u64,
+    pub area: u64,
+    pub nodes: u64,
+    pub cells: u64,
+}
+
+extern "C" {
+    fn ring_divide(
+        ring: *const i32,
+        ring_len: usize,
+        chain: *const i32,
+        chain_len: usize,
+        size: u32,
+        nodes: *mut f64,
+        nodes_len: usize,
+        node_count: usize,
+        cells: *mut u16,
+        cells_len: usize,
+        cell_count: usize,
+    ) -> Returned;
+}
+
+impl From<&Answer> for Returned {
+    fn from(a: &Answer) -> Self {
+        Returned {
+            code: u64::from(a.code),
+            corners: a.n.max(a.corners) as u64,
+            k: a.k as u64,
+            marked: a.marked as u64,
+            cuts: a.cuts as u64,
+            pieces: a.pieces as u64,
+            turned: a.turned as u64,
+            area: a.area as u64,
+            nodes: a.nodes as u64,
+            cells: a.cells as u64,
+        }
+    }
+}
+
+/// Numbers before and after a list that no call may change.
+const GUARD: usize = 16;
+
+/// A list between guards, every number of which is known.
+#[derive(Clone)]
+pub struct Guarded<T> {
+    numbers: Vec<T>,
+    len: usize,
+}
+
+impl<T: Copy> Guarded<T> {
+    /// A list of `len` numbers; guards and places hold `filler` of their place.
+    pub fn new(len: usize, filler: impl Fn(usize) -> T) -> Self {
+        Guarded {
+            numbers: (0..len + 2 * GUARD).map(filler).collect(),
+            len,
+        }
+    }
+
+    pub fn list(&mut self) -> &mut [T] {
+        &mut self.numbers[GUARD..GUARD + self.len]
+    }
+}
+
+/// A node list of `places` with the listed nodes, and one more number if `odd`.
+pub fn node_image(list: &NodeList, odd: usize) -> Guarded<f64> {
+    let filler = |place: usize| f64::from_bits(0x4012_3456_0000_0000 | place as u64);
+    let mut image = Guarded::new(2 * list.places + odd, filler);
+    for (number, value) in list.nodes.points.iter().flatten().enumerate() {
+        image.list()[number] = *value;
+    }
+    image
+}
+
+/// A cell list of `places`, with `odd` more numbers.
+pub fn cell_image(places: usize, odd: usize) -> Guarded<u16> {
+    Guarded::new(4 * places + odd, |place| 0x9000 ^ place as u16)
+}
+
+/// Calls the library with these lengths and counts.
+pub fn call(
+    lengths: (usize, usize),
+    job: &Job,
+    nodes: &mut [f64],
+    node_count: usize,
+    cells: &mut [u16],
+    cell_count: usize,
+) -> Returned {
+    assert!(lengths.0 <= 2 * job.ring.len() && lengths.1 <= 2 * job.chain.len());
+    // Each pointer comes with the length of its own list, which outlives the call.
+    unsafe {
+        ring_divide(
+            job.ring.as_ptr().cast(),
+            lengths.0,
+            job.chain.as_ptr().cast(),
+            lengths.1,
+            job.size,
+            nodes.as_mut_ptr(),
+            nodes.len(),
+            node_count,
+            cells.as_mut_ptr(),
+            cells.len(),
+            cell_count,
+        )
+    }
+}
+
+pub fn whole(job: &Job) -> (usize, usize) {
+    (2 * job.ring.len(), 2 * job.chain.len())
+}
+
+/// Runs a call on both sides and compares every value, node bit, cell place
+/// and guard. `odd` numbers more than its places stand at each list's end.
+pub fn compared(
+    job: &Job,
+    list: &mut NodeList,
+    image: &mut Guarded<f64>,
+    cell_places: usize,
+    cell_count: usize,
+    odd: usize,
+) -> Result<Returned, String> {
+    let mut cells = cell_image(cell_places, odd);
+    let mut expected_cells = cells.clone();
+    let mut expected_nodes = image.clone();
+    let used = list.used;
+    let returned = call(
+        whole(job),
+        job,
+        image.list(),
+        used,
+        cells.list(),
+        cell_count,
+    );
+
+    let run = run(job, list, cell_places, cell_count);
+    for (number, value) in list.nodes.points.iter().flatten().enumerate() {
+        expected_nodes.list()[number] = *value;
+    }
+    overlay(expected_cells.list(), &run.cells);
+    let answer = Returned::from(&run.answer);
+    if returned != answer {
+        return Err(format!("returned\n  {returned:?}, the Rust\n  {answer:?}"));
+    }
+    same(
+        "node number",
+        &image.numbers,
+        &expected_nodes.numbers,
+        |f| f.to_bits(),
+    )?;
+    same(
+        "cell number",
+        &cells.numbers,
+        &expected_cells.numbers,
+        u64::from,
+    )?;
+    Ok(returned)
+}
+
+/// The cells that the Rust wrote, over what was there.
+fn overlay(numbers: &mut [u16], cells: &[Cell]) {
+    for (place, cell) in numbers.chunks_exact_mut(4).zip(cells) {
+        if *cell != UNTOUCHED {
+            place.copy_from_slice(cell);
+        }
+    }
+}
+
+fn same<T: Copy>(name: &str, ours: &[T], rust: &[T], bits: fn(T) -> u64) -> Result<(), String> {
+    let differs = |k: &usize| bits(ours[*k]) != bits(rust[*k]);
+    match (0..ours.len()).find(differs) {
+        None => Ok(()),
+        Some(k) => {
+            let (a, b) = (bits(ours[k]), bits(rust[k]));
+            let place = k as i64 - GUARD as i64;
+            Err(format!(
+                "{name} {place} is {a:016x}, with the Rust {b:016x}"
+            ))
+        }
+    }
+}
+
+/// A call that must leave all as found: nothing may change but the answer.
+pub fn refused(
+    lengths: (usize, usize),
+    job: &Job,
+    counts: (usize, usize),
+    code: u64,
+) -> Result<(), String> {
+    let list = NodeList::empty(300);
+    let (mut nodes, mut cells) = (node_image(&list, 1), cell_image(124, 3));
+    let (nodes_before, cells_before) = (nodes.clone(), cells.clone());
+    let returned = call(lengths, job, nodes.list(), counts.0, cells.list(), counts.1);
+    let kept = Answer {
+        nodes: counts.0,
+        cells: counts.1,
+        ..Answer::default()
+    };
+    let answer = Returned {
+        code,
+        ..Returned::from(&kept)
+    };
+    if returned != answer {
+        return Err(format!("returned\n  {returned:?}, wanted\n  {answer:?}"));
+    }
+    same("node number", &nodes.numbers, &nodes_before.numbers, |f| {
+        f.to_bits()
+    })?;
+    same(
+        "cell number",
+        &cells.numbers,
+        &cells_before.numbers,
+        u64::from,
+    )
+}
