@@ -163,6 +163,23 @@ fn image(random: &mut Random) -> Ring {
     (0..count).map(|_| moved(grid())).collect()
 }
 
+/// Small whole-number images of rings with a flat cell.
+pub fn flat(random: &mut Random, _: usize) -> Job {
+    let base = random.pick(&known::FLAT);
+    let reach = random.pick(&[1, 3, 20, 300]);
+    let mut entry = || random.between(-reach, reach);
+    let (a, b, c, d) = (entry(), entry(), entry(), entry());
+    let shift = [random.between(-3_000, 3_000), random.between(-3_000, 3_000)];
+    let moved = |&[x, y]: &[i64; 2]| [a * x + b * y + shift[0], c * x + d * y + shift[1]];
+    let ring = base.iter().map(|p| moved(p).map(|v| v as i32)).collect();
+    let ring = turned_about(random, ring);
+    Job {
+        chain: Ring::new(),
+        size: 1,
+        ring,
+    }
+}
+
 /// Two edges that cross so near an end that the parameter is about 1.0e-9.
 fn grazing(random: &mut Random) -> Ring {
     let far = FARTHEST as i32;
@@ -173,7 +190,7 @@ fn grazing(random: &mut Random) -> Ring {
 /// A rectangle under a bow that is the same on both sides and as high as the
 /// share of the chord allows, or a unit more or less.
 pub fn snap_at_the_share(random: &mut Random, _: usize) -> Job {
-    let k = random.pick(&[2, 10, 100, 8_192, 100_000]) * random.between(5, 8) as i32;
+    let k = random.pick(&[2, 10, 100, 1_000, 8_192]) * random.between(5, 8) as i32;
     let beside = random.pick(&[0, 0, 0, 0, 1, -1]);
     // Falling slopes from the chord's end to the top, in tenths of the chord.
     let half = [[0, 0], [4, 10], [11, 22], [20, 31], [30, 37], [40, 40]];

@@ -13,7 +13,7 @@ use crate::shapes;
 type Kind = fn(&mut Random, usize) -> Job;
 
 /// Every kind with what it is for.
-pub const KINDS: [(&str, Kind, &str); 22] = [
+pub const KINDS: [(&str, Kind, &str); 23] = [
     (
         "trials",
         known::trial,
@@ -36,13 +36,21 @@ pub const KINDS: [(&str, Kind, &str); 22] = [
     ),
     ("scatter", scatter, "points anywhere, most of them crossing"),
     ("little", little, "points of a grid of a few units"),
-    ("chains", marked::chains, "chains in both senses, with zero steps"),
+    (
+        "chains",
+        marked::chains,
+        "chains in both senses, with zero steps",
+    ),
     (
         "far",
         marked::far,
         "snap points at and beyond the share of the chord",
     ),
-    ("retries", marked::retries, "flat rings whose snapped cells fold"),
+    (
+        "retries",
+        marked::retries,
+        "flat rings whose snapped cells fold",
+    ),
     (
         "turned",
         marked::turned,
@@ -60,6 +68,7 @@ pub const KINDS: [(&str, Kind, &str); 22] = [
         exact::rounding,
         "rings near those where rounding decides",
     ),
+    ("flat", exact::flat, "cells that are flat but for rounding"),
     (
         "limits",
         limits,

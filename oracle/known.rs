@@ -1,4 +1,5 @@
-//! Known rings: those for trial, those that tell, and those with a turned part.
+//! Known rings: those for trial, those that tell, those with a turned part or
+//! with a flat cell.
 
 use crate::job::Job;
 use crate::random::Random;
@@ -129,6 +130,19 @@ pub const TURNED: [&[[i64; 2]]; 8] = [
         [4, -5],
         [7, -2],
     ],
+];
+
+/// Small rings in which the mean of the corners lies on the line of an edge or
+/// of two middles: a cell's corner is flat, and rounding gives it its sign.
+pub const FLAT: [&[[i64; 2]]; 8] = [
+    &[[-1, -1], [-5, 0], [-3, -2], [0, -1], [0, 0]],
+    &[[-4, -5], [0, -3], [-2, -2], [-3, -4], [-5, -4]],
+    &[[-4, 2], [-3, 1], [-1, 3], [-3, 3], [-3, 0]],
+    &[[2, -4], [6, 0], [3, -1], [3, -3], [2, -1]],
+    &[[-1, 1], [-3, 1], [-2, 0], [0, 2], [-2, 0]],
+    &[[0, 0], [2, 0], [1, 1], [2, 0], [2, 2]],
+    &[[0, 3], [1, 0], [1, 3], [0, 3], [0, 0]],
+    &[[2, 1], [2, 2], [0, 2], [0, 1], [2, 2]],
 ];
 
 pub fn trial(_: &mut Random, place: usize) -> Job {

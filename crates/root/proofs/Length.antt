@@ -83,8 +83,8 @@ sum-plus (pos a) (negsuc b) = refl
 sum-plus (negsuc a) (pos b) = refl
 sum-plus (negsuc a) (negsuc b) = refl
 
-square-mm-within : (z : ℤ) → minusSign z ≡ false → natAbs z ≤ 2 ^ 49 → Signed false (Plane.mm² z) × Within (2 ^ 24) (Plane.mm² z)
-unfolding Plane.mm² Units.mm²
+square-mm-within : (z : ℤ) → minusSign z ≡ false → natAbs z ≤ 2 ^ 49 → Signed false (Units.mm² z) × Within (2 ^ 24) (Units.mm² z)
+unfolding Units.mm²
 square-mm-within z p h =
     let e = mm²-is z (omega arith) in (
       rw e (subst (λ (s : Bool). Signed s (scaled binary64 z (2 ^ 26))) p (round-signed binary64 (minusSign z) (natAbs z) (2 ^ 26))),
@@ -98,7 +98,7 @@ gridNorm-within v s =
     let y = v .y in
     let h : natAbs (x *ℤ x +ℤ y *ℤ y) ≤ 2 ^ 49 = omega (arith, natAbs-add (x *ℤ x) (y *ℤ y), product x x (s .x) (s .x), product y y (s .y) (s .y)) in
     let w = square-mm-within (x *ℤ x +ℤ y *ℤ y) (sum-plus x y) h in
-    root-within (Plane.mm² (x *ℤ x +ℤ y *ℤ y)) (w .0) (w .1)
+    root-within (Units.mm² (x *ℤ x +ℤ y *ℤ y)) (w .0) (w .1)
 
 pub gridDist-within : (a b : GridPoint) → OnSheet a → OnSheet b → Within (2 ^ 14) (gridDist a b)
 unfolding gridDist Grid.sub

@@ -7,7 +7,7 @@ use Prim.Native.Nat.{ℕ}
 use lib.Dec.{T, eqb, eqb→eq}
 use lib.Ieee.Fits.{and-l, and-r}
 use lib.Ieee.{size, units, ofBits, toBits}
-use Rattle.root.specs.Root.{wholeRoot, nearestRoot, dropped, roundRoot, rootOf, rootBits}
+use Rattle.root.specs.Root.{rootBits, in-root}
 
 pub record Row : Type 0 where
   pub of : ℕ
@@ -63,7 +63,7 @@ hold (r ∷ l) t =
     (eqb→eq (rootBits (r .of)) (r .root) (and-l b (right l) t), hold l (and-r b (right l) t))
 
 tested : T (right rows)
-unfolding right rootBits rootOf roundRoot dropped nearestRoot wholeRoot size units ofBits toBits
+unfolding right in-root size units ofBits toBits
 tested = tt
 
 pub trials : Hold rows

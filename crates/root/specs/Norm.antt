@@ -1,5 +1,6 @@
 -- 01, Root: "norm and dist use it". In mm, over points of two doubles, and over the grid, where the sum under the root is exact.
 use lib.Ieee.{Float}
+use Rattle.laws.specs.Units as Units
 use Rattle.vector.specs.declared.GridPoint.{GridPoint}
 use Rattle.vector.specs.declared.Point.{Point}
 use Rattle.vector.specs.Grid as Grid
@@ -15,7 +16,7 @@ dist a b = norm (Plane.sub a b)
 
 -- the same of grid points, whose differences and squares are whole numbers
 unfoldable pub gridNorm : GridPoint → Float
-gridNorm v = rootOf (Plane.mm² (Grid.dot v v))
+gridNorm v = rootOf (Units.mm² (Grid.dot v v))
 
 unfoldable pub gridDist : GridPoint → GridPoint → Float
 gridDist a b = gridNorm (Grid.sub a b)

@@ -47,3 +47,8 @@ rootOf (fin false (suc m) e) = roundRoot (suc m * up e * 4 ^ low binary64 / down
 -- The root over bit patterns. For a NaN `toBits` writes 7FF8000000000000 (for every such pattern: `nan-bits` of proofs/Cases.antt).
 unfoldable pub rootBits : ℕ → ℕ
 rootBits b = toBits binary64 (rootOf (ofBits binary64 b))
+
+-- One name for an `unfolding` line: with it, and with the doubles' own operations, roots compute.
+unfoldable pub in-root : Unit {0}
+unfolding wholeRoot nearestRoot dropped roundRoot rootOf rootBits
+in-root = tt

@@ -4,7 +4,7 @@ use native.Mathlib.Omega.{arith}
 use borrow.Author.Needs.{needs}
 use lib.Dec.{lit<}
 use Rattle.laws.proofs.Signed.{back, small64}
-use Rattle.vector.specs.Plane.{mm²}
+use Rattle.laws.specs.Units.{mm²}
 use Rattle.root.specs.Root.{rootOf}
 use Rattle.root.specs.Norm as Norm
 use Rattle.root.proofs.grid_norm.Statement.{statement}

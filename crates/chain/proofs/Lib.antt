@@ -1,0 +1,5 @@
+-- What is proved of a chain: its lengths, and its snap points; and the laws of the loops over it.
+pub mod Lengths
+pub mod Snaps
+pub mod Walk
+mod Collect

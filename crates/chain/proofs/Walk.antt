@@ -1,0 +1,94 @@
+-- A chain kept in the first n places of an array, as the code reads it: one length more, the search for a length, whether
+-- a point stays. Assumes nothing.
+use Prim.Native.Nat.{ℕ, zero, suc, _+_, _-_, _%_, _≤_, _<_}
+use native.Mathlib.Nat.{mod-eq-of-lt}
+use native.Mathlib.Numerals.{add-one}
+use native.Mathlib.Omega.{arith}
+use mathlib.Core.Path.{_≡_, refl, sym, ap, _∙_}
+use mathlib.Core.Bool.{Bool, true, false, _||_, cond}
+use mathlib.Core.List.{List}
+use lib.ListN.{length, getD, take}
+use lib.Seq.{length-take-le, getD-take}
+use lib.Dec.{leb, eqb}
+use lib.Ieee.{Float, nan}
+use borrow.Author.Tests.{eqb-true, eqb-false, le-leb, lt-leb}
+use Rattle.laws.specs.Double.{nat, lit, clamp, _+f_, _-f_, _/f_, _<f_, _≤f_}
+use Rattle.laws.specs.Bounded.{first}
+use Rattle.laws.specs.Table.{tab}
+use Rattle.laws.proofs.Table.{getD-tab}
+use Rattle.vector.specs.declared.GridPoint.{GridPoint}
+use Rattle.vector.specs.declared.Point.{Point}
+use Rattle.vector.specs.Grid.{origin, sub, same}
+use Rattle.vector.specs.Plane.{inMm, lerp}
+use Rattle.root.specs.Norm.{gridDist}
+use Rattle.chain.specs.Cosine.{cosine}
+use Rattle.chain.specs.Chain as Chain
+use Rattle.chain.specs.Chain.{pointAt}
+
+-- ---- reading
+-- an array whose first n places are a table
+pub read-tab {ℓ} : {A : Type ℓ} (l : List A) (f : ℕ → A) (n i : ℕ) (d : A) → take n l ≡ tab f n → i < n → getD l i d ≡ f i
+read-tab l f n i d e h = sym (getD-take n l i d h) ∙ ap (λ (m : List _). getD m i d) e ∙ getD-tab f n i d h
+
+pub first-ext : (p q : ℕ → Bool) (d i : ℕ) → ((k : ℕ) → i ≤ k → k < i + d → p k ≡ q k) → first p d i ≡ first q d i
+unfolding first
+first-ext p q zero i h = refl
+first-ext p q (suc d) i h =
+    let a = h i (omega arith) (omega arith) in
+    let b = first-ext p q d (suc i) (λ k l m. h k (omega arith) (omega arith)) in
+    λ j. cond (a j) i (b j)
+
+-- ---- lengths
+module _ (ps : List GridPoint) (n : ℕ) where
+  pub arc-more : (i : ℕ) → 0 < i → i < n → (x d : Float) → x ≡ Chain.arc (take n ps) (i - 1) → d ≡ gridDist (getD ps (i - 1) origin) (getD ps i origin) → x +f d ≡ Chain.arc (take n ps) i
+  unfolding Chain.arc
+  arc-more i p l x d ex ed =
+      let f : suc (i - 1) ≡ i = omega arith in
+      let a = sym (getD-take n ps (i - 1) origin (omega arith)) in
+      let b = sym (getD-take n ps i origin l) ∙ ap (pointAt (take n ps)) (sym f) in
+      let g : d ≡ gridDist (pointAt (take n ps) (i - 1)) (pointAt (take n ps) (suc (i - 1))) = ed ∙ (λ j. gridDist (a j) (b j)) in
+      (λ j. ex j +f g j) ∙ ap (Chain.arc (take n ps)) f
+
+-- the point at a length, on the step from a, at the length low, to b, at the length high
+abbrev pub onStep : GridPoint → Float → GridPoint → Float → Float → Point
+onStep a low b high s =
+    cond (high -f low ≤f nat 0) (inMm b) (lerp (inMm a) (inMm b) (clamp (nat 0) (nat 1) ((s -f low) /f (high -f low))))
+
+module _ (ps : List GridPoint) (arc : List Float) (n : ℕ) (h : n ≤ length ps) (m : 2 ≤ n) (e : take n arc ≡ tab (Chain.arc (take n ps)) n) (s : Float) where
+  pub at-length : (i : ℕ) → i ≤ n - 2 → i ≡ first (λ i. s ≤f getD arc (suc i) nan) (n - 2) 0 → (r : Point) → r ≡ onStep (getD ps i origin) (getD arc i nan) (getD ps (i + 1) origin) (getD arc (i + 1) nan) s → r ≡ Chain.pointAtArclength (take n ps) s
+  unfolding Chain.pointAtArclength
+  at-length i l ei r er =
+      let c = take n ps in
+      let a = sym (getD-take n ps i origin (omega arith)) in
+      let b = sym (getD-take n ps (i + 1) origin (omega arith)) ∙ ap (pointAt c) (add-one i) in
+      let u = read-tab arc (Chain.arc c) n i nan e (omega arith) in
+      let v = read-tab arc (Chain.arc c) n (i + 1) nan e (omega arith) ∙ ap (Chain.arc c) (add-one i) in
+      let g : i ≡ first (λ i. s ≤f Chain.arc c (suc i)) (length c - 2) 0 =
+      ei ∙ first-ext (λ i. s ≤f getD arc (suc i) nan) (λ i. s ≤f Chain.arc c (suc i)) (n - 2) 0 (λ k x y. ap (λ (z : Float). s ≤f z) (read-tab arc (Chain.arc c) n (suc k) nan e (omega arith))) ∙ ap (λ (k : ℕ). first (λ i. s ≤f Chain.arc c (suc i)) (k - 2) 0) (sym (length-take-le n ps h)) in
+      er ∙ (λ j. onStep (a j) (u j) (b j) (v j) s) ∙ ap (λ (k : ℕ). onStep (pointAt c k) (Chain.arc c k) (pointAt c (suc k)) (Chain.arc c (suc k)) s) g
+
+-- ---- whether a point stays
+-- but for the last, by its two steps
+abbrev pub turned : GridPoint → GridPoint → GridPoint → Bool → Bool
+turned a b c last =
+    last || same (sub b a) origin || same (sub c b) origin || (cosine (sub b a) (sub c b) <f lit 9063077870366499 16)
+
+module _ (ps : List GridPoint) (n : ℕ) (h : n ≤ length ps) (i : ℕ) (p : 0 < i) (l : i < n) where
+  at-turn : (j : ℕ) → j ≡ (i + 1) % n → (t : Bool) → eqb (i + 1) n ≡ t → turned (getD ps (i - 1) origin) (getD ps i origin) (getD ps j origin) t ≡ Chain.stays (take n ps) (i - 1)
+  unfolding Chain.stays
+  at-turn j ej true k =
+      let z = eqb-true (i + 1) n k in
+      let q : leb (length (take n ps)) (suc (suc (i - 1))) ≡ true = rw (length-take-le n ps h) (le-leb n (suc (suc (i - 1))) (omega arith)) in
+      sym (rw q)
+  at-turn j ej false k =
+      let z : i + 1 < n = let y = eqb-false (i + 1) n k in omega arith in
+      let q : leb (length (take n ps)) (suc (suc (i - 1))) ≡ false = rw (length-take-le n ps h) (lt-leb n (suc (suc (i - 1))) (omega arith)) in
+      let f : i ≡ suc (i - 1) = omega arith in
+      let g : i + 1 ≡ suc (suc (i - 1)) = omega arith in
+      let a = sym (getD-take n ps (i - 1) origin (omega arith)) in
+      let b = sym (getD-take n ps i origin l) ∙ ap (pointAt (take n ps)) f in
+      let c = ap (λ (k : ℕ). getD ps k origin) (ej ∙ mod-eq-of-lt z) ∙ sym (getD-take n ps (i + 1) origin z) ∙ ap (pointAt (take n ps)) g in
+      (λ k. turned (a k) (b k) (c k) (sym q k))
+
+  pub stays-in : (j : ℕ) → j ≡ (i + 1) % n → (r : Bool) → r ≡ turned (getD ps (i - 1) origin) (getD ps i origin) (getD ps j origin) (eqb (i + 1) n) → r ≡ Chain.stays (take n ps) (i - 1)
+  stays-in j ej r er = er ∙ at-turn j ej (eqb (i + 1) n) refl

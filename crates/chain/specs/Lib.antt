@@ -1,0 +1,5 @@
+-- The cosine of two steps, what simplify_chain makes of a drawn boundary run, and what is claimed of its snap points.
+pub mod Cosine
+pub mod Chain
+pub mod Kept
+pub mod Range

@@ -1,0 +1,160 @@
+// The chain: the drawn boundary run is reduced to its corners, and each stretch kept has one snap point.
+//
+// It stands before the marks, which lay the kept stretches along the edges of the cleaned ring; its cosine also judges
+// the diagonals of the split. A chain is the first n places of an array of grid points; its lengths are in mm.
+
+ghost use mathlib.Core.Path.{_≡_};
+ghost use mathlib.Core.Bool.{_||_, cond};
+ghost use Prim.Native.Nat.{suc, _-_, _≤_, _<_};
+ghost use lib.ListN.{take, getD};
+ghost use lib.Ieee.{nan};
+ghost use Rattle.laws.specs.Double.{nat, lit, _-f_, _/f_, _<f_, _≤f_};
+ghost use Rattle.laws.specs.Double as Double;
+ghost use Rattle.laws.specs.Bounded.{first};
+ghost use Rattle.laws.specs.Table.{tab};
+ghost use Rattle.vector.specs.Grid as Grid;
+ghost use Rattle.vector.specs.Plane.{inMm, lerp};
+ghost use Rattle.vector.specs.Size.{OnSheet, Step, AllOnSheet};
+ghost use Rattle.root.specs.Norm as Norm;
+ghost use Rattle.chain.specs.Cosine as Cosine;
+ghost use Rattle.chain.specs.Chain as Chain;
+ghost use Rattle.chain.specs.Kept.{Simplifies};
+use vector::GridPoint;
+use vector::Point;
+
+// A simplified chain: the points kept, in the places 0 to count, and in the places below count the snap point of the
+// stretch from each to the next.
+pub struct Simplified {
+    pub points: [GridPoint; 60],
+    pub snaps: [Point; 60],
+    pub count: usize,
+}
+
+// x held to [lo, hi].
+fn clamp(x: f64, lo: f64, hi: f64) -> f64
+    ensures { λ r. ⌜ r ≡ Double.clamp lo hi x ⌝ }
+{
+    if x < lo {
+        return lo;
+    }
+    if hi < x {
+        return hi;
+    }
+    x
+}
+
+// The cosine of two steps. Their norms come in, so that a caller that compares one step with several computes its norm
+// once.
+pub fn cosine(a: GridPoint, na: f64, b: GridPoint, nb: f64) -> f64
+    requires { ⌜ Step a × Step b × (na ≡ Norm.gridNorm a) × (nb ≡ Norm.gridNorm b) ⌝ }
+    ensures { λ r. ⌜ r ≡ Cosine.cosine a b ⌝ }
+{
+    if a.is_zero() {
+        return 1.0;
+    }
+    if b.is_zero() {
+        return 1.0;
+    }
+    clamp(vector::square_mm(a.dot(b)) / (na * nb), -1.0, 1.0)
+}
+
+// The length of the chain up to each of its points.
+fn arcs(chain: [GridPoint; 60], n: usize) -> [f64; 60]
+    requires { ⌜ (1 ≤ n) × (n ≤ 60) × AllOnSheet chain ⌝ }
+    ensures { λ r. ⌜ take n r ≡ tab (Chain.arc (take n chain)) n ⌝ }
+{
+    let mut arc = [0.0; 60];
+    for i in 1..n {
+        arc[i] = arc[i - 1] + root::grid_dist(chain[i - 1], chain[i]);
+    }
+    arc
+}
+
+// The first step of the chain that ends at the length s or beyond it, or the last step.
+fn step_at(arc: [f64; 60], n: usize, s: f64) -> usize
+    requires { ⌜ (2 ≤ n) × (n ≤ 60) ⌝ }
+    ensures { λ r. ⌜ (r ≡ first (λ i. s ≤f getD arc (suc i) nan) (n - 2) 0) × (r ≤ n - 2) ⌝ }
+{
+    for i in 0..n - 2 {
+        if s <= arc[i + 1] {
+            return i;
+        }
+    }
+    n - 2
+}
+
+// The point at the length s on the step from a, at the length low, to b, at the length high.
+fn between(a: GridPoint, low: f64, b: GridPoint, high: f64, s: f64) -> Point
+    ensures { λ r. ⌜ r ≡ cond (high -f low ≤f nat 0) (inMm b) (lerp (inMm a) (inMm b) (Double.clamp (nat 0) (nat 1) ((s -f low) /f (high -f low)))) ⌝ }
+{
+    let span = high - low;
+    if span <= 0.0 {
+        return Point::new(b);
+    }
+    let t = clamp((s - low) / span, 0.0, 1.0);
+    Point::new(a).lerp(Point::new(b), t)
+}
+
+// The point of the chain at the length s.
+pub fn point_at_arclength(chain: [GridPoint; 60], arc: [f64; 60], n: usize, s: f64) -> Point
+    requires { ⌜ (2 ≤ n) × (n ≤ 60) × (take n arc ≡ tab (Chain.arc (take n chain)) n) ⌝ }
+    ensures { λ r. ⌜ r ≡ Chain.pointAtArclength (take n chain) s ⌝ }
+{
+    let i = step_at(arc, n, s);
+    between(chain[i], arc[i], chain[i + 1], arc[i + 1], s)
+}
+
+// Whether the chain point b stays, between a and c: it is the last, touches a step of no length, or turns by more than
+// 25 degrees.
+fn stays(a: GridPoint, b: GridPoint, c: GridPoint, last: bool) -> bool
+    requires { ⌜ OnSheet a × OnSheet b × OnSheet c ⌝ }
+    ensures { λ r. ⌜ r ≡ (last || Grid.same (Grid.sub b a) Grid.origin || Grid.same (Grid.sub c b) Grid.origin || (Cosine.cosine (Grid.sub b a) (Grid.sub c b) <f lit 9063077870366499 16)) ⌝ }
+{
+    let u = b.sub(a);
+    let v = c.sub(b);
+    if last {
+        return true;
+    }
+    if u.is_zero() {
+        return true;
+    }
+    if v.is_zero() {
+        return true;
+    }
+    cosine(u, root::grid_norm(u), v, root::grid_norm(v)) < 0.9063077870366499
+}
+
+// The points of the chain that stay, and the snap point of each stretch between them, at half its length.
+pub fn simplify_chain(chain: [GridPoint; 60], n: usize) -> Simplified
+    requires { ⌜ (n ≤ 60) × AllOnSheet chain ⌝ }
+    ensures { λ r. ⌜ Simplifies (take n chain) r ⌝ }
+{
+    let mut points = [GridPoint::ORIGIN; 60];
+    let mut snaps = [Point::ORIGIN; 60];
+    let mut count = 0;
+    if n == 0 {
+        return Simplified {
+            points: points,
+            snaps: snaps,
+            count: count,
+        };
+    }
+    let arc = arcs(chain, n);
+    points[0] = chain[0];
+    let mut previous = 0;
+    for i in 1..n {
+        let after = vector::next(i, n); // not looked at where i is the last
+        if stays(chain[i - 1], chain[i], chain[after], i + 1 == n) {
+            let half = 0.5 * (arc[previous] + arc[i]);
+            snaps[count] = point_at_arclength(chain, arc, n, half);
+            count += 1;
+            points[count] = chain[i];
+            previous = i;
+        }
+    }
+    Simplified {
+        points: points,
+        snaps: snaps,
+        count: count,
+    }
+}

@@ -1,0 +1,133 @@
+// Corner: how wide a corner is, which corner of a part is the worst, and the limits that decide what is cut.
+//
+// It stands between the points (vector) and the split, which cuts each part at its worst corner while that is bad. The
+// measure of a corner rises with its inner angle, without a trigonometric function: 1 at 90 degrees, 2 at 180, 3 at 270.
+
+ghost use mathlib.Core.Path.{_≡_};
+ghost use Prim.Native.Nat.{_^_, _≤_, _<_};
+ghost use lib.IntN.{natAbs};
+ghost use lib.ListN.{take};
+ghost use Rattle.laws.specs.Double.{nat};
+ghost use Rattle.vector.specs.Grid as Grid;
+ghost use Rattle.vector.specs.Size.{OnSheet, Step, AllOnSheet};
+ghost use Rattle.corner.specs.Limits.{delivered};
+ghost use Rattle.corner.specs.Corner as Corners;
+use vector::GridPoint;
+
+// The limits of the divider, held together as one set of values.
+pub struct Limits {
+    // the most cuts
+    pub cuts: usize,
+    // a corner is bad if its measure is above this
+    pub corner: f64,
+    // a diagonal's two cosines lie between these
+    pub least: f64,
+    pub greatest: f64,
+    // a snap point is too far if its distance from the middle is above this share of the chord
+    pub share: f64,
+}
+
+// A corner of a part: its place and its measure.
+pub struct Corner {
+    pub at: usize,
+    pub measure: f64,
+}
+
+impl Limits {
+    pub const DELIVERED: Limits = Limits {
+        cuts: 32,
+        corner: Corner::BAD,
+        least: -0.9396926207859084,
+        greatest: 0.9781476007338057,
+        share: 0.4,
+    };
+
+    // The limits of the delivered divider.
+    pub fn new() -> Limits
+        ensures { λ r. ⌜ r ≡ delivered ⌝ }
+    {
+        Limits::DELIVERED
+    }
+}
+
+impl Corner {
+    // The tangent of 20 degrees, by which a corner of 160 degrees falls short of straight.
+    const TANGENT: f64 = 0.36397023426620236;
+
+    pub const BAD: f64 = 2.0 - Corner::TANGENT / (1.0 + Corner::TANGENT);
+
+    pub const STRAIGHT: f64 = 2.0;
+
+    const FULL: f64 = 4.0;
+
+    pub fn is_bad(self, limits: Limits) -> bool
+        ensures { λ r. ⌜ r ≡ Corners.bad limits (self .measure) ⌝ }
+    {
+        limits.corner < self.measure
+    }
+}
+
+fn size(z: i64) -> f64
+    requires { ⌜ natAbs z ≤ 2 ^ 49 ⌝ }
+    ensures { λ r. ⌜ r ≡ nat (natAbs z) ⌝ }
+{
+    vector::magnitude(z) as f64
+}
+
+fn quotient(s: i64, c: i64) -> f64
+    requires { ⌜ (natAbs s ≤ 2 ^ 49) × (natAbs c ≤ 2 ^ 49) ⌝ }
+    ensures { λ r. ⌜ r ≡ Corners.quotient s c ⌝ }
+{
+    vector::to_double(s) / (size(s) + size(c))
+}
+
+// The measure of the corner between the step u into it and the step v out of it.
+pub fn measure(u: GridPoint, v: GridPoint) -> f64
+    requires { ⌜ Step u × Step v ⌝ }
+    ensures { λ r. ⌜ r ≡ Corners.measure u v ⌝ }
+{
+    if u.is_zero() {
+        return Corner::STRAIGHT;
+    }
+    if v.is_zero() {
+        return Corner::STRAIGHT;
+    }
+    let s = u.cross(v);
+    let c = u.dot(v);
+    let q = quotient(s, c);
+    if vector::non_neg(c) {
+        return Corner::STRAIGHT - q;
+    }
+    if vector::non_neg(s) {
+        return q;
+    }
+    Corner::FULL + q
+}
+
+// The measure of the corner at b, between a and c.
+pub fn corner_at(a: GridPoint, b: GridPoint, c: GridPoint) -> f64
+    requires { ⌜ OnSheet a × OnSheet b × OnSheet c ⌝ }
+    ensures { λ r. ⌜ r ≡ Corners.measure (Grid.sub b a) (Grid.sub c b) ⌝ }
+{
+    measure(b.sub(a), c.sub(b))
+}
+
+// The worst corner of the part of the first n points: of equal ones the last.
+pub fn worst(ps: [GridPoint; 60], n: usize) -> Corner
+    requires { ⌜ (1 ≤ n) × (n ≤ 60) × AllOnSheet ps ⌝ }
+    ensures { λ r. ⌜ (r .at ≡ Corners.worst (take n ps)) × (r .measure ≡ Corners.measureAt (take n ps) (r .at)) × (r .at < n) ⌝ }
+{
+    let mut at = 0;
+    let mut most = corner_at(ps[n - 1], ps[0], ps[vector::next(0, n)]);
+    for i in 1..n {
+        let m = corner_at(ps[i - 1], ps[i], ps[vector::next(i, n)]);
+        if most <= m {
+            most = m;
+            at = i;
+        }
+    }
+    Corner {
+        at: at,
+        measure: most,
+    }
+}

@@ -1,0 +1,3 @@
+-- Laws for the code of this crate.
+pub mod Crossing
+pub mod Pairs

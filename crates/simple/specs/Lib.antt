@@ -1,0 +1,2 @@
+-- When two segments cross, when a ring is simple, and when a point is inside one.
+pub mod Simple

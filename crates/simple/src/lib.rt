@@ -1,0 +1,116 @@
+// Simple: whether a cleaned ring crosses itself, which the divider refuses with 6; and the two tests that a diagonal has to
+// pass later, the crossing of two segments and a point inside a ring.
+
+ghost use mathlib.Core.Path.{_≡_};
+ghost use mathlib.Core.Bool.{not, _&&_};
+ghost use Prim.Native.Nat.{_^_, _≤_};
+ghost use lib.IntN.{natAbs, pos};
+ghost use lib.ListN.{take};
+ghost use Rattle.laws.specs.Integer.{eqZ};
+ghost use Rattle.vector.specs.Size.{OnSheet, AllOnSheet};
+ghost use Rattle.simple.specs.Simple as Simple;
+use vector::GridPoint;
+use vector::Point;
+
+// t lies strictly between 1.0e-9 and 1.0 - 1.0e-9: an end that only touches does not count.
+fn interior(t: f64) -> bool
+    ensures { λ r. ⌜ r ≡ Simple.interior t ⌝ }
+{
+    if 1.0e-9 < t {
+        return t < 1.0 - 1.0e-9;
+    }
+    false
+}
+
+fn ratio(num: i64, den: i64) -> f64
+    requires { ⌜ (natAbs num ≤ 2 ^ 49) × (natAbs den ≤ 2 ^ 49) ⌝ }
+    ensures { λ r. ⌜ r ≡ Simple.ratio num den ⌝ }
+{
+    vector::to_double(num) / vector::to_double(den)
+}
+
+fn is_zero(z: i64) -> bool
+    ensures { λ r. ⌜ r ≡ eqZ z (pos 0) ⌝ }
+{
+    z == 0
+}
+
+// Whether the segments from a to b and from c to d cross. Whole numbers decide whether they are parallel, doubles where they meet.
+pub fn segments_cross(a: GridPoint, b: GridPoint, c: GridPoint, d: GridPoint) -> bool
+    requires { ⌜ OnSheet a × OnSheet b × OnSheet c × OnSheet d ⌝ }
+    ensures { λ r. ⌜ r ≡ Simple.segmentsCross a b c d ⌝ }
+{
+    let d1 = b.sub(a);
+    let d2 = d.sub(c);
+    let ac = c.sub(a);
+    let den = d1.cross(d2);
+    if is_zero(den) {
+        return false;
+    }
+    if interior(ratio(ac.cross(d2), den)) {
+        return interior(ratio(ac.cross(d1), den));
+    }
+    false
+}
+
+// Two edges that share an end do not cross.
+fn edges_cross(a: GridPoint, b: GridPoint, c: GridPoint, d: GridPoint, joined: bool) -> bool
+    requires { ⌜ OnSheet a × OnSheet b × OnSheet c × OnSheet d ⌝ }
+    ensures { λ r. ⌜ r ≡ (not joined && Simple.segmentsCross a b c d) ⌝ }
+{
+    if joined {
+        return false;
+    }
+    segments_cross(a, b, c, d)
+}
+
+// Whether no edge of the ring of the first n points crosses another. The scan over pairs of edges ends at the first crossing;
+// the edge after i is left out by where the inner loop starts, the edge before the first by its end.
+pub fn polygon_simple(ps: [GridPoint; 60], n: usize) -> bool
+    requires { ⌜ (n ≤ 60) × AllOnSheet ps ⌝ }
+    ensures { λ r. ⌜ r ≡ Simple.polygonSimple (take n ps) ⌝ }
+{
+    if n < 3 {
+        return false;
+    }
+    let mut found = false;
+    'scan: for i in 0..n {
+        let a = ps[i];
+        let b = ps[vector::next(i, n)];
+        for j in i + 2..n {
+            let k = vector::next(j, n);
+            if edges_cross(a, b, ps[j], ps[k], k == i) {
+                found = true;
+                break 'scan;
+            }
+        }
+    }
+    !found
+}
+
+// The ray from p to the right meets the edge from a to b.
+fn ray_meets(a: Point, b: Point, p: Point) -> bool
+    ensures { λ r. ⌜ r ≡ Simple.rayMeets a b p ⌝ }
+{
+    if (p.y < a.y) == (p.y < b.y) {
+        return false;
+    }
+    let t = (p.y - a.y) / (b.y - a.y);
+    p.x < a.x + t * (b.x - a.x)
+}
+
+// Whether p is inside the ring of the first n points: its ray meets an odd number of edges.
+pub fn point_in_polygon(ps: [GridPoint; 60], n: usize, p: Point) -> bool
+    requires { ⌜ (3 ≤ n) × (n ≤ 60) ⌝ }
+    ensures { λ r. ⌜ r ≡ Simple.pointInPolygon (take n ps) p ⌝ }
+{
+    let mut inside = false;
+    for i in 0..n {
+        let a = Point::new(ps[i]);
+        let b = Point::new(ps[vector::next(i, n)]);
+        if ray_meets(a, b, p) {
+            inside = !inside;
+        }
+    }
+    inside
+}

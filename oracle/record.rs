@@ -1,0 +1,215 @@
+//! The fixed lists that the program `replay` runs: calls and blocks with what
+//! the Rust answers, as 32-bit words.
+//!
+//! record rings NUMBER.. < BLOCKS   these rings, or all, each on an empty list
+//! record calls < CALLS             calls over prefilled lists
+//! record blocks FILE..             every block of these files, up to the first refusal
+//!
+//! 1 PLACES USED, then for each used node (PLACES at most) four words: x, y
+//! 2 SIZE CELL_NUMBERS CELL_COUNT RING_NUMBERS CHAIN_NUMBERS, the coordinates,
+//!   code corners k marked cuts pieces, turned and area (two words each),
+//!   nodes cells, the count of new node numbers and two words for each,
+//!   the first cell number that is written, how many, and a word for each
+//! 3 NUMBER LENGTH, a word for each byte, code, and if it is 0 kind, count,
+//!   size and the 120 coordinates
+
+#[allow(dead_code)]
+mod blocks;
+#[allow(dead_code)]
+mod call;
+mod calls;
+#[allow(dead_code)]
+mod forms;
+#[allow(dead_code)]
+mod job;
+#[allow(dead_code)]
+mod notes;
+#[path = "../target/oracle/stage.rs"]
+#[allow(dead_code)]
+mod stage;
+mod standin;
+
+use blocks::Jobs;
+use call::{NodeList, UNTOUCHED};
+use forms::{run, Run, CELL_PLACES, NODE_PLACES};
+use job::{Job, BLOCK};
+use std::io::{Read, Write};
+
+/// Numbers of a ring or chain, and places of the lists, that `replay` holds.
+const MOST_NUMBERS: usize = 256;
+const MOST_CELLS: usize = 512;
+
+#[derive(Default)]
+struct Words(Vec<u8>);
+
+impl Words {
+    fn put(&mut self, word: u32) {
+        self.0.extend(word.to_le_bytes());
+    }
+
+    fn count(&mut self, count: usize) {
+        self.put(u32::try_from(count).expect("a count of 32 bits"));
+    }
+
+    fn long(&mut self, long: u64) {
+        self.put(long as u32);
+        self.put((long >> 32) as u32);
+    }
+
+    fn list(&mut self, places: usize, used: usize, nodes: &[[f64; 2]]) {
+        self.put(1);
+        self.count(places);
+        self.count(used);
+        for x in nodes.iter().flatten() {
+            self.long(x.to_bits());
+        }
+    }
+
+    fn call(&mut self, job: &Job, run: &Run, list: &NodeList) {
+        self.put(2);
+        self.put(job.size);
+        self.count(run.cells.len() * 4);
+        self.count(run.cells_before);
+        self.count(job.ring.len() * 2);
+        self.count(job.chain.len() * 2);
+        for x in job.ring.iter().chain(&job.chain).flatten() {
+            self.put(*x as u32);
+        }
+        let a = &run.answer;
+        let corners = a.n.max(a.corners);
+        for value in [a.code.into(), corners, a.k, a.marked, a.cuts, a.pieces] {
+            self.count(value);
+        }
+        self.long(a.turned as u64);
+        self.long(a.area as u64);
+        self.count(a.nodes);
+        self.count(a.cells);
+        let new: &[[f64; 2]] = if a.nodes > run.nodes_before {
+            &list.nodes.points[run.nodes_before..a.nodes]
+        } else {
+            &[]
+        };
+        self.count(new.len() * 2);
+        for x in new.iter().flatten() {
+            self.long(x.to_bits());
+        }
+        let written = |cell: &[u16; 4]| *cell != UNTOUCHED;
+        let first = run.cells.iter().position(written).unwrap_or(0);
+        let end = run.cells.iter().rposition(written).map_or(0, |k| k + 1);
+        self.count(first * 4);
+        self.count((end - first) * 4);
+        for number in run.cells[first..end].iter().flatten() {
+            self.put((*number).into());
+        }
+    }
+
+    fn block(&mut self, number: usize, bytes: &[u8], code: u8) {
+        self.put(3);
+        self.count(number);
+        self.count(bytes.len());
+        for byte in bytes {
+            self.put((*byte).into());
+        }
+        self.put(code.into());
+    }
+
+    fn points(&mut self, kind: u32, points: &[[i32; 2]], size: u32) {
+        self.put(kind);
+        self.count(points.len());
+        self.put(size);
+        let numbers: Vec<i32> = points.iter().flatten().copied().collect();
+        for k in 0..120 {
+            self.put(numbers.get(k).copied().unwrap_or(0) as u32);
+        }
+    }
+}
+
+fn held(job: &Job) -> bool {
+    job.ring.len() * 2 <= MOST_NUMBERS && job.chain.len() * 2 <= MOST_NUMBERS
+}
+
+fn rings(bytes: &[u8], chosen: &[usize]) -> Words {
+    let mut words = Words::default();
+    for (number, job) in Jobs::new(bytes).flatten().enumerate() {
+        if !held(&job) || !(chosen.is_empty() || chosen.contains(&number)) {
+            continue;
+        }
+        let mut list = NodeList::empty(NODE_PLACES);
+        words.list(NODE_PLACES, 0, &[]);
+        let ran = run(&job, &mut list, CELL_PLACES, 0);
+        words.call(&job, &ran, &list);
+    }
+    words
+}
+
+fn lists(text: &str) -> Words {
+    let mut words = Words::default();
+    for given in calls::read(text) {
+        let small = |c: &job::Call| held(&c.job) && c.cell_places <= MOST_CELLS;
+        if given.places > NODE_PLACES || !given.calls.iter().all(small) {
+            continue;
+        }
+        let mut list = NodeList::holding(given.places, given.used, &given.nodes);
+        words.list(given.places, given.used, &given.nodes);
+        for call in &given.calls {
+            let ran = run(&call.job, &mut list, call.cell_places, call.cell_count);
+            words.call(&call.job, &ran, &list);
+        }
+    }
+    words
+}
+
+/// The blocks of a file with what the reader must answer of each.
+fn file(words: &mut Words, bytes: &[u8]) {
+    let part = |number: usize| &bytes[number * BLOCK..bytes.len().min((number + 1) * BLOCK)];
+    let mut number = 0;
+    for job in Jobs::new(bytes) {
+        match job {
+            Ok(job) => {
+                words.block(number, part(number), 0);
+                words.points(1, &job.ring, job.size);
+                words.block(number + 1, part(number + 1), 0);
+                words.points(2, &job.chain, 0);
+                number += 2;
+            }
+            Err(refused) => {
+                if refused.block > number {
+                    // The ring of a refused chain; what it holds shows in other files.
+                    number += 1;
+                }
+                words.block(number, part(number), refused.code);
+            }
+        }
+    }
+}
+
+fn main() {
+    let arguments: Vec<String> = std::env::args().skip(1).collect();
+    let mut words = Words::default();
+    let mut input = Vec::new();
+    let mut standard = || {
+        let read = std::io::stdin().read_to_end(&mut input);
+        read.expect("standard input can be read");
+        input.clone()
+    };
+    match arguments.first().map(String::as_str) {
+        Some("rings") => {
+            let number = |word: &String| word.parse().expect("a ring's number");
+            let chosen: Vec<usize> = arguments[1..].iter().map(number).collect();
+            words = rings(&standard(), &chosen);
+        }
+        Some("calls") => words = lists(&String::from_utf8(standard()).expect("calls are text")),
+        Some("blocks") => {
+            for path in &arguments[1..] {
+                file(&mut words, &std::fs::read(path).expect("a file of blocks"));
+            }
+        }
+        _ => {
+            eprintln!("use: record rings [NUMBER..]|calls < INPUT | record blocks FILE..");
+            std::process::exit(2)
+        }
+    }
+    if std::io::stdout().write_all(&words.0).is_err() {
+        std::process::exit(1)
+    }
+}
