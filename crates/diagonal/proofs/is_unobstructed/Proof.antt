@@ -1,0 +1,73 @@
+-- `is_unobstructed` meets its contract: the midpoint is inside, and no edge is crossed. Assumes nothing.
+use Prim.Native.Nat.{_≤_}
+use mathlib.Core.Path.{_≡_, sym, _∙_}
+use lib.ListN.{length, getD}
+use lib.Ieee.{ofBits, round}
+use Rattle.laws.specs.Double.{lit}
+use Rattle.vector.specs.Grid.{origin}
+use Rattle.vector.specs.Plane.{inMm, lerp}
+use Rattle.diagonal.proofs.Blocking as blocking
+use native.Mathlib.Omega.{arith}
+use borrow.Author.Needs.{needs}
+use Rattle.diagonal.proofs.is_unobstructed.Statement.{statement}
+use Rattle.diagonal.proofs.is_unobstructed.Tie as tie
+
+array-copy-out-new : tie.Need-array-copy-out-new
+array-copy-out-new c = search needs
+
+new-requires : tie.Need-new-requires
+new-requires c κs = search needs
+
+mul-new : tie.Need-mul-new
+mul-new c = search needs
+
+array-copy-out-new-2 : tie.Need-array-copy-out-new-2
+array-copy-out-new-2 c = search needs
+
+new-requires-2 : tie.Need-new-requires-2
+new-requires-2 c κs = search needs
+
+lerp-requires : tie.Need-lerp-requires
+lerp-requires c κs = search needs
+
+point-in-polygon-requires : tie.Need-point-in-polygon-requires
+point-in-polygon-requires c κs = search needs
+
+blocked-requires : tie.Need-blocked-requires
+blocked-requires c κs = search needs
+
+middle : (c : tie.After-lerp) → let s = c .before .before .before .before .before .args in c .lerp .result ≡ lerp (inMm (getD (s .t1) 0 origin)) (inMm (getD (s .t1) (s .k) origin)) (lit 5 1)
+unfolding lit ofBits round
+middle c =
+    let x = c .before .before .before .new .ensures in
+    let y = c .before .new2 .ensures in
+    c .lerp .ensures ∙ (λ i. lerp (x i) (y i) (lit 5 1))
+
+returns : tie.Need-returns
+returns c =
+    let m = c .before .before .before in
+    let s = m .before .before .before .before .before in
+    let h : s .args .n ≤ length (s .args .t1) = omega (arith, s .good .0 .1 .0 .1) in
+    blocking.inside (s .args .t1) (s .args .n) h (omega arith) (s .args .k) (omega arith) (m .lerp .result) (middle m) (sym (c .before .before .point-in-polygon .ensures) ∙ c .before .if1 .taken) _ (c .blocked .ensures)
+
+returns-2 : tie.Need-returns-2
+returns-2 c =
+    let m = c .before .before in
+    let s = m .before .before .before .before .before in
+    let h : s .args .n ≤ length (s .args .t1) = omega (arith, s .good .0 .1 .0 .1) in
+    blocking.outside (s .args .t1) (s .args .n) h (omega arith) (s .args .k) (omega arith) (m .lerp .result) (middle m) (sym (c .before .point-in-polygon .ensures) ∙ c .if1 .left)
+
+pub is-unobstructed-spec : {M : Type 1} → statement M
+is-unobstructed-spec =
+    tie.close
+    (tie.spec
+    array-copy-out-new
+    new-requires
+    mul-new
+    array-copy-out-new-2
+    new-requires-2
+    lerp-requires
+    point-in-polygon-requires
+    blocked-requires
+    returns
+    returns-2)

@@ -1,0 +1,128 @@
+-- `piece_marks` meets its contract. The loop's invariant: the places filled are the marks of the piece's first edges; number 60 is straight. Assumes nothing.
+use Prim.Native.Nat.{ℕ, _+_, _-_, _≤_}
+use mathlib.Core.Path.{_≡_, refl, sym, _∙_}
+use mathlib.Core.Logic.{⊎-elim}
+use lib.ListN.{take, length, length-set, List·getD-eq-default}
+use Rattle.laws.specs.Table.{tab}
+use Rattle.laws.proofs.Table.{more, tab-none}
+use Rattle.marks.specs.declared.Edge.{Edge}
+use Rattle.marks.specs.Edges.{straightEdge}
+use Rattle.split.specs.Layout.{end, size}
+use Rattle.split.proofs.Pieces as Pieces
+use Rattle.split.proofs.Pieces.{markAt}
+use borrow.Author.Needs.{needs}
+use native.Mathlib.Omega.{arith}
+use Rattle.split.proofs.piece_marks.Statement.{statement}
+use Rattle.split.proofs.piece_marks.Tie as tie
+
+abbrev Inv-loop : tie.InvT-loop
+Inv-loop i marks corners a n straight out₀ j₀ out j = (j ≤ n) × (n ≤ 60) × (a + n ≤ 124) × (length out ≡ 60) × (take j out ≡ tab (λ k. markAt marks corners (a + k)) j)
+
+abbrev μ-loop : tie.MeasureT-loop
+μ-loop i marks corners a n straight out₀ j₀ out j = n - j
+
+placed : (c : tie.Start Inv-loop μ-loop)
+    → let p = c .args .pieces in
+    let i = c .args .i in
+    (end p i + 3 ≤ end p (i + 1)) × (end p (i + 1) ≤ end p i + 60) × (end p (i + 1) ≤ 124) × (end p (i + 1) - end p i ≡ size p i)
+placed c = Pieces.placed (c .args .pieces) (c .args .i) (c .pre .1) (c .pre .0)
+
+mul-a : tie.Need-mul-a Inv-loop μ-loop
+mul-a c = search needs
+
+array-read-a : tie.Need-array-read-a Inv-loop μ-loop
+array-read-a c = search needs
+
+add-n : tie.Need-add-n Inv-loop μ-loop
+add-n c = search needs
+
+mul-n : tie.Need-mul-n Inv-loop μ-loop
+mul-n c = search needs
+
+array-read-n : tie.Need-array-read-n Inv-loop μ-loop
+array-read-n c = search needs
+
+sub-n : tie.Need-sub-n Inv-loop μ-loop
+sub-n c = let z = placed (c .before .before) in omega arith
+
+loop-holds : tie.Need-loop-holds Inv-loop μ-loop
+loop-holds c = let z = placed (c .before .before) in (search needs, omega arith, omega arith, refl, tab-none _)
+
+add-c : tie.Need-add-c Inv-loop μ-loop
+add-c c = search needs
+
+mul-c : tie.Need-mul-c Inv-loop μ-loop
+mul-c c = search needs
+
+array-copy-out-c : tie.Need-array-copy-out-c Inv-loop μ-loop
+array-copy-out-c c = search needs
+
+cast-k : tie.Need-cast-k Inv-loop μ-loop
+cast-k c = search needs
+
+mul-e : tie.Need-mul-e Inv-loop μ-loop
+mul-e c = search needs
+
+array-copy-out-e : tie.Need-array-copy-out-e Inv-loop μ-loop
+array-copy-out-e c = search needs
+
+mul-out : tie.Need-mul-out Inv-loop μ-loop
+mul-out c = search needs
+
+array-set-from-out : tie.Need-array-set-from-out Inv-loop μ-loop
+array-set-from-out c = search needs
+
+add-j : tie.Need-add-j Inv-loop μ-loop
+add-j c = search needs
+
+loop-less : tie.Need-loop-less Inv-loop μ-loop
+loop-less c = search needs
+
+loop-again : tie.Need-loop-again Inv-loop μ-loop
+loop-again c =
+    let l = c .before .before .before .before in
+    let s = l .before .before .before in
+    let o = l .loop in
+    let marks = s .args .t1 in
+    let p = s .args .pieces in
+    let f : ℕ → Edge = (λ k. markAt marks (p .corners) (end p (s .args .i) + k)) in
+    let e : c .if1 .e ≡ f (o .j) =
+    ⊎-elim
+    (λ w. w .2)
+    (λ w. w .1 ∙ sym (List·getD-eq-default marks straightEdge (omega (arith, w .0 .left, s .good .0 .1 .0 .1))))
+    (c .if1 .came) in
+    (search needs, search needs, search needs, simp length-set (o .inv .3), more f (o .out) (o .j) (c .if1 .e) (omega (arith, o .inv .3)) (o .inv .4) e)
+
+returns : tie.Need-returns Inv-loop μ-loop
+returns c =
+    let l = c .before in
+    let s = l .before .before .before in
+    let z = placed s in
+    let e : l .loop .j ≡ size (s .args .pieces) (s .args .i) = omega (arith, z .3) in
+    Pieces.marks-are (s .args .pieces) (s .args .i) (s .pre .1) (s .args .t1) (l .loop .out) (rw e at (l .loop .inv .4))
+
+pub piece-marks-spec : {M : Type 1} → statement M
+piece-marks-spec =
+    tie.close
+    (tie.spec
+    Inv-loop
+    μ-loop
+    mul-a
+    array-read-a
+    add-n
+    mul-n
+    array-read-n
+    sub-n
+    loop-holds
+    add-c
+    mul-c
+    array-copy-out-c
+    cast-k
+    mul-e
+    array-copy-out-e
+    mul-out
+    array-set-from-out
+    add-j
+    loop-less
+    loop-again
+    returns)

@@ -1,0 +1,43 @@
+-- `piece_size` meets its contract: how far apart the piece's two ends are. Assumes nothing.
+use mathlib.Core.Path.{_∙_}
+use Rattle.split.proofs.Pieces as Pieces
+use native.Mathlib.Omega.{arith}
+use borrow.Author.Needs.{needs}
+use Rattle.split.proofs.piece_size.Statement.{statement}
+use Rattle.split.proofs.piece_size.Tie as tie
+
+add-result : tie.Need-add-result
+add-result c = search needs
+
+mul-result : tie.Need-mul-result
+mul-result c = search needs
+
+array-read-result : tie.Need-array-read-result
+array-read-result c = search needs
+
+mul-result-2 : tie.Need-mul-result-2
+mul-result-2 c = search needs
+
+array-read-result-2 : tie.Need-array-read-result-2
+array-read-result-2 c = search needs
+
+sub-result : tie.Need-sub-result
+sub-result c = let z = Pieces.placed (c .before .args .pieces) (c .before .args .i) (c .before .pre .1) (c .before .pre .0) in omega arith
+
+returns : tie.Need-returns
+returns c =
+    let s = c .before in
+    let z = Pieces.placed (s .args .pieces) (s .args .i) (s .pre .1) (s .pre .0) in
+    (λ ring es. z .3 ∙ Pieces.piece-length (s .args .pieces) (s .args .i) (s .pre .1) ring es, z .3, omega arith, omega arith)
+
+pub piece-size-spec : {M : Type 1} → statement M
+piece-size-spec =
+    tie.close
+    (tie.spec
+    add-result
+    mul-result
+    array-read-result
+    mul-result-2
+    array-read-result-2
+    sub-result
+    returns)

@@ -1,0 +1,2 @@
+-- Laws for the program's leaves.
+pub mod Values

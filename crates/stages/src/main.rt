@@ -1,0 +1,195 @@
+// Stages: a program that prints what each module on the way of a ring gives, for the ring and chain blocks of a job file on
+// standard input: kept chain points and snap points, the cleaned ring, whether it is simple, its marks, area and worst corner,
+// and the pieces of its split. The Rust beside us prints the same lines (`oracle stages`), so that each module is compared by
+// itself. A ring stops at its pieces here; cells are the divider's.
+
+mod text;
+
+ghost use Prim.Native.Nat.{_^_, _≤_};
+ghost use lib.IntN.{natAbs};
+ghost use Rattle.vector.specs.Size.{AllOnSheet};
+ghost use Rattle.split.specs.Layout.{Kept};
+use chain::Simplified;
+use corner::Limits;
+use libc::STDIN_FILENO;
+use marks::Edge;
+use split::PartList;
+use vector::GridPoint;
+
+fn wide(b: u8) -> u64
+    ensures { λ r. ⌜ r ≤ 255 ⌝ }
+{
+    b as u64
+}
+
+fn four(a: u8, b: u8, c: u8, d: u8) -> u64
+    ensures { λ r. ⌜ r ≤ 4294967295 ⌝ }
+{
+    wide(a) + wide(b) * 256 + wide(c) * 65536 + wide(d) * 16777216
+}
+
+// A signed coordinate of four bytes; 0 where it is beyond the limits of a ring.
+fn coordinate(u: u64) -> i32
+    requires { ⌜ u ≤ 4294967295 ⌝ }
+    ensures { λ r. ⌜ natAbs r ≤ 2 ^ 23 ⌝ }
+{
+    if u <= 8388608 {
+        return u as i32;
+    }
+    if u >= 4286578688 {
+        return -((4294967296 - u) as i32);
+    }
+    0
+}
+
+// The points of all 60 places of a block.
+fn points(block: [u8; 512]) -> [GridPoint; 60]
+    ensures { λ r. ⌜ AllOnSheet r ⌝ }
+{
+    let mut out = [GridPoint::ORIGIN; 60];
+    for i in 0..60 {
+        let at = i * 8 + 4;
+        out[i] = GridPoint {
+            x: coordinate(four(block[at], block[at + 1], block[at + 2], block[at + 3])),
+            y: coordinate(four(block[at + 4], block[at + 5], block[at + 6], block[at + 7])),
+        };
+    }
+    out
+}
+
+// How many of them are used, held to 60.
+fn count(block: [u8; 512]) -> usize
+    ensures { λ r. ⌜ r ≤ 60 ⌝ }
+{
+    let n = block[1] as usize;
+    if 60 < n {
+        return 60;
+    }
+    n
+}
+
+// The sheet size of a ring block.
+fn size(block: [u8; 512]) -> u32 {
+    (wide(block[484]) + wide(block[485]) * 256) as u32
+}
+
+fn print_chain(s: Simplified, n: usize)
+    requires { ⌜ (s .count ≤ 59) × AllOnSheet (s .points) ⌝ }
+{
+    let points = s.points;
+    let snaps = s.snaps;
+    let k = s.count;
+    if 0 < n {
+        text::point(b"keep ", points[0]);
+    }
+    for i in 0..k {
+        text::point(b"keep ", points[i + 1]);
+    }
+    for i in 0..k {
+        text::bits(b"snap ", snaps[i]);
+    }
+}
+
+fn print_marks(edges: [Edge; 60], n: usize)
+    requires { ⌜ n ≤ 60 ⌝ }
+{
+    for i in 0..n {
+        let e = edges[i];
+        let m = e.mark;
+        text::mark(i, m);
+    }
+}
+
+fn print_piece(points: [GridPoint; 60], edges: [Edge; 60], n: usize)
+    requires { ⌜ (n ≤ 60) × AllOnSheet points ⌝ }
+{
+    text::number(b"piece ", n as u64);
+    text::end();
+    for i in 0..n {
+        let e = edges[i];
+        let m = e.mark;
+        text::corner(points[i], m);
+    }
+}
+
+fn print_pieces(ring: [GridPoint; 60], edges: [Edge; 60], pieces: PartList)
+    requires { ⌜ Kept pieces × AllOnSheet ring ⌝ }
+{
+    let k = pieces.count;
+    for i in 0..k {
+        let n = split::piece_size(pieces, i);
+        print_piece(
+            split::piece_points(ring, pieces, i),
+            split::piece_marks(edges, pieces, i),
+            n,
+        );
+    }
+}
+
+fn print_split(ring: [GridPoint; 60], edges: [Edge; 60], n: usize)
+    requires { ⌜ (3 ≤ n) × (n ≤ 60) × AllOnSheet ring ⌝ }
+{
+    let s = split::split_bad_vertices(Limits::new(), ring, n);
+    text::number(b"cuts ", s.cuts as u64);
+    text::number(b" turned ", s.turned);
+    text::end();
+    let pieces = s.pieces;
+    print_pieces(ring, edges, pieces);
+}
+
+fn print_marked(ring: [GridPoint; 60], n: usize, simple: bool, s: Simplified)
+    requires { ⌜ (3 ≤ n) × (n ≤ 60) × AllOnSheet ring × (s .count ≤ 59) ⌝ }
+{
+    let edges = marks::mark_edges(ring, n, s);
+    print_marks(edges, n);
+    let area = vector::polygon_area(ring, n);
+    text::area(area);
+    let w = corner::worst(ring, n);
+    text::worst(w, w.is_bad(Limits::new()));
+    if simple {
+        if 0 < area {
+            print_split(ring, edges, n);
+        }
+    }
+}
+
+fn print_ring(ring: [u8; 512], chain: [u8; 512], number: u64) {
+    text::number(b"ring ", number);
+    text::end();
+    let m = count(chain);
+    let s = chain::simplify_chain(points(chain), m);
+    print_chain(s, m);
+    let r = clean::clean_polygon(points(ring), count(ring), size(ring));
+    let cleaned = r.points;
+    let n = r.count;
+    text::points(cleaned, n);
+    let simple = simple::polygon_simple(cleaned, n);
+    text::flag(b"simple ", simple);
+    text::end();
+    if 3 <= n {
+        print_marked(cleaned, n, simple, s);
+    } else {
+        text::area(vector::polygon_area(cleaned, n));
+    }
+}
+
+// One ring with its chain; says whether there was one.
+fn pair(number: u64) -> bool {
+    let mut ring = [0u8; 512];
+    let mut chain = [0u8; 512];
+    if io::read_full(STDIN_FILENO, &mut ring) < 512 {
+        return false;
+    }
+    if io::read_full(STDIN_FILENO, &mut chain) < 512 {
+        return false;
+    }
+    print_ring(ring, chain, number);
+    true
+}
+
+fn main() {
+    let mut number: u64 = 0;
+    while number < 32768 && pair(number) {
+        number += 1;
+    }
+}
