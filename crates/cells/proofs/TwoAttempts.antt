@@ -1,0 +1,140 @@
+-- A piece as the code divides it, one attempt or two over the lent lists, is `subdivide` of the definition. The second
+-- attempt writes its cells over those of the first.
+use mathlib.Core.Path.{_≡_, refl, sym, ap, _∙_, subst, fun-ext}
+use mathlib.Core.List.{List}
+use Prim.Native.Nat.{ℕ, zero, suc, _≤_}
+use native.Mathlib.Omega.{arith}
+use mathlib.Core.Bool.{true, false}
+use borrow.Author.Tests.{eq-eqb, ne-eqb}
+use lib.ListN.{length, getD, take, replicate, List·getD-map}
+use lib.Seq.{length-take-le}
+use lib.Ieee.{Float}
+use Rattle.vector.specs.declared.GridPoint.{GridPoint}
+use Rattle.marks.specs.declared.Edge.{Edge}
+use Rattle.marks.specs.declared.EdgeMark.the-variants.{Straight}
+use Rattle.nodes.specs.Growth.{InRange, EachNode}
+use Rattle.nodes.specs.Flat.{nodesIn, over}
+use Rattle.nodes.proofs.Growth.{grown-each}
+use Rattle.nodes.proofs.Flat.{in-over, length-over, over-over}
+use Rattle.cells.specs.declared.Tried.{Tried}
+use Rattle.cells.specs.Cells.{Attempt, attempt, subdivide}
+use Rattle.cells.specs.Stages.{marksOf, straight}
+use Rattle.cells.specs.Flat.{marksIn, partIn, overCells, attemptIn, subdivideIn, triedOf, CanTry, CanDivide}
+use Rattle.cells.proofs.Attempts.{attempt-any, subdivide-by}
+use Rattle.cells.proofs.Ranges.{attempt-ranged, straight≢snap}
+use Rattle.cells.proofs.NewCells.{attempt-cells}
+use Rattle.cells.proofs.Adding.{nodes-ranged, over-usable}
+use Rattle.cells.proofs.CellList as cell
+
+-- ---- marks that are all straight
+abbrev plainEdge : Edge
+plainEdge = record { mark = Straight }
+
+all-plain : (n m k : ℕ) → getD (take n (replicate m plainEdge)) k plainEdge ≡ plainEdge
+all-plain zero m k = refl
+all-plain (suc n) zero k = refl
+all-plain (suc n) (suc m) zero = refl
+all-plain (suc n) (suc m) (suc k) = all-plain n m k
+
+plain-at : (n m k : ℕ) → getD (marksIn (replicate m plainEdge) n) k Straight ≡ Straight
+plain-at n m k = List·getD-map (λ (e : Edge). e .mark) (take n (replicate m plainEdge)) k plainEdge ∙ ap (λ (e : Edge). e .mark) (all-plain n m k)
+
+-- what an attempt t over the lists l and q answers and leaves, as the contracts have it
+abbrev Answers : Attempt → List Float → List ℕ → Tried → List Float → List ℕ → Type 0
+Answers t l q r m q' = (r ≡ triedOf t) × (m ≡ over l (t .nodes)) × (q' ≡ overCells q (t .cells))
+
+same-answers : (t s : Attempt) (l : List Float) (q : List ℕ) {r : Tried} {m : List Float} {q' : List ℕ} → t ≡ s → Answers t l q r m q' → Answers s l q r m q'
+same-answers t s l q {r} {m} {q'} e a = subst (λ (t : Attempt). Answers t l q r m q') e a
+
+module _ {share : Float} {l : List Float} {u : ℕ} {ps : List GridPoint} {es : List Edge} {n : ℕ} (f : CanDivide share l u ps es n) where
+  abbrev T1 : Attempt
+  T1 = attemptIn share l u ps es n
+
+  abbrev T2 : Attempt
+  T2 = attempt share (T1 .nodes) (take n ps) straight
+
+  abbrev S : Attempt
+  S = subdivideIn share l u ps es n
+
+  corners : length (take n ps) ≡ n
+  corners = length-take-le n ps (omega (arith, f .long, f .few))
+
+  once : length (T1 .nodes) ≤ length (S .nodes)
+  once = subdivide-by share (λ ms. length (T1 .nodes) ≤ length ms) (nodesIn l u) (partIn ps es n) (omega arith) (attempt-any share (T1 .nodes) (take n ps) straight .longer)
+
+  pub try-first : CanTry share l u ps es n
+  try-first = record { usable = f .usable; some = f .some; few = f .few; long = f .long; fair = f .fair; fits = omega (arith, once, f .fits); room = omega (arith, once, f .room) }
+
+  held : T1 .fails ≡ n → T1 ≡ S
+  unfolding subdivide
+  held e = sym (rw (eq-eqb (T1 .fails) (length (take n ps)) (e ∙ sym corners)))
+
+  refused : (T1 .fails ≡ n → ⊥) → T1 .far ≡ true → T1 ≡ S
+  unfolding subdivide
+  refused h e = sym (rw (ne-eqb (T1 .fails) (length (take n ps)) (λ q. h (q ∙ corners)), e))
+
+  again : (T1 .fails ≡ n → ⊥) → T1 .far ≡ false → T2 ≡ S
+  unfolding subdivide
+  again h e = sym (rw (ne-eqb (T1 .fails) (length (take n ps)) (λ q. h (q ∙ corners)), e))
+
+  -- the nodes of the first attempt
+  ranged : EachNode InRange (T1 .nodes)
+  ranged =
+      let a = nodes-ranged (f .usable) in
+      grown-each {P = InRange} (nodesIn l u) (T1 .nodes) (attempt-ranged share (nodesIn l u) (partIn ps es n) (marksOf (partIn ps es n)) (f .fair) (f .fair .snap) a) a
+
+  -- the first attempt is made: r, m and q'
+  module _ (q : List ℕ) {r : Tried} {m : List Float} {q' : List ℕ} (t : Answers T1 l q r m q') where
+    fails-is : r .fails ≡ T1 .fails
+    fails-is = ap (λ (r : Tried). r .fails) (t .0)
+
+    far-is : r .far ≡ T1 .far
+    far-is = ap (λ (r : Tried). r .far) (t .0)
+
+    -- ---- one attempt, which holds, or in which a snap was too far
+    pub if-held : r .fails ≡ n → Answers S l q r m q'
+    if-held e = same-answers T1 S l q (held (sym fails-is ∙ e)) t
+
+    pub if-far : (r .fails ≡ n → ⊥) → r .far ≡ true → Answers S l q r m q'
+    if-far h e = same-answers T1 S l q (refused (λ k. h (fails-is ∙ k)) (sym far-is ∙ e)) t
+
+    -- ---- two attempts
+    module _ (h : r .fails ≡ n → ⊥) (e : r .far ≡ false) where
+      abbrev plain : List Edge
+      plain = replicate 60 plainEdge
+
+      used-is : r .used ≡ length (T1 .nodes)
+      used-is = ap (λ (r : Tried). r .used) (t .0)
+
+      now-is : nodesIn m (r .used) ≡ T1 .nodes
+      now-is = (λ j. nodesIn (t .1 j) (used-is j)) ∙ in-over l (T1 .nodes)
+
+      second-is : attemptIn share m (r .used) ps plain n ≡ T2
+      second-is = λ j. attempt share (now-is j) (take n ps) (fun-ext (λ k. plain-at n 60 k) j)
+
+      last : T2 ≡ S
+      last = again (λ k. h (fails-is ∙ k)) (sym far-is ∙ e)
+
+      pub try-second : CanTry share m (r .used) ps plain n
+      try-second =
+          let z = ap (λ (t : Attempt). length (t .nodes)) (second-is ∙ last) in
+          let w : length m ≡ length l = ap length (t .1) ∙ length-over l (T1 .nodes) (omega (arith, once, f .room)) in
+          record {
+            usable = over-usable l (T1 .nodes) (t .1) used-is ranged (omega (arith, once, f .fits)) (omega (arith, once, f .room));
+            some = f .some;
+            few = f .few;
+            long = f .long;
+            fair = record { some = f .fair .some; few = f .fair .few; corner = f .fair .corner; snap = λ i q k e. absurd (straight≢snap q (sym (plain-at n 60 i) ∙ e)) };
+            fits = omega (arith, z, f .fits);
+            room = omega (arith, z, f .room, w);
+          }
+
+      pub if-again : {r' : Tried} {m' : List Float} {q'' : List ℕ} → Answers (attemptIn share m (r .used) ps plain n) m q' r' m' q'' → Answers S l q r' m' q''
+      if-again {r'} {m'} {q''} d =
+          let a = attempt-cells share (nodesIn l u) (take n ps) (marksOf (partIn ps es n)) .many in
+          let b = attempt-cells share (T1 .nodes) (take n ps) straight .many in
+          let all = second-is ∙ last in (
+            d .0 ∙ ap triedOf all,
+            d .1 ∙ (λ j. over (t .1 j) (all j .nodes)) ∙ over-over l (T1 .nodes) (S .nodes) once,
+            d .2 ∙ (λ j. overCells (t .2 j) (second-is j .cells)) ∙ cell.over-over q (T1 .cells) (T2 .cells) (omega (arith, a, b)) ∙ ap (λ (t : Attempt). overCells q (t .cells)) last,
+          )

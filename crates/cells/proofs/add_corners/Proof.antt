@@ -1,0 +1,89 @@
+-- `cells::add_corners` meets its contract.
+use mathlib.Core.Path.{_≡_, refl, sym, ap, _∙_, subst}
+use Prim.Native.Nat.{ℕ, _-_, _≤_}
+use lib.Seq.{getD-take}
+use Rattle.vector.specs.Grid.{origin}
+use Rattle.vector.specs.Plane.{inMm}
+use Rattle.nodes.specs.Growth.{InRange}
+use Rattle.cells.specs.Flat.{cornerAt, Adds}
+use Rattle.cells.proofs.Adding as adding
+use borrow.Author.Needs.{needs}
+use native.Mathlib.Omega.{arith}
+use Rattle.cells.proofs.add_corners.Statement.{statement}
+use Rattle.cells.proofs.add_corners.Tie as tie
+
+abbrev Inv-loop : tie.InvT-loop
+Inv-loop nodes₀ used n points list₀ at₀ i₀ nodes list at i = (i ≤ n) × Adds nodes₀ used (cornerAt points n) i nodes at list
+
+abbrev μ-loop : tie.MeasureT-loop
+μ-loop nodes₀ used n points list₀ at₀ i₀ nodes list at i = n - i
+
+loop-holds : tie.Need-loop-holds Inv-loop μ-loop
+loop-holds c = (search needs, adding.start _ (c .before .pre .usable .room) refl)
+
+mul-p : tie.Need-mul-p Inv-loop μ-loop
+mul-p c = search needs
+
+array-copy-out-p : tie.Need-array-copy-out-p Inv-loop μ-loop
+array-copy-out-p c = search needs
+
+new-requires : tie.Need-new-requires Inv-loop μ-loop
+new-requires c κs = search needs
+
+add-node-requires : tie.Need-add-node-requires Inv-loop μ-loop
+add-node-requires c κs =
+    let s = c .before .before .before .before .before .before in
+    let l = c .before .before .before .before .loop in
+    let t = c .before .before .before .loop-test .taken in
+    let e = c .new .ensures ∙ ap inMm (sym (getD-take (s .args .n) (s .args .t3) (l .i) origin t)) in
+    (adding.usable (s .pre) (l .inv .1) (l .inv .0), subst InRange (sym e) (s .pre .ranged (l .i) t), adding.ahead (s .pre) (l .inv .1) t e)
+
+mul-list : tie.Need-mul-list Inv-loop μ-loop
+mul-list c = search needs
+
+array-write-list : tie.Need-array-write-list Inv-loop μ-loop
+array-write-list c = search needs
+
+add-i : tie.Need-add-i Inv-loop μ-loop
+add-i c = search needs
+
+loop-less : tie.Need-loop-less Inv-loop μ-loop
+loop-less c = search needs
+
+loop-again : tie.Need-loop-again Inv-loop μ-loop
+loop-again c =
+    let s = c .before .before .before .before .before .before .before .before .before in
+    let l = c .before .before .before .before .before .before .before .loop in
+    let t = c .before .before .before .before .before .before .loop-test .taken in
+    let a = c .before .before .add-node in
+    let k = c .before .before .before .new in
+    (search needs, adding.next (l .inv .1) (omega (arith, s .pre .few)) (k .ensures ∙ ap inMm (sym (getD-take (s .args .n) (s .args .t3) (l .i) origin t))) (a .ensures .0) (a .ensures .1))
+
+same-length : tie.Need-same-length Inv-loop μ-loop
+same-length c = let l = c .before .loop in adding.same-size (c .before .before .before .pre) (l .inv .1) (l .inv .0)
+
+returns : tie.Need-returns Inv-loop μ-loop
+returns c =
+    let a = c .before .before .before .args in
+    let l = c .before .loop in
+    let e : l .i ≡ a .n = omega arith in
+    subst (λ (k : ℕ). Adds (a .nodes .now) (a .used) (cornerAt (a .t3) (a .n)) k (l .nodes) (l .at) (l .list)) e (l .inv .1)
+
+pub add-corners-spec : {M : Type 1} → statement M
+add-corners-spec =
+    tie.close
+    (tie.spec
+    Inv-loop
+    μ-loop
+    loop-holds
+    mul-p
+    array-copy-out-p
+    new-requires
+    add-node-requires
+    mul-list
+    array-write-list
+    add-i
+    loop-less
+    loop-again
+    same-length
+    returns)

@@ -1,0 +1,64 @@
+-- What is claimed of a piece, and of pieces one after the other: words for the theorems of proofs/. Definitions only.
+use Prim.Native.Nat.{ℕ, zero, suc, _+_, _≤_, _<_}
+use mathlib.Core.Path.{_≡_}
+use mathlib.Core.List.{List, [], _∷_}
+use lib.ListN.{length, getD}
+use lib.Ieee.{Float}
+use Rattle.laws.specs.All.{All}
+use Rattle.vector.specs.declared.Point.{Point}
+use Rattle.vector.specs.Grid.{origin}
+use Rattle.vector.specs.Size.{OnSheet}
+use Rattle.marks.specs.declared.EdgeMark.the-variants.{Snap}
+use Rattle.marks.specs.Part.{Part, noPart}
+use Rattle.nodes.specs.Growth.{InRange}
+use Rattle.cells.specs.declared.Cell.{Cell}
+use Rattle.cells.specs.Cells.{middle, mean, Attempt, subdivide}
+use Rattle.cells.specs.Pieces.{Outcome, done, failed, nodesOver, cellsOver}
+use Rattle.cells.specs.Stages.{end, marksOf, firstNodes}
+
+-- ---- what a piece brings: at most 60 corners, on the sheet, and snap points that are finite and within 1,024 mm
+pub record Fair (p : Part) : Type 0 where
+  pub some : 0 < length (p .points)
+  pub few : length (p .points) ≤ 60
+  pub corner : (i : ℕ) → i < length (p .points) → OnSheet (getD (p .points) i origin)
+  pub snap : (i : ℕ) (q : Point) → i < length (p .points) → marksOf p i ≡ Snap q → InRange q
+
+-- ---- the second attempt at a piece, over the nodes that the first left, has the first one's corners, straight middles and centre
+pub record SameStart (share : Float) (ns : List Point) (p : Part) : Type 0 where
+  pub corner : (i : ℕ) → end (firstNodes share ns p) (p .points) i ≡ end ns (p .points) i
+  pub middle : (i : ℕ) → middle (end (firstNodes share ns p) (p .points) i) (end (firstNodes share ns p) (p .points) (suc i)) ≡ middle (end ns (p .points) i) (end ns (p .points) (suc i))
+  pub centre : mean (end (firstNodes share ns p) (p .points)) (length (p .points)) ≡ mean (end ns (p .points)) (length (p .points))
+
+-- ---- cells
+-- the four numbers of a cell are those of listed nodes
+pub record Listed (count : ℕ) (q : Cell) : Type 0 where
+  pub a : q .a < count
+  pub b : q .b < count
+  pub c : q .c < count
+  pub d : q .d < count
+
+-- an attempt at n corners gives n cells, of listed nodes
+pub record Celled (n : ℕ) (t : Attempt) : Type 0 where
+  pub many : length (t .cells) ≡ n
+  pub listed : All (Listed (length (t .nodes))) (t .cells)
+
+-- "a piece of k corners has the next k new cells", and none of them fails
+abbrev pub Sliced : Float → List Point → List Part → Type 0
+Sliced share ns [] = Unit {0}
+Sliced share ns (p ∷ ps) =
+    (length (subdivide share ns p .cells) ≡ length (p .points)) × (subdivide share ns p .fails ≡ length (p .points)) × Sliced share (subdivide share ns p .nodes) ps
+
+-- the corners of the first i pieces
+abbrev pub cornersTo : List Part → ℕ → ℕ
+cornersTo ps zero = 0
+cornersTo ps (suc i) = cornersTo ps i + length (getD ps i noPart .points)
+
+-- pieces of n corners in all that are done have n cells, of listed nodes
+abbrev pub CellsOf : ℕ → Outcome → Type 0
+CellsOf n (done ns cs) = (length cs ≡ n) × All (Listed (length ns)) cs
+CellsOf n (failed ns m k) = Unit {0}
+
+-- the pieces ps over ns, all of them done, leave what subdivide gives of each over the nodes that the one before left
+abbrev pub Over : Float → List Point → List Part → Outcome → Type 0
+Over share ns ps (done ms cs) = (ms ≡ nodesOver share ns ps) × (cs ≡ cellsOver share ns ps) × Sliced share ns ps
+Over share ns ps (failed ms n k) = Unit {0}

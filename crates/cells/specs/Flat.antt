@@ -1,0 +1,121 @@
+-- A piece as the code has it: arrays whose first n places hold its corners and its marks, the lent node list of nodes'
+-- Flat, and a lent list that holds a cell as four numbers; what the functions ask of these, and what they answer.
+-- Definitions only.
+use Prim.Native.Nat.{ℕ, suc, _*_, _%_, _≤_, _<_}
+use mathlib.Core.Bool.{Bool, _&&_}
+use mathlib.Core.Path.{_≡_}
+use mathlib.Core.List.{List, [], _∷_, _++_, map}
+use lib.ListN.{length, getD, take, drop}
+use lib.Ieee.{Float}
+use Rattle.vector.specs.declared.GridPoint.{GridPoint}
+use Rattle.vector.specs.declared.Point.{Point}
+use Rattle.vector.specs.Grid.{origin}
+use Rattle.vector.specs.Plane.{inMm}
+use Rattle.marks.specs.declared.Edge.{Edge}
+use Rattle.marks.specs.declared.EdgeMark.{EdgeMark}
+use Rattle.marks.specs.declared.EdgeMark.the-variants.{Straight}
+use Rattle.marks.specs.Part.{Part}
+use Rattle.nodes.specs.Nodes.{nodeAt, addNodes}
+use Rattle.nodes.specs.Growth.{InRange}
+use Rattle.nodes.specs.Flat.{nodesIn, over, Usable}
+use Rattle.cells.specs.declared.Cell.{Cell}
+use Rattle.cells.specs.declared.Middle.{Middle}
+use Rattle.cells.specs.declared.Tried.{Tried}
+use Rattle.cells.specs.Cells.{tooFar, edgeMiddle, turnsLeft, Attempt, attempt, subdivide}
+use Rattle.cells.specs.Stages.{marksOf}
+use Rattle.cells.specs.Claims.{Fair}
+
+-- ---- the piece that arrays hold
+-- the marks of the first n edges
+abbrev pub marksIn : List Edge → ℕ → List EdgeMark
+marksIn es n = map (λ (e : Edge). e .mark) (take n es)
+
+abbrev pub partIn : List GridPoint → List Edge → ℕ → Part
+partIn ps es n = record { points = take n ps; edges = marksIn es n }
+
+-- its corner i, in mm
+abbrev pub cornerAt : List GridPoint → ℕ → ℕ → Point
+cornerAt ps n i = inMm (getD (take n ps) i origin)
+
+-- ---- points added to the list l of u nodes
+-- p 0 .. p (n - 1) are in range, and there is room for those that are new
+pub record CanAdd (l : List Float) (u : ℕ) (p : ℕ → Point) (n : ℕ) : Type 0 where
+  pub usable : Usable l u
+  pub some : 0 < n
+  pub few : n ≤ 60
+  pub ranged : (j : ℕ) → j < n → InRange (p j)
+  pub fits : length (addNodes (nodesIn l u) p n .nodes) ≤ 65535
+  pub room : length (addNodes (nodesIn l u) p n .nodes) * 2 ≤ length l
+
+-- they have been added: the list is now m, with v nodes, and the first n of ks are their numbers
+pub record Adds (l : List Float) (u : ℕ) (p : ℕ → Point) (n : ℕ) (m : List Float) (v : ℕ) (ks : List ℕ) : Type 0 where
+  pub numbers : take n ks ≡ addNodes (nodesIn l u) p n .numbers
+  pub long : length ks ≡ 60
+  pub used : v ≡ length (addNodes (nodesIn l u) p n .nodes)
+  pub nodes : m ≡ over l (addNodes (nodesIn l u) p n .nodes)
+
+-- the first n of ks are numbers of listed nodes
+abbrev pub ListedTo : ℕ → List ℕ → ℕ → Type 0
+ListedTo u ks n = (j : ℕ) → j < n → getD ks j 0 < u
+
+-- ---- edges, the corners' numbers being vs
+-- the listed node of corner i, counted on past the last to the first
+abbrev pub endAt : List Float → ℕ → List ℕ → ℕ → ℕ → Point
+endAt l u vs n i = nodeAt (nodesIn l u) (getD (take n vs) (i % n) 0)
+
+abbrev pub middleOf : Float → EdgeMark → Point → Point → Middle
+middleOf share m a b = record { at = edgeMiddle share m a b; far = tooFar share m a b }
+
+abbrev pub middleAt : Float → List Float → ℕ → List ℕ → List Edge → ℕ → ℕ → Point
+middleAt share l u vs es n i = edgeMiddle share (getD (marksIn es n) i Straight) (endAt l u vs n i) (endAt l u vs n (suc i))
+
+abbrev pub farAt : Float → List Float → ℕ → List ℕ → List Edge → ℕ → ℕ → Bool
+farAt share l u vs es n i = tooFar share (getD (marksIn es n) i Straight) (endAt l u vs n i) (endAt l u vs n (suc i))
+
+-- ---- cells
+-- quad_positive, of the four corners
+abbrev pub positive : Point → Point → Point → Point → Bool
+positive p q r s = turnsLeft p q r && turnsLeft q r s && turnsLeft r s p && turnsLeft s p q
+
+-- a cell's four numbers, and those of cells in order
+abbrev pub four : Cell → List ℕ
+four c = c .a ∷ c .b ∷ c .c ∷ c .d ∷ []
+
+abbrev pub flatCells : List Cell → List ℕ
+flatCells [] = []
+flatCells (c ∷ cs) = four c ++ flatCells cs
+
+-- l with the cells cs over its first places, all else as found
+unfoldable pub overCells : List ℕ → List Cell → List ℕ
+overCells l cs = flatCells cs ++ drop (length cs * 4) l
+
+-- ---- an attempt
+abbrev pub attemptIn : Float → List Float → ℕ → List GridPoint → List Edge → ℕ → Attempt
+attemptIn share l u ps es n = attempt share (nodesIn l u) (take n ps) (marksOf (partIn ps es n))
+
+abbrev pub triedOf : Attempt → Tried
+triedOf t = record { used = length (t .nodes); fails = t .fails; far = t .far }
+
+-- a fair piece, with room for the nodes of one attempt
+pub record CanTry (share : Float) (l : List Float) (u : ℕ) (ps : List GridPoint) (es : List Edge) (n : ℕ) : Type 0 where
+  pub usable : Usable l u
+  pub some : 0 < n
+  pub few : n ≤ 60
+  pub long : length ps ≡ 60
+  pub fair : Fair (partIn ps es n)
+  pub fits : length (attemptIn share l u ps es n .nodes) ≤ 65535
+  pub room : length (attemptIn share l u ps es n .nodes) * 2 ≤ length l
+
+-- ---- a piece
+abbrev pub subdivideIn : Float → List Float → ℕ → List GridPoint → List Edge → ℕ → Attempt
+subdivideIn share l u ps es n = subdivide share (nodesIn l u) (partIn ps es n)
+
+-- a fair piece, with room for the nodes of all attempts that are made
+pub record CanDivide (share : Float) (l : List Float) (u : ℕ) (ps : List GridPoint) (es : List Edge) (n : ℕ) : Type 0 where
+  pub usable : Usable l u
+  pub some : 0 < n
+  pub few : n ≤ 60
+  pub long : length ps ≡ 60
+  pub fair : Fair (partIn ps es n)
+  pub fits : length (subdivideIn share l u ps es n .nodes) ≤ 65535
+  pub room : length (subdivideIn share l u ps es n .nodes) * 2 ≤ length l
