@@ -1,0 +1,220 @@
+// Entry: the tests that a divider call makes of its input before it touches it, refusals 1 to 4, and the points that it
+// reads once they have passed.
+//
+// It is the first step in the way of a ring. What a caller lends are flat lists: a ring and a chain are numbers, x and y in
+// turn, and so are the nodes; a cell is four numbers. Nothing is asked of them: every count and every number is tested.
+
+ghost use mathlib.Core.Path.{_≡_};
+ghost use mathlib.Core.Bool.{_&&_};
+ghost use mathlib.Core.List.{List};
+ghost use Prim.Native.Nat.{ℕ, _*_, _/_, _≤_};
+ghost use lib.ListN.{length, take};
+ghost use Rattle.vector.specs.Size.{AllOnSheet};
+ghost use Rattle.nodes.specs.Flat.{nodesIn};
+ghost use Rattle.demand.specs.Call as Call;
+ghost use Rattle.demand.specs.Lent.{pointsIn};
+ghost use Rattle.entry.specs.Refusal as Refusal;
+use corner::Limits;
+use vector::GridPoint;
+
+// 1: a count that is odd, or out of limits. Of the ring's numbers and the chain's, two a point.
+fn counts_out(ring: usize, chain: usize) -> bool
+    ensures { λ r. ⌜ r ≡ Refusal.countsOut ring chain ⌝ }
+{
+    if ring % 2 != 0 {
+        return true;
+    }
+    if chain % 2 != 0 {
+        return true;
+    }
+    if ring / 2 < 3 {
+        return true;
+    }
+    if 60 < ring / 2 {
+        return true;
+    }
+    60 < chain / 2
+}
+
+fn beyond(z: i32) -> bool
+    ensures { λ r. ⌜ r ≡ Call.beyond z ⌝ }
+{
+    if 8388608 < z {
+        return true;
+    }
+    z < -8388608
+}
+
+fn outside(p: GridPoint) -> bool
+    ensures { λ r. ⌜ r ≡ Call.outside p ⌝ }
+{
+    if beyond(p.x) {
+        return true;
+    }
+    beyond(p.y)
+}
+
+// A coordinate of a ring or a chain is beyond the limits.
+fn any_outside(l: &[i32]) -> bool
+    ensures { λ r. ⌜ r ≡ Call.anyOutside (pointsIn (now (l .entry)) (length (now (l .entry)) / 2)) ⌝ }
+{
+    for i in 0..l.len() / 2 {
+        let p = GridPoint {
+            x: l[i * 2],
+            y: l[i * 2 + 1],
+        };
+        if outside(p) {
+            return true;
+        }
+    }
+    false
+}
+
+// 2: a coordinate or the sheet size.
+fn units_out(ring: &[i32], chain: &[i32], size: u32) -> bool
+    ensures { λ r. ⌜ r ≡ Refusal.unitsOut (pointsIn (now (ring .entry)) (length (now (ring .entry)) / 2)) (pointsIn (now (chain .entry)) (length (now (chain .entry)) / 2)) size ⌝ }
+{
+    if any_outside(ring) {
+        return true;
+    }
+    if any_outside(chain) {
+        return true;
+    }
+    if size == 0 {
+        return true;
+    }
+    2048 < size
+}
+
+// A coordinate of a used node is finite and within 1,024 mm.
+fn held(x: f64) -> bool
+    ensures { λ r. ⌜ r ≡ Call.held x ⌝ }
+{
+    if -1024.0 <= x {
+        return x <= 1024.0;
+    }
+    false
+}
+
+fn both_held(x: f64, y: f64) -> bool
+    ensures { λ r. ⌜ r ≡ (Call.held x && Call.held y) ⌝ }
+{
+    if held(x) {
+        return held(y);
+    }
+    false
+}
+
+fn usable(nodes: &[f64], used: usize) -> bool
+    requires { ⌜ used * 2 ≤ length (now nodes) ⌝ }
+    ensures { λ r. ⌜ r ≡ Call.usable (nodesIn (now (nodes .entry)) used) ⌝ }
+{
+    for i in 0..used {
+        if !both_held(nodes[i * 2], nodes[i * 2 + 1]) {
+            return false;
+        }
+    }
+    true
+}
+
+// 3: a used count, the number of places, or a used node. The nodes are looked at last, when all of them are there.
+fn lists_out(nodes: &[f64], node_count: usize, cell_places: usize, cell_count: usize) -> bool
+    ensures { λ r. ⌜ r ≡ Refusal.listsOut (length (now (nodes .entry)) / 2) «node_count» «cell_places» «cell_count» (take «node_count» (nodesIn (now (nodes .entry)) (length (now (nodes .entry)) / 2))) ⌝ }
+{
+    let places = nodes.len() / 2;
+    if places < node_count {
+        return true;
+    }
+    if cell_places < cell_count {
+        return true;
+    }
+    if 65535 < places {
+        return true;
+    }
+    !usable(nodes, node_count)
+}
+
+// The most cuts of a ring of r points.
+fn most_cuts(limits: Limits, r: usize) -> usize
+    requires { ⌜ (3 ≤ r) × (r ≤ 60) ⌝ }
+    ensures { λ m. ⌜ (m ≡ Call.mostCuts limits r) × (m ≤ 60) ⌝ }
+{
+    if limits.cuts < r - 3 {
+        return limits.cuts;
+    }
+    r - 3
+}
+
+// The node places and the cell places that a ring of r points may take.
+pub fn node_reserve(limits: Limits, r: usize) -> usize
+    requires { ⌜ (3 ≤ r) × (r ≤ 60) ⌝ }
+    ensures { λ n. ⌜ n ≡ Call.nodeReserve limits r ⌝ }
+{
+    3 * r + 2 * most_cuts(limits, r) + 1
+}
+
+pub fn cell_reserve(limits: Limits, r: usize) -> usize
+    requires { ⌜ (3 ≤ r) × (r ≤ 60) ⌝ }
+    ensures { λ n. ⌜ n ≡ Call.cellReserve limits r ⌝ }
+{
+    r + 2 * most_cuts(limits, r)
+}
+
+// 4: too few free places.
+fn room_out(limits: Limits, r: usize, nodes: usize, cells: usize) -> bool
+    requires { ⌜ (3 ≤ r) × (r ≤ 60) ⌝ }
+    ensures { λ b. ⌜ b ≡ Refusal.roomOut limits r nodes cells ⌝ }
+{
+    if nodes < node_reserve(limits, r) {
+        return true;
+    }
+    cells < cell_reserve(limits, r)
+}
+
+// The first of refusals 1 to 4, or 0. Of the cell list only the number of its places is looked at.
+pub fn refusal(
+    limits: Limits,
+    ring: &[i32],
+    chain: &[i32],
+    size: u32,
+    nodes: &[f64],
+    node_count: usize,
+    cell_places: usize,
+    cell_count: usize,
+) -> u32
+    ensures { λ r. ⌜ ((cells : List ℕ) → length cells / 4 ≡ «cell_places» → r ≡ Refusal.refusal limits (record { ring = now (ring .entry); chain = now (chain .entry); size = size; nodes = now (nodes .entry); nodeCount = «node_count»; cells = cells; cellCount = «cell_count» })) ⌝ }
+{
+    if counts_out(ring.len(), chain.len()) {
+        return 1;
+    }
+    if units_out(ring, chain, size) {
+        return 2;
+    }
+    if lists_out(nodes, node_count, cell_places, cell_count) {
+        return 3;
+    }
+    if room_out(
+        limits,
+        ring.len() / 2,
+        nodes.len() / 2 - node_count,
+        cell_places - cell_count,
+    ) {
+        return 4;
+    }
+    0
+}
+
+// The first n points of a ring or a chain, in the first places; the rest are zero.
+pub fn points(l: &[i32], n: usize) -> [GridPoint; 60]
+    requires { ⌜ (n ≤ 60) × (n * 2 ≤ length (now l)) × AllOnSheet (pointsIn (now l) n) ⌝ }
+    ensures { λ r. ⌜ (take n r ≡ pointsIn (now (l .entry)) n) × AllOnSheet r ⌝ }
+{
+    let mut out = [GridPoint::ORIGIN; 60];
+    for i in 0..n {
+        out[i] = GridPoint {
+            x: l[i * 2],
+            y: l[i * 2 + 1],
+        };
+    }
+    out
+}

@@ -1,0 +1,69 @@
+-- The pieces of a split ring over the lent lists of nodes and of cells: what is asked of these, what is answered, and what is left in them. Definitions only.
+use Prim.Native.Nat.{ℕ, _+_, _*_, _≤_, _<_}
+use mathlib.Core.List.{List, _++_}
+use lib.ListN.{length, take, drop, replicate}
+use lib.Ieee.{Float}
+use Rattle.vector.specs.declared.GridPoint.{GridPoint}
+use Rattle.vector.specs.Size.{AllOnSheet}
+use Rattle.marks.specs.declared.Edge.{Edge}
+use Rattle.marks.specs.Part.{Part}
+use Rattle.split.specs.declared.PartList.{PartList}
+use Rattle.split.specs.Layout.{Kept, listOf}
+use Rattle.split.specs.State.{pieceIn, marksOf}
+use Rattle.nodes.specs.Flat.{nodesIn, Usable}
+use Rattle.cells.specs.declared.Cell.{Cell}
+use Rattle.cells.specs.Cells.{noCell}
+use Rattle.cells.specs.Pieces.{Outcome, done, failed, piecesTo}
+use Rattle.cells.specs.Stages.{nodesOf}
+use Rattle.cells.specs.Claims.{Fair, cornersTo}
+use Rattle.cells.specs.Flat.{overCells}
+use Rattle.pieces.specs.declared.Subdivision.{Subdivision}
+use Rattle.pieces.specs.declared.Subdivision.the-variants.{Done, Failed}
+
+-- the pieces that p holds, of the ring's points and the marks of its edges
+abbrev pub piecesIn : List GridPoint → List Edge → PartList → List Part
+piecesIn ring es p = listOf ring (marksOf es) p (p .count)
+
+-- what they come to, over the first u nodes of l
+abbrev pub outcomeIn : Float → List Float → ℕ → List GridPoint → List Edge → PartList → Outcome
+outcomeIn share l u ring es p = piecesTo share (piecesIn ring es p) (nodesIn l u) (p .count)
+
+-- the pieces are fair, and there is room for all their nodes, and for a cell a corner in the reserve of places from `first` on
+pub record CanSubdivide (share : Float) (l : List Float) (u : ℕ) (q : List ℕ) (first reserve : ℕ) (ring : List GridPoint) (es : List Edge) (p : PartList) : Type 0 where
+  pub usable : Usable l u
+  pub sheet : AllOnSheet ring
+  pub kept : Kept p
+  pub fair : (i : ℕ) → i < p .count → Fair (pieceIn ring (marksOf es) p i)
+  pub fits : length (nodesOf (outcomeIn share l u ring es p)) ≤ 65535
+  pub room : length (nodesOf (outcomeIn share l u ring es p)) * 2 ≤ length l
+  pub corners : cornersTo (piecesIn ring es p) (p .count) ≤ reserve
+  pub places : (first + reserve) * 4 ≤ length q
+
+-- ---- the answer
+-- 01, What is returned: the number of a row, its values, the count of nodes and the number of new cells
+pub record Row : Type 0 where
+  pub code : ℕ
+  pub corners : ℕ
+  pub k : ℕ
+  pub nodes : ℕ
+  pub cells : ℕ
+
+-- the row of each case. 0: "new counts"; 8: "corners of the piece, k", and "the new node count"
+abbrev pub row : Subdivision → Row
+row (Done nodes cells) = record { code = 0; corners = 0; k = 0; nodes = nodes; cells = cells }
+row (Failed corners k nodes) = record { code = 8; corners = corners; k = k; nodes = nodes; cells = 0 }
+
+-- the row of what pieces come to
+abbrev pub rowOf : Outcome → Row
+rowOf (done ns cs) = record { code = 0; corners = 0; k = 0; nodes = length ns; cells = length cs }
+rowOf (failed ns n k) = record { code = 8; corners = n; k = k; nodes = length ns; cells = 0 }
+
+-- ---- the cell list
+-- l with the cells cs over its places from place i on, all else as found
+unfoldable pub overFrom : List ℕ → ℕ → List Cell → List ℕ
+overFrom l i cs = take (i * 4) l ++ overCells (drop (i * 4) l) cs
+
+-- the cells that are left there: those of the pieces; after a failure "the r + 2m cell places .. zero"
+abbrev pub cellsLeft : ℕ → Outcome → List Cell
+cellsLeft reserve (done ns cs) = cs
+cellsLeft reserve (failed ns n k) = replicate reserve noCell

@@ -1,0 +1,85 @@
+// Pieces: the pieces of a split ring, laid out in cells one after the other.
+//
+// It stands between the split and the divider call: each piece is read out of the split's state and subdivided, and its
+// cells go into the part of the caller's list that starts where those of the piece before ended. After a failure the
+// places that were reserved for the ring's cells are zero. specs/Flat says what is asked, answered and left.
+
+ghost use mathlib.Core.Path.{_≡_};
+ghost use Prim.Native.Nat.{_*_, _≤_};
+ghost use lib.ListN.{length, replicate};
+ghost use Rattle.nodes.specs.Flat.{over};
+ghost use Rattle.cells.specs.Cells.{noCell};
+ghost use Rattle.cells.specs.Stages.{nodesOf};
+ghost use Rattle.cells.specs.Flat.{overCells};
+ghost use Rattle.pieces.specs.Flat.{outcomeIn, CanSubdivide, row, rowOf, overFrom, cellsLeft};
+use marks::Edge;
+use split::PartList;
+use vector::GridPoint;
+
+// The count of nodes, and of the cells that all pieces have; or the corners of the piece and its first cell that fails,
+// and the count of nodes, which stay.
+pub enum Subdivision {
+    Done {
+        nodes: usize,
+        cells: usize,
+    },
+    Failed {
+        corners: usize,
+        k: usize,
+        nodes: usize,
+    },
+}
+
+// Zeros over the first n cells.
+fn clear(cells: &mut [u16], n: usize)
+    requires { ⌜ n * 4 ≤ length (now cells) ⌝ }
+    ensures { λ _. ⌜ now (cells .exit) ≡ overCells (now (cells .entry)) (replicate n noCell) ⌝ }
+{
+    for i in 0..n * 4 {
+        cells[i] = 0;
+    }
+}
+
+// The pieces over the first `used` nodes, their cells over the places from `first` on. After a failure `reserve` places
+// from there on are zero.
+pub fn subdivide_all(
+    nodes: &mut [f64],
+    used: usize,
+    cells: &mut [u16],
+    first: usize,
+    reserve: usize,
+    ring: [GridPoint; 60],
+    marks: [Edge; 60],
+    pieces: PartList,
+    share: f64,
+) -> Subdivision
+    requires { ⌜ CanSubdivide share (now nodes) used (now cells) first reserve ring marks pieces ⌝ }
+    ensures { λ r. ⌜ (row r ≡ rowOf (outcomeIn share (now (nodes .entry)) used ring marks pieces))
+        × (now (nodes .exit) ≡ over (now (nodes .entry)) (nodesOf (outcomeIn share (now (nodes .entry)) used ring marks pieces)))
+        × (now (cells .exit) ≡ overFrom (now (cells .entry)) first (cellsLeft reserve (outcomeIn share (now (nodes .entry)) used ring marks pieces))) ⌝ }
+{
+    let mut u = used;
+    let mut at = first;
+    for i in 0..pieces.count {
+        let n = split::piece_size(pieces, i);
+        let ps = split::piece_points(ring, pieces, i);
+        let es = split::piece_marks(marks, pieces, i);
+        let start = at * 4;
+        let t = cells::subdivide(nodes, u, &mut cells[start..], ps, es, n, share);
+        if t.fails != n {
+            let window = first * 4;
+            clear(&mut cells[window..], reserve);
+            return Subdivision::Failed {
+                corners: n,
+                k: t.fails,
+                nodes: t.used,
+            };
+        }
+        u = t.used;
+        at += n;
+    }
+    Subdivision::Done {
+        nodes: u,
+        cells: at - first,
+    }
+}
