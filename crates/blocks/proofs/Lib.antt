@@ -1,0 +1,5 @@
+-- What is proved of blocks: the theorem Accepted, and the laws that the function proofs cite.
+pub mod TwosComplement
+pub mod Tests
+pub mod Accepted
+pub mod Counts

@@ -1,0 +1,4 @@
+-- Laws of cells in a list of records.
+pub mod Recorded
+pub mod Moved
+pub mod Numbered

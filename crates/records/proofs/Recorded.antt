@@ -1,0 +1,73 @@
+-- Cells written one after the other are cells put over the list (`written-is`); and the promise of a call from the numbers of its cells.
+use Prim.Native.Nat.{ℕ, zero, suc, _+_, _*_, _≤_, _<_}
+use native.Mathlib.Nat.{add-zero, not-suc-le-zero}
+use native.Mathlib.Omega.{arith}
+use mathlib.Core.Path.{_≡_, refl, sym, ap, _∙_}
+use mathlib.Core.Bool.{Bool, true, false, _||_, cond}
+use mathlib.Core.List.{List, [], _∷_, _++_, append-assoc, append-nil}
+use lib.ListN.{length, getD, set, take, drop, length-append, take-append-drop}
+use lib.Seq.{length-take-le, drop-cons, set-at}
+use lib.Ieee.{Float}
+use Rattle.laws.specs.Table.{tab}
+use Rattle.laws.proofs.Table.{length-tab, is-tab}
+use Rattle.corner.specs.Limits.{delivered}
+use Rattle.cells.specs.declared.Cell.{Cell}
+use Rattle.cells.specs.Cells.{noCell}
+use Rattle.cells.specs.Flat.{flatCells, overCells}
+use Rattle.demand.specs.Divide.{put, refused, divide}
+use Rattle.demand.specs.Demand.{Demand3}
+use Rattle.demand.specs.Lent.{cellIn, cellsIn, odd}
+use Rattle.demand.proofs.Demand.{demand3}
+use Rattle.divider.specs.declared.Values.{Values}
+use Rattle.records.specs.declared.Laid.{Laid}
+use Rattle.records.specs.Records.{Lent, callOf, divideRecords, Promise, written, Numbers}
+
+pub written-is : (l : List Cell) (i : ℕ) (x : List ℕ) (k : ℕ) → i + k ≤ length l → written l i x k ≡ put l i (cellsIn x k)
+unfolding tab
+written-is l i x zero h = sym ((λ j. append-nil (take i l) j ++ drop (add-zero i j) l) ∙ take-append-drop i l)
+written-is l i x (suc k) h =
+    let cs = cellsIn x k in
+    let c = cellIn x k in
+    let n : length cs ≡ k = length-tab (cellIn x) k in
+    let a : length (take i l ++ cs) ≡ i + k = length-append (take i l) cs ∙ omega (arith, length-take-le i l (omega arith), n) in
+    let d = drop-cons l (i + length cs) noCell (omega (arith, h, n)) in
+    let e : suc (i + length cs) ≡ i + length (cs ++ (c ∷ [])) = omega (arith, length-append cs (c ∷ [])) in
+    ap (λ (z : List Cell). set z (i + k) c) (written-is l i x k (omega arith))
+    ∙ ap (λ (z : List Cell). set ((take i l ++ cs) ++ z) (i + k) c) d
+    ∙ set-at (take i l ++ cs) (getD l (i + length cs) noCell) (drop (suc (i + length cs)) l) c (i + k) a
+    ∙ ap (λ (m : ℕ). (take i l ++ cs) ++ (c ∷ drop m l)) e
+    ∙ simp append-assoc
+
+-- ---- cells read from their numbers
+cell-at : (cs : List Cell) (r : List ℕ) (i : ℕ) → i < length cs → cellIn (flatCells cs ++ r) i ≡ getD cs i noCell
+cell-at [] r i h = absurd (not-suc-le-zero h)
+cell-at (c ∷ cs) r zero h = refl
+cell-at (c ∷ cs) r (suc i) h =
+    let e₀ : suc i * 4 ≡ suc (suc (suc (suc (i * 4)))) = omega arith in
+    let e₁ : suc i * 4 + 1 ≡ suc (suc (suc (suc (i * 4 + 1)))) = omega arith in
+    let e₂ : suc i * 4 + 2 ≡ suc (suc (suc (suc (i * 4 + 2)))) = omega arith in
+    let e₃ : suc i * 4 + 3 ≡ suc (suc (suc (suc (i * 4 + 3)))) = omega arith in
+    let l = flatCells (c ∷ cs) ++ r in
+    (λ j. record { a = getD l (e₀ j) 0; b = getD l (e₁ j) 0; c = getD l (e₂ j) 0; d = getD l (e₃ j) 0 }) ∙ cell-at cs r i (omega (arith, h))
+
+pub cells-read : (q : List ℕ) (cs : List Cell) → cellsIn (overCells q cs) (length cs) ≡ cs
+unfolding overCells
+cells-read q cs = sym (is-tab cs (cellIn (flatCells cs ++ drop (length cs * 4) q)) (length cs) noCell refl (λ i h. sym (cell-at cs (drop (length cs * 4) q) i h)))
+
+-- ---- the promise
+demand3-records : (l : Lent) → divideRecords delivered l .code ≡ 0 → Demand3 delivered (callOf l) (divideRecords delivered l)
+unfolding divideRecords refused
+demand3-records l z = go (odd (l .ring) || odd (l .chain)) z
+  where
+    go : (o : Bool) → cond o (refused (callOf l) 1) (divide delivered (callOf l)) .code ≡ 0 → Demand3 delivered (callOf l) (cond o (refused (callOf l) 1) (divide delivered (callOf l)))
+    go true z = absurd (omega arith)
+    go false z = demand3 delivered (callOf l) z
+
+pub promised : (l : Lent) (r : Laid) (us : List Cell) (zs : List Float) → Numbers l r zs → r .at + r .count ≤ length (l .cells) → us ≡ written (l .cells) (r .at) (r .numbers) (r .count) → Promise l (r .values) zs us
+promised l r us zs n h e =
+    record {
+      values = n .values;
+      nodes = n .nodes;
+      cells = e ∙ written-is (l .cells) (r .at) (r .numbers) (r .count) h ∙ n .cells;
+      accepted = λ z. demand3-records l (sym (ap (λ (v : Values). v .code) (n .values)) ∙ z);
+    }

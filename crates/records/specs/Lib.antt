@@ -1,0 +1,2 @@
+-- A call over a list of cell records.
+pub mod Records

@@ -1,0 +1,164 @@
+// Records: the divider call over a list of cell records.
+//
+// It is the outermost layer for callers that keep cells as records of four node numbers. The call is the divider's, its
+// cells first written as plain numbers; then they go into the caller's list, one record after the other.
+
+ghost use mathlib.Core.Path.{_≡_};
+ghost use mathlib.Core.List.{List};
+ghost use Prim.Native.Nat.{_+_, _^_, _≤_, _<_};
+ghost use lib.ListN.{length};
+ghost use Rattle.cells.specs.declared.Cell.{Cell};
+ghost use Rattle.demand.specs.Lent.{cellIn};
+ghost use Rattle.divider.specs.Answers as Answers;
+ghost use Rattle.records.specs.Records.{Numbers, Promise, written, laidOf, laidNowhere};
+use cells::Cell;
+use corner::Limits;
+use divider::Answer;
+use divider::Values;
+
+// What a call comes to before its cells are in the list: their numbers, four a cell, the place that the first goes to,
+// how many there are, and the row of the table.
+pub struct Laid {
+    pub numbers: [u16; 496],
+    pub at: usize,
+    pub count: usize,
+    pub values: Values,
+}
+
+// Cell k of the numbers.
+fn cell_at(laid: Laid, k: usize) -> Cell
+    requires { ⌜ k < 124 ⌝ }
+    ensures { λ r. ⌜ r ≡ cellIn (laid .numbers) k ⌝ }
+{
+    Cell {
+        a: laid.numbers[k * 4],
+        b: laid.numbers[k * 4 + 1],
+        c: laid.numbers[k * 4 + 2],
+        d: laid.numbers[k * 4 + 3],
+    }
+}
+
+// The first n cells of the numbers go into the list, from place `at` on.
+fn write(cells: &mut [Cell], at: usize, laid: Laid, n: usize)
+    requires { ⌜ (n ≤ 124) × (at + n ≤ length (now cells)) ⌝ }
+    ensures { λ _. ⌜ now (cells .exit) ≡ written (now (cells .entry)) at (laid .numbers) n ⌝ }
+{
+    let mut k: usize = 0;
+    while k < n {
+        let c = cell_at(laid, k);
+        cells[at + k] = c;
+        k += 1;
+    }
+}
+
+// An answer over numbers that hold its cells from their first place on, for a list in which they go to place `at`. After a
+// failure the places of the reserve are written too, with zeros.
+fn placed(a: Answer, numbers: [u16; 496], at: usize, reserve: usize) -> Laid
+    requires { ⌜ at + Answers.values a .cells < 2 ^ 64 ⌝ }
+    ensures { λ r. ⌜ r ≡ laidOf (Answers.values a) numbers at reserve ⌝ }
+{
+    let mut v = Values::new(a);
+    let mut count = v.cells as usize;
+    if v.code == 8 {
+        count = reserve;
+    }
+    v.cells = at as u64 + v.cells;
+    Laid {
+        numbers: numbers,
+        at: at,
+        count: count,
+        values: v,
+    }
+}
+
+// A ring that is refused at the entry has no cells.
+fn refused(code: u32, nodes: usize, cells: usize) -> Laid
+    ensures { λ r. ⌜ r ≡ laidNowhere (Answers.values (Answer.Refused code nodes cells)) ⌝ }
+{
+    let numbers = [0; 496];
+    Laid {
+        numbers: numbers,
+        at: 0,
+        count: 0,
+        values: Values::new(Answer::Refused {
+            code: code,
+            nodes: nodes,
+            cells: cells,
+        }),
+    }
+}
+
+// The call with its cells as numbers, for a cell list of this many places.
+fn flat_divide(
+    ring: &[i32],
+    chain: &[i32],
+    size: u32,
+    nodes: &mut [f64],
+    node_count: usize,
+    cell_places: usize,
+    cell_count: usize,
+) -> Laid
+    ensures { λ r. ⌜ ((cells : List Cell) → length cells ≡ «cell_places»
+        → Numbers (record { ring = now (ring .entry); chain = now (chain .entry); size = size; nodes = now (nodes .entry); nodeCount = «node_count»; cells = cells; cellCount = «cell_count» }) r (now (nodes .exit)))
+        × (r .count ≤ 124) × (r .at + r .count ≤ «cell_places») ⌝ }
+{
+    let limits = Limits::new();
+    let mut numbers = [0; 496];
+    let code = entry::refusal(
+        limits,
+        ring,
+        chain,
+        size,
+        nodes,
+        node_count,
+        cell_places,
+        cell_count,
+    );
+    if code != 0 {
+        return refused(code, node_count, cell_count);
+    }
+    let r = ring.len() / 2;
+    let m = chain.len() / 2;
+    let points = entry::points(ring, r);
+    let run = entry::points(chain, m);
+    let reserve = entry::cell_reserve(limits, r);
+    let a = divider::cleaned(
+        limits,
+        points,
+        r,
+        run,
+        m,
+        size,
+        nodes,
+        node_count,
+        &mut numbers,
+        0,
+    );
+    placed(a, numbers, cell_count, reserve)
+}
+
+// The divider call over a list of cell records.
+pub fn divide_cells<'a, 'b, 'c, 'd>(
+    ring: &'a [i32],
+    chain: &'b [i32],
+    size: u32,
+    nodes: &'c mut [f64],
+    node_count: usize,
+    cells: &'d mut [Cell],
+    cell_count: usize,
+) -> Values
+    ensures { λ v. ⌜ Promise (record { ring = now (ring .entry); chain = now (chain .entry); size = size; nodes = now (nodes .entry); nodeCount = «node_count»; cells = now (cells .entry); cellCount = «cell_count» })
+        v (now (nodes .exit)) (now (cells .exit)) ⌝ }
+{
+    let laid = flat_divide(
+        ring,
+        chain,
+        size,
+        nodes,
+        node_count,
+        cells.len(),
+        cell_count,
+    );
+    write(cells, laid.at, laid, laid.count);
+    laid.values
+}

@@ -1,0 +1,188 @@
+// Replay: runs the fixed lists of data/, calls and blocks with what the original Rust answers, and compares every returned
+// value, every node bit, every cell place and every byte read. docs/REPLAY.md has the form of the lists.
+
+mod same;
+mod words;
+
+use libc::STDOUT_FILENO;
+
+// How many calls and blocks were run, and on how many the two differ.
+pub struct Tally {
+    pub ran: u64,
+    pub differ: u64,
+}
+
+// The list of the calls that follow: its places and how many are used; and the tally so far.
+pub struct State {
+    pub places: usize,
+    pub used: usize,
+    pub tally: Tally,
+}
+
+impl State {
+    // One more call or block.
+    fn ran(self, same: bool, used: usize) -> State {
+        let t = self.tally;
+        let differ = if same { 0 } else { 1 };
+        State {
+            places: self.places,
+            used: used,
+            tally: Tally {
+                ran: std::num::wrapping_add_u64(t.ran, 1),
+                differ: std::num::wrapping_add_u64(t.differ, differ),
+            },
+        }
+    }
+}
+
+fn replay_list(fd: i32, nodes: &mut [f64], s: State) -> State {
+    let places = words::count(fd);
+    let used = words::count(fd);
+    words::read_nodes(fd, nodes, words::doubled(words::smaller(used, places)));
+    let tally = s.tally;
+    State {
+        places,
+        used,
+        tally,
+    }
+}
+
+fn replay_call(fd: i32, nodes: &mut [f64], s: State) -> State {
+    let size = words::word(fd);
+    let cell_numbers = words::count(fd);
+    let cell_count = words::word(fd) as usize;
+    let r = words::count(fd);
+    let c = words::count(fd);
+    let mut ring = [0i32; 256];
+    let mut chain = [0i32; 256];
+    words::read_numbers(fd, &mut ring, r);
+    words::read_numbers(fd, &mut chain, c);
+    let used = s.used;
+    let end = words::doubled(s.places);
+    if 256 < r {
+        return s.ran(false, used);
+    }
+    if 256 < c {
+        return s.ran(false, used);
+    }
+    if 2048 < cell_numbers {
+        return s.ran(false, used);
+    }
+    if nodes.len() < end {
+        return s.ran(false, used);
+    }
+    let mut cells = [65535u16; 2048];
+    compared(
+        fd,
+        &ring[..r],
+        &chain[..c],
+        size,
+        &mut nodes[..end],
+        s,
+        &mut cells[..cell_numbers],
+        cell_count,
+    )
+}
+
+// Runs a call and compares all that it leaves with the file.
+fn compared(
+    fd: i32,
+    ring: &[i32],
+    chain: &[i32],
+    size: u32,
+    nodes: &mut [f64],
+    s: State,
+    cells: &mut [u16],
+    cell_count: usize,
+) -> State {
+    let used = s.used;
+    let mut before = [0.0f64; 3072];
+    words::copy(nodes, &mut before);
+    let v = divider::ring_divide(ring, chain, size, nodes, used, cells, cell_count);
+    let row = same::same_row(fd, v);
+    let listed = same::same_nodes(fd, nodes, &before, words::doubled(used));
+    let laid = same::same_cells(fd, cells);
+    s.ran(row & listed & laid, v.nodes as usize)
+}
+
+fn replay_block(fd: i32, s: State) -> State {
+    let number = words::word(fd);
+    let n = words::count(fd);
+    let mut bytes = [0u8; 1024];
+    words::read_bytes(fd, &mut bytes, n);
+    let used = s.used;
+    if 1024 < n {
+        return s.ran(false, used);
+    }
+    let same = same::same_block(fd, number, blocks::read_block(&bytes[..n], number));
+    s.ran(same, used)
+}
+
+fn step(fd: i32, kind: u32, nodes: &mut [f64], s: State) -> State {
+    if kind == 1 {
+        return replay_list(fd, nodes, s);
+    }
+    if kind == 2 {
+        return replay_call(fd, nodes, s);
+    }
+    if kind == 3 {
+        return replay_block(fd, s);
+    }
+    let used = s.used;
+    s.ran(false, used)
+}
+
+// All records of a file, which has fewer than a million.
+fn replay(fd: i32) -> Tally {
+    let mut nodes = [0.0f64; 3072];
+    let tally = Tally { ran: 0, differ: 0 };
+    let mut s = State {
+        places: 0,
+        used: 0,
+        tally,
+    };
+    for _ in 0u32..1000000 {
+        let kind = words::word(fd);
+        if kind == 0 {
+            break;
+        }
+        s = step(fd, kind, &mut nodes, s);
+    }
+    s.tally
+}
+
+fn print(name: &[u8], t: Tally) {
+    io::write_all(STDOUT_FILENO, name);
+    io::write_all(STDOUT_FILENO, b": ");
+    io::print_decimal(STDOUT_FILENO, t.ran);
+    io::write_all(STDOUT_FILENO, b" run, ");
+    io::print_decimal(STDOUT_FILENO, t.differ);
+    io::write_all(STDOUT_FILENO, b" differ\n");
+}
+
+// A file that cannot be opened counts as one that differs.
+fn file(path: &[u8]) -> Tally {
+    let fd = os::open_read(path);
+    if fd < 0 {
+        os::fail(path);
+        return Tally { ran: 0, differ: 1 };
+    }
+    let t = replay(fd);
+    libc::close(fd);
+    print(path, t);
+    t
+}
+
+fn plus(a: Tally, b: Tally) -> Tally {
+    Tally {
+        ran: std::num::wrapping_add_u64(a.ran, b.ran),
+        differ: std::num::wrapping_add_u64(a.differ, b.differ),
+    }
+}
+
+fn main() {
+    let rings = file(b"rings.list");
+    let calls = file(b"calls.list");
+    let read = file(b"blocks.list");
+    print(b"total", plus(plus(rings, calls), read));
+}

@@ -1,0 +1,193 @@
+// Report: the printed lines of an answer, as bytes in a list that the caller lends; the last step in the way of a ring.
+//
+// Each function that writes takes the place to write at and returns the place after it. The three public ones write from
+// the front and return the count of bytes: a list of 4,096 bytes holds every text.
+
+ghost use mathlib.Core.Path.{_≡_};
+ghost use mathlib.Core.Bool.{_&&_, cond};
+ghost use mathlib.Core.List.{[], _∷_};
+ghost use Prim.Native.Nat.{_+_, _*_, _/_, _≤_, _<_};
+ghost use lib.ListN.{length, getD};
+ghost use lib.Dec.{eqb};
+ghost use Rattle.report.specs.Text.{decimal, part, filled, Written};
+ghost use Rattle.report.specs.Report as Report;
+ghost use Rattle.report.specs.Report.{Printed, holds, fewCells};
+
+// What is printed of an accepted ring, its cells aside: its number, corners after cleaning and cuts, the turned area and
+// the ring's own, both doubled and in units squared, the nodes listed and those added.
+pub struct Divided {
+    pub ring: u64,
+    pub corners: u64,
+    pub cuts: u64,
+    pub turned: u64,
+    pub area: u64,
+    pub nodes: u64,
+    pub added: u64,
+}
+
+fn put_byte(out: &mut [u8], at: usize, b: u8) -> usize
+    requires { ⌜ at < length (now out) ⌝ }
+    ensures { λ r. ⌜ Written (now (out .entry)) at (b ∷ []) r (now (out .exit)) ⌝ }
+{
+    out[at] = b;
+    at + 1
+}
+
+fn digit(n: u64) -> u8
+    requires { ⌜ n < 10 ⌝ }
+    ensures { λ r. ⌜ r ≡ 48 + n ⌝ }
+{
+    48 + n as u8
+}
+
+// The digits before the last, and the last.
+fn put_decimal(out: &mut [u8], at: usize, n: u64) -> usize
+    requires { ⌜ at + length (decimal n) ≤ length (now out) ⌝ }
+    ensures { λ r. ⌜ Written (now (out .entry)) at (decimal n) r (now (out .exit)) ⌝ }
+{
+    if n < 10 {
+        return put_byte(out, at, digit(n));
+    }
+    let next = put_decimal(out, at, n / 10);
+    put_byte(out, next, digit(n % 10))
+}
+
+// What one byte of a form stands for: a '#' for the number n, any other byte for itself.
+fn put_part(out: &mut [u8], at: usize, b: u8, n: u64) -> usize
+    requires { ⌜ at + length (part b n) ≤ length (now out) ⌝ }
+    ensures { λ r. ⌜ Written (now (out .entry)) at (part b n) r (now (out .exit)) ⌝ }
+{
+    if b == b'#' {
+        return put_decimal(out, at, n);
+    }
+    put_byte(out, at, b)
+}
+
+// How many numbers a byte of a form takes.
+fn taken(b: u8) -> usize
+    ensures { λ r. ⌜ (r ≡ cond (eqb b 35) 1 0) × (r ≤ 1) ⌝ }
+{
+    if b == b'#' {
+        return 1;
+    }
+    0
+}
+
+fn number(numbers: &[u64], k: usize) -> u64
+    ensures { λ r. ⌜ r ≡ getD (now (numbers .entry)) k 0 ⌝ }
+{
+    if k < numbers.len() {
+        return numbers[k];
+    }
+    0
+}
+
+// The form with the numbers in place of its '#', in order.
+fn put_filled(out: &mut [u8], at: usize, form: &[u8], numbers: &[u64]) -> usize
+    requires { ⌜ at + length (filled (now form) (now numbers)) ≤ length (now out) ⌝ }
+    ensures { λ r. ⌜ Written (now (out .entry)) at (filled (now (form .entry)) (now (numbers .entry))) r (now (out .exit)) ⌝ }
+{
+    let mut next = at;
+    let mut k = 0;
+    for i in 0..form.len() {
+        let b = form[i];
+        next = put_part(out, next, b, number(numbers, k));
+        k += taken(b);
+    }
+    next
+}
+
+// In two steps, so that no area is too large for 64 bits.
+fn hundredths(area: u64) -> u64
+    ensures { λ r. ⌜ r ≡ Report.hundredths area ⌝ }
+{
+    area / 134217728 * 100 + area % 134217728 * 100 / 134217728
+}
+
+fn put_ring(out: &mut [u8], at: usize, a: Divided) -> usize
+    requires { ⌜ at + length (Report.ringLine a) ≤ length (now out) ⌝ }
+    ensures { λ r. ⌜ Written (now (out .entry)) at (Report.ringLine a) r (now (out .exit)) ⌝ }
+{
+    let numbers = [a.ring, a.corners, a.cuts, a.turned, hundredths(a.area)];
+    put_filled(
+        out,
+        at,
+        b"ring # corners # cuts # turned # area #\n",
+        &numbers,
+    )
+}
+
+fn put_nodes(out: &mut [u8], at: usize, nodes: u64, added: u64) -> usize
+    requires { ⌜ at + length (Report.nodesLine nodes added) ≤ length (now out) ⌝ }
+    ensures { λ r. ⌜ Written (now (out .entry)) at (Report.nodesLine nodes added) r (now (out .exit)) ⌝ }
+{
+    let numbers = [nodes, added];
+    put_filled(out, at, b"nodes # new #\n", &numbers)
+}
+
+fn wide(x: u16) -> u64
+    ensures { λ r. ⌜ r ≡ x ⌝ }
+{
+    x as u64
+}
+
+fn put_quad(out: &mut [u8], at: usize, cells: &[u16], i: usize) -> usize
+    requires { ⌜ (i * 4 + 3 < length (now cells)) × (at + length (Report.quadLine (now cells) i) ≤ length (now out)) ⌝ }
+    ensures { λ r. ⌜ Written (now (out .entry)) at (Report.quadLine (now (cells .entry)) i) r (now (out .exit)) ⌝ }
+{
+    let j = i * 4;
+    let numbers = [
+        wide(cells[j]),
+        wide(cells[j + 1]),
+        wide(cells[j + 2]),
+        wide(cells[j + 3]),
+    ];
+    put_filled(out, at, b"quad # # # #\n", &numbers)
+}
+
+fn put_quads(out: &mut [u8], at: usize, cells: &[u16]) -> usize
+    requires { ⌜ at + length (Report.quadLines (now cells) (length (now cells) / 4)) ≤ length (now out) ⌝ }
+    ensures { λ r. ⌜ Written (now (out .entry)) at (Report.quadLines (now (cells .entry)) (length (now (cells .entry)) / 4)) r (now (out .exit)) ⌝ }
+{
+    let n = cells.len() / 4;
+    let mut next = at;
+    for i in 0..n {
+        next = put_quad(out, next, cells, i);
+    }
+    next
+}
+
+// The lines of an accepted ring and its cells, four node numbers a cell and at most 124 of them.
+pub fn print_ring(out: &mut [u8], a: Divided, cells: &[u16]) -> usize
+    ensures { λ r. ⌜ Printed (holds (now (out .entry)) && fewCells (now (cells .entry))) (now (out .entry)) (Report.ringText a (now (cells .entry))) r (now (out .exit)) ⌝ }
+{
+    if out.len() < 4096 {
+        return 0;
+    }
+    if 496 < cells.len() {
+        return 0;
+    }
+    let nodes = put_ring(out, 0, a);
+    let quads = put_nodes(out, nodes, a.nodes, a.added);
+    put_quads(out, quads, cells)
+}
+
+pub fn print_refused_ring(out: &mut [u8], ring: u64, code: u64, corners: u64, k: u64) -> usize
+    ensures { λ r. ⌜ Printed (holds (now (out .entry))) (now (out .entry)) (Report.refusedRing ring code corners k) r (now (out .exit)) ⌝ }
+{
+    if out.len() < 4096 {
+        return 0;
+    }
+    let numbers = [ring, code, corners, k];
+    put_filled(out, 0, b"ring # refused # # #\n", &numbers)
+}
+
+pub fn print_refused_block(out: &mut [u8], block: u64, code: u64) -> usize
+    ensures { λ r. ⌜ Printed (holds (now (out .entry))) (now (out .entry)) (Report.refusedBlock block code) r (now (out .exit)) ⌝ }
+{
+    if out.len() < 4096 {
+        return 0;
+    }
+    let numbers = [block, code];
+    put_filled(out, 0, b"block # refused #\n", &numbers)
+}

@@ -1,0 +1,85 @@
+//! Divides the square of 1 mm, and has the same square clockwise refused.
+
+/// A row of the table, as in ring_divide.h.
+#[repr(C)]
+#[allow(dead_code)]
+struct Row {
+    code: u64,
+    corners: u64,
+    k: u64,
+    marked: u64,
+    cuts: u64,
+    pieces: u64,
+    turned: u64,
+    area: u64,
+    nodes: u64,
+    cells: u64,
+}
+
+extern "C" {
+    fn ring_divide(
+        ring: *const i32,
+        ring_len: usize,
+        chain: *const i32,
+        chain_len: usize,
+        size: u32,
+        nodes: *mut f64,
+        nodes_len: usize,
+        node_count: usize,
+        cells: *mut u16,
+        cells_len: usize,
+        cell_count: usize,
+    ) -> Row;
+}
+
+/// The node list and the cell list, with how many places of each are used.
+struct Lists {
+    nodes: Vec<f64>,
+    node_count: usize,
+    cells: Vec<u16>,
+    cell_count: usize,
+}
+
+/// A safe call: the library tests all that it is handed.
+fn divide(ring: &[i32], chain: &[i32], size: u32, lists: &mut Lists) -> Row {
+    let (nodes, cells) = (&mut lists.nodes, &mut lists.cells);
+    let row = unsafe {
+        ring_divide(
+            ring.as_ptr(),
+            ring.len(),
+            chain.as_ptr(),
+            chain.len(),
+            size,
+            nodes.as_mut_ptr(),
+            nodes.len(),
+            lists.node_count,
+            cells.as_mut_ptr(),
+            cells.len(),
+            lists.cell_count,
+        )
+    };
+    lists.node_count = row.nodes as usize;
+    row
+}
+
+fn main() {
+    const MM: i32 = 8192;
+    let mut lists = Lists {
+        nodes: vec![0.0; 2 * 1536],
+        node_count: 0,
+        cells: vec![0; 4 * 124],
+        cell_count: 0,
+    };
+    let row = divide(&[0, 0, MM, 0, MM, MM, 0, MM], &[], 1, &mut lists);
+    println!(
+        "code {} corners {} cuts {} pieces {} nodes {} cells {}",
+        row.code, row.corners, row.cuts, row.pieces, row.nodes, row.cells
+    );
+    for cell in lists.cells.chunks(4).take(row.cells as usize) {
+        println!("quad {} {} {} {}", cell[0], cell[1], cell[2], cell[3]);
+    }
+    println!("node 8 at {} {}", lists.nodes[16], lists.nodes[17]);
+
+    let row = divide(&[0, 0, 0, MM, MM, MM, MM, 0], &[], 1, &mut lists);
+    println!("code {} nodes {} cells {}", row.code, row.nodes, row.cells);
+}

@@ -1,0 +1,39 @@
+/* The ring divider as a static library: libdivider.a, made by `rt staticlib divider`.
+ *
+ * Every call is answered, whatever it is handed, and returns a row of the table: code 0 for a divided ring, or the
+ * number of the refusal. Nothing is allocated, and nothing but the two lists is written.
+ *
+ *   ring, chain   coordinates in units of 1/8192 mm, x and y in turn; the lengths count numbers, two a point
+ *   size          sheet size in whole mm, 1 to 2,048
+ *   nodes         the node list, x and y in mm in turn; node_count of its places are used
+ *   cells         the cell list, four node numbers a cell; cell_count of its places are used
+ *
+ * With code 0 the new nodes and cells follow the used ones; 1 to 7 leave all as found; 8 leaves its new nodes and zeros
+ * the cell places that the ring had reserved. Lists may not overlap. A list of length 0 may be any aligned pointer that is not null.
+ */
+#ifndef RING_DIVIDE_H
+#define RING_DIVIDE_H
+
+#include <stddef.h>
+#include <stdint.h>
+
+struct ring_row {
+    uint64_t code;    /* 0, or the refusal 1 to 8 */
+    uint64_t corners; /* of the cleaned ring; with 8, of the piece that fails */
+    uint64_t k;       /* with 8, the failing cell */
+    uint64_t marked;  /* marked edges */
+    uint64_t cuts;
+    uint64_t pieces;
+    uint64_t turned; /* turned area, doubled, in units squared */
+    uint64_t area;   /* area of the cleaned ring, doubled, in units squared */
+    uint64_t nodes;  /* used places of the node list afterwards */
+    uint64_t cells;  /* used places of the cell list afterwards */
+};
+
+struct ring_row ring_divide(const int32_t *ring, size_t ring_len,
+                            const int32_t *chain, size_t chain_len,
+                            uint32_t size,
+                            double *nodes, size_t nodes_len, size_t node_count,
+                            uint16_t *cells, size_t cells_len, size_t cell_count);
+
+#endif
