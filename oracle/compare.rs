@@ -5,6 +5,7 @@
 //! compare calls < CALLS     calls over prefilled lists
 //! compare details FOLDER    the detailed forms of a folder of vectors
 //! compare time < BLOCKS     both sides on the same rings
+//! compare scan              the square on lists with many used nodes
 //! compare memory < BLOCKS   stack and heap of a call on both sides
 
 // Shared with the oracle, which uses all of these.
@@ -77,9 +78,10 @@ fn main() {
         ["calls"] => over_calls(&String::from_utf8(input()).expect("calls are text")),
         ["details", folder] => over_details(folder),
         ["time"] => print!("{}", sides::times(&input())),
+        ["scan"] => print!("{}", sides::scan()),
         ["memory"] => print!("{}", memory::peaks(&input())),
         _ => {
-            eprintln!("use: compare blocks|calls|time|memory < INPUT, or details FOLDER");
+            eprintln!("use: compare blocks|calls|time|memory < INPUT, details FOLDER, or scan");
             std::process::exit(2)
         }
     }

@@ -142,12 +142,12 @@ pub fn times(bytes: &[u8]) -> String {
     let jobs: Vec<Job> = Jobs::new(bytes).flatten().collect();
     let mut out = String::new();
     for used in USED {
-        let list = in_use(used);
+        let list = in_use(NODE_PLACES, used);
         let image = node_image(&list, 0);
         let (mut rust, mut ours) = (Vec::new(), Vec::new());
         for job in &jobs {
             rust.push(one(job, &list));
-            ours.push(library_time(job, &image, used));
+            ours.push(library_time(job, &image, used, REPEATS));
         }
         out.push_str("rust    ");
         report(&mut out, used, rust);
@@ -157,9 +157,34 @@ pub fn times(bytes: &[u8]) -> String {
     out
 }
 
-fn library_time(job: &Job, image: &Guarded<f64>, used: usize) -> u64 {
+/// The square, which asks for nine points, on lists of 65,535 places: the time
+/// of a call, and what each used node adds to it, for one of the nine points.
+pub fn scan() -> String {
+    let square = Job {
+        ring: vec![[0, 0], [8_192, 0], [8_192, 8_192], [0, 8_192]],
+        size: 1,
+        ..Job::default()
+    };
+    let time = |used| {
+        let image = node_image(&in_use(65_535, used), 0);
+        library_time(&square, &image, used, 501)
+    };
+    let empty = time(0);
+    let mut out = String::new();
+    for used in [250, 1_536, 65_500] {
+        let call = time(used);
+        let node = (call as f64 - empty as f64) / (9 * used) as f64;
+        line(
+            &mut out,
+            format_args!("used {used} call {call} ns a node {node:.2} ns"),
+        );
+    }
+    out
+}
+
+fn library_time(job: &Job, image: &Guarded<f64>, used: usize, repeats: usize) -> u64 {
     let mut times = Vec::new();
-    for _ in 0..REPEATS {
+    for _ in 0..repeats {
         let (mut nodes, mut cells) = (image.clone(), cell_image(CELL_PLACES, 0));
         let start = Instant::now();
         let answer = call(whole(job), job, nodes.list(), used, cells.list(), 0);

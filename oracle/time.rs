@@ -17,7 +17,7 @@ pub fn all(bytes: &[u8]) -> String {
     let jobs: Vec<Job> = Jobs::new(bytes).flatten().collect();
     let mut out = String::new();
     for used in USED {
-        let list = in_use(used);
+        let list = in_use(NODE_PLACES, used);
         let times: Vec<u64> = jobs.iter().map(|job| one(job, &list)).collect();
         report(&mut out, used, times);
     }
@@ -25,15 +25,15 @@ pub fn all(bytes: &[u8]) -> String {
 }
 
 /// A list with `used` nodes that no ring asks for.
-pub fn in_use(used: usize) -> NodeList {
+pub fn in_use(places: usize, used: usize) -> NodeList {
     let node = |k: usize| {
         [
-            1000.0 + k as f64 / 80.0 + 1.0e-5,
+            1000.0 + (k % 1_900) as f64 / 80.0 + 1.0e-5,
             1023.0 - k as f64 / 90.0 + 1.0e-5,
         ]
     };
     let nodes: Vec<[f64; 2]> = (0..used).map(node).collect();
-    NodeList::holding(NODE_PLACES, used, &nodes)
+    NodeList::holding(places, used, &nodes)
 }
 
 pub fn one(job: &Job, list: &NodeList) -> u64 {

@@ -56,11 +56,11 @@ module _ (c : ℕ) (ms vs : List ℕ) (n : ℕ) (hn : n ≤ 60) (hm : length ms 
   cell-at = cell-is ∙ sym (ap (λ (l : List Cell). getD l k noCell) (cells-tab c (take n ms) (take n vs) n) ∙ getD-tab (cellOf c (take n ms) (take n vs)) n k noCell h)
 
 -- ---- written out
-length-cells : (cs : List Cell) → length (flatCells cs) ≡ length cs * 4
+pub length-cells : (cs : List Cell) → length (flatCells cs) ≡ length cs * 4
 length-cells [] = refl
 length-cells (c ∷ cs) = omega (arith, length-cells cs)
 
-cells-append : (cs ds : List Cell) → flatCells (cs ++ ds) ≡ flatCells cs ++ flatCells ds
+pub cells-append : (cs ds : List Cell) → flatCells (cs ++ ds) ≡ flatCells cs ++ flatCells ds
 cells-append [] ds = refl
 cells-append (c ∷ cs) ds = ap (λ (l : List ℕ). four c ++ l) (cells-append cs ds)
 

@@ -27,7 +27,8 @@ use Rattle.nodes.proofs.Flat.{length-in, node-in, in-over, length-over, over-ov
 use Rattle.cells.specs.declared.Tried.{Tried}
 use Rattle.cells.specs.Cells.{tooFar, edgeMiddle, total, mean, holds, cellsTo, noCell, Attempt, attempt}
 use Rattle.cells.specs.Stages.{marksOf}
-use Rattle.cells.specs.Flat.{marksIn, partIn, cornerAt, CanAdd, Adds, ListedTo, endAt, middleAt, farAt, overCells, attemptIn, triedOf, CanTry}
+use Rattle.marks.specs.Edges.{marksIn}
+use Rattle.cells.specs.Flat.{partIn, cornerAt, CanAdd, Adds, ListedTo, endAt, middleAt, farAt, overCells, attemptIn, triedOf, CanTry}
 use Rattle.cells.proofs.Ranges.{corner-ranged, middle-ranged, mean-ranged, edge-by}
 use Rattle.cells.proofs.Adding as adding
 use Rattle.cells.proofs.Turns as turns

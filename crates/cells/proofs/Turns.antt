@@ -12,7 +12,7 @@ use Rattle.laws.specs.Double.{_+f_}
 use Rattle.marks.specs.declared.Edge.{Edge}
 use Rattle.marks.specs.declared.EdgeMark.the-variants.{Straight}
 use Rattle.cells.specs.Cells.{total}
-use Rattle.cells.specs.Flat.{marksIn}
+use Rattle.marks.specs.Edges.{marksIn}
 
 pub total-next : (f : ℕ → Float) (i : ℕ) (x q : Float) → x ≡ total f i → q ≡ f i → x +f q ≡ total f (i + 1)
 unfolding total

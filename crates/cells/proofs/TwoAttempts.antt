@@ -19,7 +19,8 @@ use Rattle.nodes.proofs.Flat.{in-over, length-over, over-over}
 use Rattle.cells.specs.declared.Tried.{Tried}
 use Rattle.cells.specs.Cells.{Attempt, attempt, subdivide}
 use Rattle.cells.specs.Stages.{marksOf, straight}
-use Rattle.cells.specs.Flat.{marksIn, partIn, overCells, attemptIn, subdivideIn, triedOf, CanTry, CanDivide}
+use Rattle.marks.specs.Edges.{marksIn}
+use Rattle.cells.specs.Flat.{partIn, overCells, attemptIn, subdivideIn, triedOf, CanTry, CanDivide}
 use Rattle.cells.proofs.Attempts.{attempt-any, subdivide-by}
 use Rattle.cells.proofs.Ranges.{attempt-ranged, straight≢snap}
 use Rattle.cells.proofs.NewCells.{attempt-cells}

@@ -4,7 +4,7 @@
 use Prim.Native.Nat.{ℕ, suc, _*_, _%_, _≤_, _<_}
 use mathlib.Core.Bool.{Bool, _&&_}
 use mathlib.Core.Path.{_≡_}
-use mathlib.Core.List.{List, [], _∷_, _++_, map}
+use mathlib.Core.List.{List, [], _∷_, _++_}
 use lib.ListN.{length, getD, take, drop}
 use lib.Ieee.{Float}
 use Rattle.vector.specs.declared.GridPoint.{GridPoint}
@@ -15,6 +15,7 @@ use Rattle.marks.specs.declared.Edge.{Edge}
 use Rattle.marks.specs.declared.EdgeMark.{EdgeMark}
 use Rattle.marks.specs.declared.EdgeMark.the-variants.{Straight}
 use Rattle.marks.specs.Part.{Part}
+use Rattle.marks.specs.Edges.{marksIn}
 use Rattle.nodes.specs.Nodes.{nodeAt, addNodes}
 use Rattle.nodes.specs.Growth.{InRange}
 use Rattle.nodes.specs.Flat.{nodesIn, over, Usable}
@@ -26,10 +27,6 @@ use Rattle.cells.specs.Stages.{marksOf}
 use Rattle.cells.specs.Claims.{Fair}
 
 -- ---- the piece that arrays hold
--- the marks of the first n edges
-abbrev pub marksIn : List Edge → ℕ → List EdgeMark
-marksIn es n = map (λ (e : Edge). e .mark) (take n es)
-
 abbrev pub partIn : List GridPoint → List Edge → ℕ → Part
 partIn ps es n = record { points = take n ps; edges = marksIn es n }
 

@@ -15,28 +15,17 @@ use borrow.Author.Tests.{eqb-true, eqb-false, le-leb, lt-leb}
 use Rattle.laws.specs.Double.{nat, lit, clamp, _+f_, _-f_, _/f_, _<f_, _≤f_}
 use Rattle.laws.specs.Bounded.{first}
 use Rattle.laws.specs.Table.{tab}
-use Rattle.laws.proofs.Table.{getD-tab}
+use Rattle.laws.proofs.Search.{first-ext}
+use Rattle.laws.proofs.Table.{read-tab}
 use Rattle.vector.specs.declared.GridPoint.{GridPoint}
 use Rattle.vector.specs.declared.Point.{Point}
 use Rattle.vector.specs.Grid.{origin, sub, same}
 use Rattle.vector.specs.Plane.{inMm, lerp}
 use Rattle.root.specs.Norm.{gridDist}
 use Rattle.chain.specs.Cosine.{cosine}
+use Rattle.chain.specs.Kept.{stepTo}
 use Rattle.chain.specs.Chain as Chain
 use Rattle.chain.specs.Chain.{pointAt}
-
--- ---- reading
--- an array whose first n places are a table
-pub read-tab {ℓ} : {A : Type ℓ} (l : List A) (f : ℕ → A) (n i : ℕ) (d : A) → take n l ≡ tab f n → i < n → getD l i d ≡ f i
-read-tab l f n i d e h = sym (getD-take n l i d h) ∙ ap (λ (m : List _). getD m i d) e ∙ getD-tab f n i d h
-
-pub first-ext : (p q : ℕ → Bool) (d i : ℕ) → ((k : ℕ) → i ≤ k → k < i + d → p k ≡ q k) → first p d i ≡ first q d i
-unfolding first
-first-ext p q zero i h = refl
-first-ext p q (suc d) i h =
-    let a = h i (omega arith) (omega arith) in
-    let b = first-ext p q d (suc i) (λ k l m. h k (omega arith) (omega arith)) in
-    λ j. cond (a j) i (b j)
 
 -- ---- lengths
 module _ (ps : List GridPoint) (n : ℕ) where
@@ -48,6 +37,24 @@ module _ (ps : List GridPoint) (n : ℕ) where
       let b = sym (getD-take n ps i origin l) ∙ ap (pointAt (take n ps)) (sym f) in
       let g : d ≡ gridDist (pointAt (take n ps) (i - 1)) (pointAt (take n ps) (suc (i - 1))) = ed ∙ (λ j. gridDist (a j) (b j)) in
       (λ j. ex j +f g j) ∙ ap (Chain.arc (take n ps)) f
+
+  -- the step to the point i, and the step after it unless it is the last
+  pub step-more : (i : ℕ) → 0 < i → i < n → (d : Float) → d ≡ gridDist (getD ps i origin) (getD ps (i - 1) origin) → d ≡ stepTo (take n ps) i
+  unfolding stepTo
+  step-more i p l d ed =
+      let f : suc (i - 1) ≡ i = omega arith in
+      let a = sym (getD-take n ps (i - 1) origin (omega arith)) in
+      let b = sym (getD-take n ps i origin l) ∙ ap (pointAt (take n ps)) (sym f) in
+      ed ∙ (λ j. gridDist (b j) (a j)) ∙ ap (stepTo (take n ps)) f
+
+  pub step-in : (st : List Float) → take n st ≡ tab (stepTo (take n ps)) n → (i : ℕ) → 0 < i → i < n → getD st i nan ≡ gridDist (getD ps i origin) (getD ps (i - 1) origin)
+  step-in st e i p l = read-tab st (stepTo (take n ps)) n i nan e l ∙ sym (step-more i p l (gridDist (getD ps i origin) (getD ps (i - 1) origin)) refl)
+
+  pub step-after : (st : List Float) → take n st ≡ tab (stepTo (take n ps)) n → (i j : ℕ) → i < n → j ≡ (i + 1) % n → eqb (i + 1) n ≡ false → getD st j nan ≡ gridDist (getD ps j origin) (getD ps i origin)
+  step-after st e i j l ej k =
+      let z : i + 1 < n = let y = eqb-false (i + 1) n k in omega arith in
+      let h : i + 1 - 1 ≡ i = omega arith in
+      rw (ej ∙ mod-eq-of-lt z) (step-in st e (i + 1) (omega arith) z ∙ ap (λ (m : ℕ). gridDist (getD ps (i + 1) origin) (getD ps m origin)) h)
 
 -- the point at a length, on the step from a, at the length low, to b, at the length high
 abbrev pub onStep : GridPoint → Float → GridPoint → Float → Float → Point

@@ -4,7 +4,7 @@
 // the diagonals of the split. A chain is the first n places of an array of grid points; its lengths are in mm.
 
 ghost use mathlib.Core.Path.{_≡_};
-ghost use mathlib.Core.Bool.{_||_, cond};
+ghost use mathlib.Core.Bool.{false, _||_, cond};
 ghost use Prim.Native.Nat.{suc, _-_, _≤_, _<_};
 ghost use lib.ListN.{take, getD};
 ghost use lib.Ieee.{nan};
@@ -18,7 +18,7 @@ ghost use Rattle.vector.specs.Size.{OnSheet, Step, AllOnSheet};
 ghost use Rattle.root.specs.Norm as Norm;
 ghost use Rattle.chain.specs.Cosine as Cosine;
 ghost use Rattle.chain.specs.Chain as Chain;
-ghost use Rattle.chain.specs.Kept.{Simplifies};
+ghost use Rattle.chain.specs.Kept.{stepTo, Simplifies};
 use vector::GridPoint;
 use vector::Point;
 
@@ -58,22 +58,34 @@ pub fn cosine(a: GridPoint, na: f64, b: GridPoint, nb: f64) -> f64
     clamp(vector::square_mm(a.dot(b)) / (na * nb), -1.0, 1.0)
 }
 
-// The length of the chain up to each of its points.
-fn arcs(chain: [GridPoint; 60], n: usize) -> [f64; 60]
+// The length of the step to each point of a chain, and of the chain up to it.
+struct Steps {
+    step: [f64; 60],
+    arc: [f64; 60],
+}
+
+// Every step of the chain is measured once.
+fn measure(chain: [GridPoint; 60], n: usize) -> Steps
     requires { ⌜ (1 ≤ n) × (n ≤ 60) × AllOnSheet chain ⌝ }
-    ensures { λ r. ⌜ take n r ≡ tab (Chain.arc (take n chain)) n ⌝ }
+    ensures { λ r. ⌜ (take n (r .step) ≡ tab (stepTo (take n chain)) n) × (take n (r .arc) ≡ tab (Chain.arc (take n chain)) n) ⌝ }
 {
+    let mut step = [0.0; 60];
     let mut arc = [0.0; 60];
     for i in 1..n {
-        arc[i] = arc[i - 1] + root::grid_dist(chain[i - 1], chain[i]);
+        let d = root::grid_dist(chain[i], chain[i - 1]);
+        step[i] = d;
+        arc[i] = arc[i - 1] + d;
     }
-    arc
+    Steps {
+        step: step,
+        arc: arc,
+    }
 }
 
 // The first step of the chain that ends at the length s or beyond it, or the last step.
-fn step_at(arc: [f64; 60], n: usize, s: f64) -> usize
+fn step_at(arc: &[f64; 60], n: usize, s: f64) -> usize
     requires { ⌜ (2 ≤ n) × (n ≤ 60) ⌝ }
-    ensures { λ r. ⌜ (r ≡ first (λ i. s ≤f getD arc (suc i) nan) (n - 2) 0) × (r ≤ n - 2) ⌝ }
+    ensures { λ r. ⌜ (r ≡ first (λ i. s ≤f getD (now (arc .entry)) (suc i) nan) (n - 2) 0) × (r ≤ n - 2) ⌝ }
 {
     for i in 0..n - 2 {
         if s <= arc[i + 1] {
@@ -96,8 +108,8 @@ fn between(a: GridPoint, low: f64, b: GridPoint, high: f64, s: f64) -> Point
 }
 
 // The point of the chain at the length s.
-pub fn point_at_arclength(chain: [GridPoint; 60], arc: [f64; 60], n: usize, s: f64) -> Point
-    requires { ⌜ (2 ≤ n) × (n ≤ 60) × (take n arc ≡ tab (Chain.arc (take n chain)) n) ⌝ }
+pub fn point_at_arclength(chain: [GridPoint; 60], arc: &[f64; 60], n: usize, s: f64) -> Point
+    requires { ⌜ (2 ≤ n) × (n ≤ 60) × (take n (now arc) ≡ tab (Chain.arc (take n chain)) n) ⌝ }
     ensures { λ r. ⌜ r ≡ Chain.pointAtArclength (take n chain) s ⌝ }
 {
     let i = step_at(arc, n, s);
@@ -105,9 +117,9 @@ pub fn point_at_arclength(chain: [GridPoint; 60], arc: [f64; 60], n: usize, s: f
 }
 
 // Whether the chain point b stays, between a and c: it is the last, touches a step of no length, or turns by more than
-// 25 degrees.
-fn stays(a: GridPoint, b: GridPoint, c: GridPoint, last: bool) -> bool
-    requires { ⌜ OnSheet a × OnSheet b × OnSheet c ⌝ }
+// 25 degrees. The lengths of the two steps come in.
+fn stays(a: GridPoint, b: GridPoint, c: GridPoint, nu: f64, nv: f64, last: bool) -> bool
+    requires { ⌜ OnSheet a × OnSheet b × OnSheet c × (nu ≡ Norm.gridDist b a) × (last ≡ false → nv ≡ Norm.gridDist c b) ⌝ }
     ensures { λ r. ⌜ r ≡ (last || Grid.same (Grid.sub b a) Grid.origin || Grid.same (Grid.sub c b) Grid.origin || (Cosine.cosine (Grid.sub b a) (Grid.sub c b) <f lit 9063077870366499 16)) ⌝ }
 {
     let u = b.sub(a);
@@ -121,7 +133,7 @@ fn stays(a: GridPoint, b: GridPoint, c: GridPoint, last: bool) -> bool
     if v.is_zero() {
         return true;
     }
-    cosine(u, root::grid_norm(u), v, root::grid_norm(v)) < 0.9063077870366499
+    cosine(u, nu, v, nv) < 0.9063077870366499
 }
 
 // The points of the chain that stay, and the snap point of each stretch between them, at half its length.
@@ -139,14 +151,23 @@ pub fn simplify_chain(chain: [GridPoint; 60], n: usize) -> Simplified
             count: count,
         };
     }
-    let arc = arcs(chain, n);
+    let l = measure(chain, n);
+    let step = l.step;
+    let arc = l.arc;
     points[0] = chain[0];
     let mut previous = 0;
     for i in 1..n {
         let after = vector::next(i, n); // not looked at where i is the last
-        if stays(chain[i - 1], chain[i], chain[after], i + 1 == n) {
+        if stays(
+            chain[i - 1],
+            chain[i],
+            chain[after],
+            step[i],
+            step[after],
+            i + 1 == n,
+        ) {
             let half = 0.5 * (arc[previous] + arc[i]);
-            snaps[count] = point_at_arclength(chain, arc, n, half);
+            snaps[count] = point_at_arclength(chain, &arc, n, half);
             count += 1;
             points[count] = chain[i];
             previous = i;

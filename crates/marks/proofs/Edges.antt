@@ -18,7 +18,7 @@ use Rattle.vector.specs.Grid.{at}
 use Rattle.chain.specs.declared.Simplified.{Simplified}
 use Rattle.chain.specs.Chain.{Stretch, noStretch}
 use Rattle.chain.specs.Kept.{stretchIn, stretchesIn}
-use Rattle.chain.proofs.Walk.{first-ext}
+use Rattle.laws.proofs.Search.{first-ext}
 use Rattle.marks.specs.declared.Edge.{Edge}
 use Rattle.marks.specs.declared.EdgeMark.{EdgeMark}
 use Rattle.marks.specs.declared.EdgeMark.the-variants.{Straight, Snap}

@@ -50,20 +50,8 @@ fn joins(p: GridPoint, q: GridPoint, a: GridPoint, b: GridPoint) -> bool
     runs(p, q, b, a)
 }
 
-// The first of the stretches between neighbours of the first count + 1 points that joins a and b, or count.
-fn stretch_of(points: [GridPoint; 60], count: usize, a: GridPoint, b: GridPoint) -> usize
-    requires { ⌜ count ≤ 59 ⌝ }
-    ensures { λ r. ⌜ ((snaps : List Point) → r ≡ first (λ j. Marks.joins a b (stretchIn points snaps j)) count 0) × (r ≤ count) ⌝ }
-{
-    for j in 0..count {
-        if joins(points[j], points[j + 1], a, b) {
-            return j;
-        }
-    }
-    count
-}
-
-// The marks of the ring of the first n points along the simplified chain.
+// The marks of the ring of the first n points along the simplified chain. The search for an edge ends at the first stretch
+// that joins its ends.
 pub fn mark_edges(ring: [GridPoint; 60], n: usize, chain: Simplified) -> [Edge; 60]
     requires { ⌜ (n ≤ 60) × (chain .count ≤ 59) ⌝ }
     ensures { λ r. ⌜ Marked (stretchesIn chain) (take n ring) n r ⌝ }
@@ -76,11 +64,15 @@ pub fn mark_edges(ring: [GridPoint; 60], n: usize, chain: Simplified) -> [Edge; 
     let snaps = chain.snaps;
     let count = chain.count;
     for i in 0..n {
-        let j = stretch_of(points, count, ring[i], ring[vector::next(i, n)]);
-        if j < count {
-            edges[i] = Edge {
-                mark: EdgeMark::Snap(snaps[j]),
-            };
+        let a = ring[i];
+        let b = ring[vector::next(i, n)];
+        'search: for j in 0..count {
+            if joins(points[j], points[j + 1], a, b) {
+                edges[i] = Edge {
+                    mark: EdgeMark::Snap(snaps[j]),
+                };
+                break 'search;
+            }
         }
     }
     edges

@@ -1,10 +1,10 @@
 -- The scan's quick test: a coordinate whose scaled value is within 1 of a whole number k is the only kind that has the key
 -- k. So where the square of the rounded difference is 2 or more, the key is another.
-use mathlib.Core.Path.{_≡_, sym, ap, _∙_, subst}
+use mathlib.Core.Path.{_≡_, refl, sym, ap, _∙_, subst}
 use Prim.Native.Nat.{ℕ, _+_, _*_, _/_, _%_, _^_, _≤_, _<_, zero-le}
 use native.Mathlib.Nat.{le-trans, div-add-mod', mod-lt, mul-le-mul-right, mul-pos}
 use native.Mathlib.Omega.{arith}
-use mathlib.Core.Bool.{true, false}
+use mathlib.Core.Bool.{Bool, true, false, not}
 use lib.IntN.{ℤ, pos, negℤ, natAbs}
 use lib.Dec.{T, lit≤}
 use lib.Ieee.{Float, fin, binary64, up, down, mul, sub, le, ofInt, fits}
@@ -21,6 +21,10 @@ use Rattle.laws.proofs.Integers.{posp, negp, neg-parts}
 use Rattle.laws.proofs.Grid.{IsZ, isZ-val, scaled-isZ}
 use Rattle.laws.proofs.Scaled.{ofInt-scaled}
 use Rattle.nodes.specs.Nodes.{rounded, key}
+use Rattle.laws.specs.Integer.{eqZ}
+use Rattle.nodes.specs.declared.SoughtKey.{SoughtKey}
+use Rattle.nodes.specs.Flat.{Sought, near}
+use Rattle.nodes.proofs.KeyTests.{eqZ-no}
 use Rattle.nodes.proofs.Rounding.{e8, halfUp, key-is, scaled-1024}
 
 int-val : (z : ℤ) → natAbs z ≤ 2 ^ 53 → Val (ofInt binary64 z) (posp z) (negp z) 1
@@ -98,3 +102,12 @@ off x v = sub binary64 (mul binary64 x e8) v
 
 pub skip : (k : ℤ) (x : Float) → Within 1024 x → natAbs k ≤ 102400000000 → le (fin false 1 (pos 1)) (mul binary64 (off x (ofInt binary64 k)) (off x (ofInt binary64 k))) ≡ true → k ≡ key x → ⊥
 skip k x w h t e = small-square (off x (ofInt binary64 k)) (close k (mul binary64 x e8) (scaled-1024 x w .0) h (key-is x ∙ sym e)) (subst T (sym t) tt)
+
+-- so a coordinate that is not near a key has another
+pub other : (w : SoughtKey) (x : Float) → Within 1024 x → Sought w → near (w .value) x ≡ false → eqZ (w .key) (key x) ≡ false
+unfolding near ofInt
+other w x h so e = eqZ-no _ _ (skip (w .key) x h (so .small) (denied _ (ap (λ (u : SoughtKey). near (u .value) x) (sym (so .same)) ∙ e)))
+  where
+    denied : (b : Bool) → not b ≡ false → b ≡ true
+    denied true d = refl
+    denied false d = sym d

@@ -6,15 +6,16 @@
 
 ghost use mathlib.Core.Path.{_≡_};
 ghost use mathlib.Core.Bool.{_&&_};
-ghost use Prim.Native.Nat.{_*_, _≤_};
+ghost use Prim.Native.Nat.{_+_, _-_, _*_, _≤_};
 ghost use lib.ListN.{length};
 ghost use lib.IntN.{natAbs};
 ghost use Rattle.laws.specs.Within.{Within};
+ghost use Rattle.laws.specs.Bounded.{any, first};
 ghost use Rattle.laws.specs.Integer.{eqZ};
 ghost use Rattle.nodes.specs.Nodes as Nodes;
 ghost use Rattle.nodes.specs.Nodes.{number, addNode};
 ghost use Rattle.nodes.specs.Growth.{InRange};
-ghost use Rattle.nodes.specs.Flat.{nodesIn, over, Usable, placed, soughtKey, Sought};
+ghost use Rattle.nodes.specs.Flat.{pointAt, nodesIn, over, Usable, placed, soughtKey, Sought, near, hasAt};
 use vector::Point;
 
 // A coordinate's key to look for, and the same as a double.
@@ -58,18 +59,23 @@ impl SoughtKey {
         }
     }
 
-    // Whether x has this key. A coordinate that is not near it is settled by one comparison, which is nearly always
-    // the same way: a scan's cost is that of the comparison.
+    // Whether x is near enough to have this key. That is one comparison, and nearly always it is not.
+    pub fn is_near(self, x: f64) -> bool
+        ensures { λ r. ⌜ r ≡ near (self .value) x ⌝ }
+    {
+        let d = x * 1.0e8 - self.value;
+        !(d * d >= 2.0)
+    }
+
     pub fn is_key_of(self, x: f64) -> bool
         requires { ⌜ Within 1024 x × Sought self ⌝ }
         ensures { λ r. ⌜ r ≡ eqZ (self .key) (Nodes.key x) ⌝ }
     {
-        let d = x * 1.0e8 - self.value;
-        if d * d >= 2.0 {
-            return false;
+        if self.is_near(x) {
+            let k = key(x);
+            return k == self.key;
         }
-        let k = key(x);
-        k == self.key
+        false
     }
 }
 
@@ -84,19 +90,58 @@ pub fn has_key(kx: SoughtKey, ky: SoughtKey, x: f64, y: f64) -> bool
     false
 }
 
-// The first used place with p's key, or `used`.
+// The first place with the two keys among those from `from` on, or `to`.
+fn find_in(nodes: &[f64], from: usize, to: usize, kx: SoughtKey, ky: SoughtKey) -> usize
+    requires { ⌜ Usable (now nodes) to × (from ≤ to) × Sought kx × Sought ky ⌝ }
+    ensures { λ r. ⌜ r ≡ first (hasAt (now (nodes .entry)) (kx .key) (ky .key)) (to - from) from ⌝ }
+{
+    for i in from..to {
+        if has_key(kx, ky, nodes[i * 2], nodes[i * 2 + 1]) {
+            return i;
+        }
+    }
+    to
+}
+
+// Whether one of the 16 nodes from place i on is near the key. Nothing ends the loop, so that two are judged at once.
+fn any_near(nodes: &[f64], i: usize, kx: SoughtKey) -> bool
+    requires { ⌜ (i + 16) * 2 ≤ length (now nodes) ⌝ }
+    ensures { λ r. ⌜ r ≡ any (λ j. near (kx .value) (pointAt (now (nodes .entry)) (i + j) .x)) 16 ⌝ }
+{
+    let mut found = false;
+    for j in 0..16 {
+        found = found | kx.is_near(nodes[(i + j) * 2]);
+    }
+    found
+}
+
+// The first of these 16 places with the two keys, or the place after them.
+fn find_block(nodes: &[f64], i: usize, kx: SoughtKey, ky: SoughtKey) -> usize
+    requires { ⌜ Usable (now nodes) (i + 16) × Sought kx × Sought ky ⌝ }
+    ensures { λ r. ⌜ r ≡ first (hasAt (now (nodes .entry)) (kx .key) (ky .key)) 16 i ⌝ }
+{
+    if any_near(nodes, i, kx) {
+        return find_in(nodes, i, i + 16, kx, ky);
+    }
+    i + 16
+}
+
+// The first used place with p's key, or `used`. What is left after the last 16 is looked at one by one.
 pub fn find(nodes: &[f64], used: usize, p: Point) -> usize
     requires { ⌜ Usable (now nodes) used × InRange p ⌝ }
     ensures { λ r. ⌜ r ≡ number (nodesIn (now (nodes .entry)) used) p ⌝ }
 {
     let kx = SoughtKey::new(p.x);
     let ky = SoughtKey::new(p.y);
-    for i in 0..used {
-        if has_key(kx, ky, nodes[i * 2], nodes[i * 2 + 1]) {
-            return i;
+    let mut i = 0;
+    while i + 16 <= used {
+        let k = find_block(nodes, i, kx, ky);
+        if k < i + 16 {
+            return k;
         }
+        i += 16;
     }
-    used
+    find_in(nodes, i, used, kx, ky)
 }
 
 // p's number: the first place with its key, or else a new place, where p is written.

@@ -10,18 +10,10 @@ use borrow.Rule.Slice.PartMut.{putMid}
 use Rattle.cells.specs.declared.Cell.{Cell}
 use Rattle.cells.specs.Cells.{noCell}
 use Rattle.cells.specs.Flat.{four, flatCells, overCells}
-use Rattle.cells.proofs.CellList.{length-over, over-over, over-none}
+use Rattle.cells.proofs.CellList.{length-cells, cells-append, length-over, over-over, over-none}
 use Rattle.pieces.specs.Flat.{overFrom}
 
 -- ---- written out
-length-flat : (cs : List Cell) → length (flatCells cs) ≡ length cs * 4
-length-flat [] = refl
-length-flat (c ∷ cs) = omega (arith, length-flat cs)
-
-flat-append : (cs ds : List Cell) → flatCells (cs ++ ds) ≡ flatCells cs ++ flatCells ds
-flat-append [] ds = refl
-flat-append (c ∷ cs) ds = ap (λ (l : List ℕ). four c ++ l) (flat-append cs ds)
-
 flat-zero : (n : ℕ) → replicate (n * 4) 0 ≡ flatCells (replicate n noCell)
 flat-zero zero = refl
 flat-zero (suc n) = let e : suc n * 4 ≡ suc (suc (suc (suc (n * 4)))) = omega arith in rw e (ap (λ (l : List ℕ). four noCell ++ l) (flat-zero n))
@@ -58,7 +50,7 @@ module _ (q : List ℕ) (a : ℕ) (cs ds : List Cell) (h : (a + length cs) * 4 �
   rest = drop (length cs * 4) (drop (a * 4) q)
 
   length-front : length front ≡ (a + length cs) * 4
-  length-front = omega (arith, length-append (take (a * 4) q) (flatCells cs), length-take-le (a * 4) q (omega arith), length-flat cs)
+  length-front = omega (arith, length-append (take (a * 4) q) (flatCells cs), length-take-le (a * 4) q (omega arith), length-cells cs)
 
   parted : overFrom q a cs ≡ front ++ rest
   unfolding overFrom overCells
@@ -78,7 +70,7 @@ module _ (q : List ℕ) (a : ℕ) (cs ds : List Cell) (h : (a + length cs) * 4 �
       joined t d z = unfold overFrom overCells in
           (λ j. t j ++ (flatCells ds ++ drop (length ds * 4) (d j)))
           ∙ append-assoc (take (a * 4) q) (flatCells cs) (flatCells ds ++ drop (length ds * 4) rest)
-          ∙ ap (λ (l : List ℕ). take (a * 4) q ++ l) (sym (append-assoc (flatCells cs) (flatCells ds) (drop (length ds * 4) rest)) ∙ (λ j. sym (flat-append cs ds) j ++ z j))
+          ∙ ap (λ (l : List ℕ). take (a * 4) q ++ l) (sym (append-assoc (flatCells cs) (flatCells ds) (drop (length ds * 4) rest)) ∙ (λ j. sym (cells-append cs ds) j ++ z j))
 
 -- cells over cells, no fewer
 pub from-again : (q : List ℕ) (a : ℕ) (cs ds : List Cell) → a * 4 ≤ length q → length cs ≤ length ds → overFrom (overFrom q a cs) a ds ≡ overFrom q a ds

@@ -4,7 +4,7 @@ use mathlib.Core.Bool.{Bool, true, false, cond, true≢false}
 use Prim.Native.Nat.{ℕ, zero, suc, _+_, _-_, _*_, _/_, _^_, _≤_, _<_, compare}
 use native.Mathlib.Nat.{le-trans, le-of-eq, lt-of-le-of-lt, zero-mul, mul-right-comm, mul-le-mul, mul-le-mul-right, mul-lt-mul-of-pos-right, div-lt-iff-lt-mul}
 use native.Mathlib.Omega.{arith}
-use lib.IntN.{ℤ, pos, negsuc, natAbs, _+ℤ_, _*ℤ_}
+use lib.IntN.{ℤ, pos, negsuc, natAbs, negℤ, _+ℤ_, _-ℤ_, _*ℤ_, negℤ-negℤ, negℤ-+ℤ, +ℤ-comm}
 use lib.Dec.{leb, lit<, lit≤}
 use lib.Pow.{pow-add, pow-pos, pow-mono, pow-lt}
 use lib.Ieee.{Float, inf, fin, binary64, up, down, size, units}
@@ -103,3 +103,19 @@ gridNorm-within v s =
 pub gridDist-within : (a b : GridPoint) → OnSheet a → OnSheet b → Within (2 ^ 14) (gridDist a b)
 unfolding gridDist Grid.sub
 gridDist-within a b h k = gridNorm-within (Grid.sub a b) (record { x = diff-small (a .x) (b .x) (h .x) (k .x); y = diff-small (a .y) (b .y) (h .y) (k .y) })
+
+-- ---- a distance is the same from either end
+sub-flip : (a b : ℤ) → b -ℤ a ≡ negℤ (a -ℤ b)
+sub-flip a b = sym (negℤ-+ℤ a (negℤ b) ∙ ap (λ (z : ℤ). negℤ a +ℤ z) (negℤ-negℤ b) ∙ +ℤ-comm (negℤ a) b)
+
+square-flip : (z : ℤ) → negℤ z *ℤ negℤ z ≡ z *ℤ z
+square-flip (pos zero) = refl
+square-flip (pos (suc n)) = refl
+square-flip (negsuc n) = refl
+
+square-sub : (a b : ℤ) → (b -ℤ a) *ℤ (b -ℤ a) ≡ (a -ℤ b) *ℤ (a -ℤ b)
+square-sub a b = ap (λ (z : ℤ). z *ℤ z) (sub-flip a b) ∙ square-flip (a -ℤ b)
+
+pub gridDist-comm : (a b : GridPoint) → gridDist b a ≡ gridDist a b
+unfolding gridDist gridNorm Grid.sub Grid.dot
+gridDist-comm a b = λ i. rootOf (Units.mm² (square-sub (a .x) (b .x) i +ℤ square-sub (a .y) (b .y) i))

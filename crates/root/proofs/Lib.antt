@@ -2,6 +2,7 @@
 pub mod NearestRoot
 pub mod Trials
 pub mod Length
+pub mod AtLeast
 -- What they and the code's proofs rest on: whole numbers, then doubles.
 pub mod Square
 pub mod Heron

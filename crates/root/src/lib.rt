@@ -5,6 +5,7 @@
 ghost use mathlib.Core.Path.{_≡_};
 ghost use Prim.Native.Nat.{_*_, _^_, _≤_, _<_};
 ghost use lib.Ieee.{binary64, ofBits};
+ghost use Rattle.laws.specs.Double.{_≤f_};
 ghost use Rattle.vector.specs.Size.{OnSheet, Step};
 ghost use Rattle.root.specs.Root.{IsRoot, rootOf, rootBits};
 ghost use Rattle.root.specs.Norm as Norm;
@@ -127,6 +128,34 @@ pub fn grid_dist(a: GridPoint, b: GridPoint) -> f64
     ensures { λ r. ⌜ r ≡ Norm.gridDist a b ⌝ }
 {
     grid_norm(a.sub(b))
+}
+
+// Whether a root, or a distance, is at most t. From 2 ^ -24 on no root is below 2 ^ -12, so that a t below that, as the
+// tolerance of every sheet is, needs no root to be taken where the points are not close.
+fn root_at_most(x: f64, t: f64) -> bool
+    ensures { λ r. ⌜ r ≡ (rootOf x ≤f t) ⌝ }
+{
+    if 5.9604644775390625e-8 <= x {
+        if t < 2.44140625e-4 {
+            return false;
+        }
+    }
+    root(x) <= t
+}
+
+pub fn dist_at_most(a: Point, b: Point, t: f64) -> bool
+    ensures { λ r. ⌜ r ≡ (Norm.dist a b ≤f t) ⌝ }
+{
+    let v = a.sub(b);
+    root_at_most(v.dot(v), t)
+}
+
+pub fn grid_dist_at_most(a: GridPoint, b: GridPoint, t: f64) -> bool
+    requires { ⌜ OnSheet a × OnSheet b ⌝ }
+    ensures { λ r. ⌜ r ≡ (Norm.gridDist a b ≤f t) ⌝ }
+{
+    let v = a.sub(b);
+    root_at_most(vector::square_mm(v.dot(v)), t)
 }
 
 // The two for C and Rust to call (`bench/root` runs them beside the processor's own).

@@ -56,34 +56,21 @@ fn load(vs: [Vertex; 124], a: usize, n: usize) -> [Vertex; 60]
     out
 }
 
-// n corners put at place a.
-fn store(vs: [Vertex; 124], a: usize, ps: [Vertex; 60], n: usize) -> [Vertex; 124]
-    requires { ⌜ (n ≤ 60) × (a + n ≤ 124) × Below vs × Below ps ⌝ }
-    ensures { λ r. ⌜ Layout.Stored vs a ps n r × Below r ⌝ }
-{
-    let mut out = vs;
-    for i in 0..n {
-        let c = ps[i];
-        out[a + i] = c;
-    }
-    out
-}
-
 // One part more, of n corners.
 fn push(p: PartList, ps: [Vertex; 60], n: usize) -> PartList
     requires { ⌜ Layout.Kept p × (p .count < 33) × (3 ≤ n) × (n ≤ 60) × (Layout.end p (p .count) + n ≤ 124) × Below ps ⌝ }
     ensures { λ r. ⌜ Layout.Pushed p ps n r ⌝ }
 {
-    let t = p.count;
-    let mut ends = p.ends;
-    let corners = p.corners;
-    let a = ends[t];
-    ends[t + 1] = a + n;
-    PartList {
-        corners: store(corners, a, ps, n),
-        ends: ends,
-        count: t + 1,
+    let mut out = p;
+    let t = out.count;
+    let a = out.ends[t];
+    out.ends[t + 1] = a + n;
+    out.count = t + 1;
+    for i in 0..n {
+        let c = ps[i];
+        out.corners[a + i] = c;
     }
+    out
 }
 
 // The parts after a cut, and the doubled area that it turned.
@@ -152,22 +139,17 @@ fn pop(limits: Limits, ring: [GridPoint; 60], s: Splitting) -> Splitting
     requires { ⌜ Held s × (0 < s .waiting .count) × AllOnSheet ring × (limits .cuts ≤ 32) ⌝ }
     ensures { λ r. ⌜ Held r × ((es : List EdgeMark) → length es ≡ 60 → (t : Split.Stack) → Shows ring es s t → Shows ring es r (Split.pop limits (t .parts) t)) ⌝ }
 {
-    let w = s.waiting;
+    let mut below = s.waiting;
     let pieces = s.pieces;
     let cuts = s.cuts;
     let turned = s.turned;
-    let corners = w.corners;
-    let ends = w.ends;
-    let t = w.count - 1;
-    let a = ends[t];
-    let n = ends[t + 1] - a;
+    let t = below.count - 1;
+    below.count = t;
+    let a = below.ends[t];
+    let n = below.ends[t + 1] - a;
+    let corners = below.corners;
     let vs = load(corners, a, n);
     let worst = corner::worst(sub_polygon::rotated_points(ring, vs, n, 0), n);
-    let below = PartList {
-        corners: corners,
-        ends: ends,
-        count: t,
-    };
     let d = split_polygon_at(limits, ring, vs, n, cuts, worst);
     let Diagonal::To(k) = d else {
         let more = push(pieces, vs, n);
@@ -224,8 +206,7 @@ pub fn split_bad_vertices(limits: Limits, ring: [GridPoint; 60], n: usize) -> Sp
     };
     let pops = 2 * limits.cuts + 1;
     for i in 0..pops {
-        let w = s.waiting;
-        if w.count == 0 {
+        if s.waiting.count == 0 {
             return s;
         }
         s = pop(limits, ring, s);
@@ -238,8 +219,7 @@ pub fn piece_size(pieces: PartList, i: usize) -> usize
     requires { ⌜ Layout.Kept pieces × (i < pieces .count) ⌝ }
     ensures { λ r. ⌜ ((ring : List GridPoint) (es : List EdgeMark) → r ≡ length (pieceIn ring es pieces i .points)) × (r ≡ Layout.size pieces i) × (3 ≤ r) × (r ≤ 60) ⌝ }
 {
-    let ends = pieces.ends;
-    ends[i + 1] - ends[i]
+    pieces.ends[i + 1] - pieces.ends[i]
 }
 
 // The points of piece i, and the marks of its edges, in the first places.
@@ -248,9 +228,8 @@ pub fn piece_points(ring: [GridPoint; 60], pieces: PartList, i: usize) -> [GridP
     ensures { λ r. ⌜ ((es : List EdgeMark) → take (Layout.size pieces i) r ≡ pieceIn ring es pieces i .points) × AllOnSheet r ⌝ }
 {
     let corners = pieces.corners;
-    let ends = pieces.ends;
-    let a = ends[i];
-    let n = ends[i + 1] - a;
+    let a = pieces.ends[i];
+    let n = pieces.ends[i + 1] - a;
     sub_polygon::rotated_points(ring, load(corners, a, n), n, 0)
 }
 
@@ -258,16 +237,14 @@ pub fn piece_marks(marks: [Edge; 60], pieces: PartList, i: usize) -> [Edge; 60]
     requires { ⌜ Layout.Kept pieces × (i < pieces .count) ⌝ }
     ensures { λ r. ⌜ ((ring : List GridPoint) → marksOf (take (Layout.size pieces i) r) ≡ pieceIn ring (marksOf marks) pieces i .edges) ⌝ }
 {
-    let corners = pieces.corners;
-    let ends = pieces.ends;
-    let a = ends[i];
-    let n = ends[i + 1] - a;
+    let a = pieces.ends[i];
+    let n = pieces.ends[i + 1] - a;
     let straight = Edge {
         mark: EdgeMark::Straight,
     };
     let mut out = [straight; 60];
     for j in 0..n {
-        let c = corners[a + j];
+        let c = pieces.corners[a + j];
         let k = c.edge as usize;
         let mut e = straight;
         if k < 60 {

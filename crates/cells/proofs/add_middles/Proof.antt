@@ -10,7 +10,8 @@ use Rattle.nodes.specs.Nodes.{nodeAt}
 use Rattle.nodes.specs.Growth.{InRange}
 use Rattle.nodes.specs.Flat.{nodesIn}
 use Rattle.cells.specs.declared.Middle.{Middle}
-use Rattle.cells.specs.Flat.{marksIn, Adds, endAt, middleOf, middleAt, farAt}
+use Rattle.marks.specs.Edges.{marksIn}
+use Rattle.cells.specs.Flat.{Adds, endAt, middleOf, middleAt, farAt}
 use Rattle.cells.proofs.Adding as adding
 use Rattle.cells.proofs.Turns as turns
 use borrow.Author.Needs.{needs}

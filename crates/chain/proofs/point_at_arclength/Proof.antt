@@ -19,8 +19,8 @@ array-copy-out-between c = search needs
 mul-between-2 : tie.Need-mul-between-2
 mul-between-2 c = search needs
 
-array-read-between : tie.Need-array-read-between
-array-read-between c = search needs
+element-copy-out-between : tie.Need-element-copy-out-between
+element-copy-out-between c = search needs
 
 add-between : tie.Need-add-between
 add-between c = search needs
@@ -37,18 +37,18 @@ add-between-2 c = search needs
 mul-between-4 : tie.Need-mul-between-4
 mul-between-4 c = search needs
 
-array-read-between-2 : tie.Need-array-read-between-2
-array-read-between-2 c = search needs
+element-copy-out-between-2 : tie.Need-element-copy-out-between-2
+element-copy-out-between-2 c = search needs
 
 between-requires : tie.Need-between-requires
 between-requires c κs = search needs
 
 returns : tie.Need-returns
 returns c =
-    let r = c .before .before .before .step-at in
-    let s = c .before .before .before .before in
+    let r = c .before .before .before .before .before .step-at in
+    let s = c .before .before .before .before .before .before in
     let h : s .args .n ≤ length (s .args .t1) = omega (arith, s .good .0 .1 .0 .1) in
-    walk.at-length (s .args .t1) (s .args .t2) (s .args .n) h (s .pre .0) (s .pre .2) (s .args .s) (r .result) (r .ensures .1) (r .ensures .0) _ (c .between .ensures)
+    walk.at-length (s .args .t1) (s .args .arc .now) (s .args .n) h (s .pre .0) (s .pre .2) (s .args .s) (r .result) (r .ensures .1) (r .ensures .0) _ (c .between .ensures)
 
 pub point-at-arclength-spec : {M : Type 1} → statement M
 point-at-arclength-spec =
@@ -58,12 +58,12 @@ point-at-arclength-spec =
     mul-between
     array-copy-out-between
     mul-between-2
-    array-read-between
+    element-copy-out-between
     add-between
     mul-between-3
     array-copy-out-between-2
     add-between-2
     mul-between-4
-    array-read-between-2
+    element-copy-out-between-2
     between-requires
     returns)

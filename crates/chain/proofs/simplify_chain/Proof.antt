@@ -10,54 +10,57 @@ use lib.Ieee.{nan, round, ofBits}
 use borrow.Author.Needs.{needs}
 use Rattle.laws.specs.Double.{lit, _+f_, _*f_}
 use Rattle.laws.specs.Table.{tab}
+use Rattle.laws.proofs.Table.{read-tab}
 use Rattle.vector.specs.Grid.{origin}
 use Rattle.vector.specs.Size.{AllOnSheet}
 use Rattle.chain.specs.Chain as Chain
+use Rattle.chain.specs.Kept.{stepTo}
 use Rattle.chain.proofs.Walk as walk
 use Rattle.chain.proofs.Collect.{Collected, none, kept-first, kept-more, kept-same, kept-whole}
 use Rattle.chain.proofs.simplify_chain.Statement.{statement}
 use Rattle.chain.proofs.simplify_chain.Tie as tie
 
 abbrev Inv-loop : tie.InvT-loop
-Inv-loop n chain points₀ snaps₀ count₀ arc previous₀ i₀ points snaps count previous i =
+Inv-loop n chain points₀ snaps₀ count₀ step arc previous₀ i₀ points snaps count previous i =
     (1 ≤ i) × (i ≤ n) × (n ≤ 60) × AllOnSheet chain × (take n arc ≡ tab (Chain.arc (take n chain)) n) × Collected (take n chain) points snaps count previous i
+    × (take n step ≡ tab (stepTo (take n chain)) n)
 
 abbrev μ-loop : tie.MeasureT-loop
-μ-loop n chain points₀ snaps₀ count₀ arc previous₀ i₀ points snaps count previous i = n - i
+μ-loop n chain points₀ snaps₀ count₀ step arc previous₀ i₀ points snaps count previous i = n - i
 
 -- whether the point at hand stays
 staying : (c : tie.After-stays Inv-loop μ-loop) →
     let l = c .before .before .before .before .before .before in
-    let s = l .before .before .before .before in
+    let s = l .before .before .before .before .before .before in
     c .stays .result ≡ Chain.stays (take (s .args .n) (s .args .t1)) (l .loop .i - 1)
 staying c =
     let l = c .before .before .before .before .before .before in
-    let s = l .before .before .before .before in
+    let s = l .before .before .before .before .before .before in
     let h : s .args .n ≤ length (s .args .t1) = omega (arith, s .good .0 .1 .0 .1) in
     walk.stays-in (s .args .t1) (s .args .n) h (l .loop .i) (omega arith) (omega arith) _ (c .before .before .before .before .next .ensures .0) _ (c .stays .ensures)
 
 -- what is collected after the turn, by whether the point stayed
 joined : (c : tie.Joined2 Inv-loop μ-loop) →
     let l = c .before .before .before .before .before .before .before in
-    let s = l .before .before .before .before in
+    let s = l .before .before .before .before .before .before in
     Collected (take (s .args .n) (s .args .t1)) (c .if2 .points) (c .if2 .snaps) (c .if2 .count) (c .if2 .previous) (l .loop .i + 1)
 unfolding lit round ofBits
 joined c =
     let l = c .before .before .before .before .before .before .before in
-    let s = l .before .before .before .before in
+    let s = l .before .before .before .before .before .before in
     let o = l .loop in
     let n = s .args .n in
     let ps = s .args .t1 in
     let r = take n ps in
-    let arc = l .before .before .arcs .result in
+    let arc = l .before .before .before .before .measure .result .arc in
     ⊎-elim
     (λ w.
-    let u = walk.read-tab arc (Chain.arc r) n (o .previous) nan (o .inv .4) (omega arith) in
-    let v = walk.read-tab arc (Chain.arc r) n (o .i) nan (o .inv .4) (omega arith) in
-    rw (w .3, w .4, w .5, w .6)
+    let u = read-tab arc (Chain.arc r) n (o .previous) nan (o .inv .4) (omega arith) in
+    let v = read-tab arc (Chain.arc r) n (o .i) nan (o .inv .4) (omega arith) in
+    rw (w .4, w .5, w .6, w .7)
     (kept-more r (o .points) (o .snaps) (o .count) (o .previous) (o .i) (o .inv .5) (omega arith) (sym (staying (c .before)) ∙ w .0 .taken)
     _ (sym (getD-take n ps (o .i) origin (omega arith))) (o .inv .3 (o .i))
-    _ (w .1 .ensures ∙ (λ j. Chain.pointAtArclength r (lit 5 1 *f (u j +f v j))))))
+    _ (w .2 .ensures ∙ (λ j. Chain.pointAtArclength r (lit 5 1 *f (u j +f v j))))))
     (λ w. rw (w .1, w .2, w .3, w .4) (kept-same r (o .points) (o .snaps) (o .count) (o .previous) (o .i) (o .inv .5) (sym (staying (c .before)) ∙ w .0 .left)))
     (c .if2 .came)
 
@@ -65,8 +68,8 @@ returns : tie.Need-returns Inv-loop μ-loop
 unfolding ofBits
 returns c = rw (c .if1 .taken) none
 
-arcs-requires : tie.Need-arcs-requires Inv-loop μ-loop
-arcs-requires c κs = search needs
+measure-requires : tie.Need-measure-requires Inv-loop μ-loop
+measure-requires c κs = search needs
 
 array-copy-out-points : tie.Need-array-copy-out-points Inv-loop μ-loop
 array-copy-out-points c = search needs
@@ -77,13 +80,15 @@ array-set-from-points c = search needs
 loop-holds : tie.Need-loop-holds Inv-loop μ-loop
 unfolding ofBits
 loop-holds c =
-    let s = c .before .before .before in (
+    let m = c .before .before .before in
+    let s = m .before .before in (
       search needs,
       search needs,
       search needs,
       s .pre .1,
-      c .before .arcs .ensures,
+      m .measure .ensures .1,
       kept-first (take (s .args .n) (s .args .t1)) _ (sym (getD-take (s .args .n) (s .args .t1) 0 origin (omega arith))) (s .pre .1 0),
+      m .measure .ensures .0,
     )
 
 next-requires : tie.Need-next-requires Inv-loop μ-loop
@@ -110,11 +115,33 @@ mul-stays-3 c = search needs
 array-copy-out-stays-3 : tie.Need-array-copy-out-stays-3 Inv-loop μ-loop
 array-copy-out-stays-3 c = search needs
 
+mul-stays-4 : tie.Need-mul-stays-4 Inv-loop μ-loop
+mul-stays-4 c = search needs
+
+array-read-stays : tie.Need-array-read-stays Inv-loop μ-loop
+array-read-stays c = search needs
+
+mul-stays-5 : tie.Need-mul-stays-5 Inv-loop μ-loop
+mul-stays-5 c = search needs
+
+array-read-stays-2 : tie.Need-array-read-stays-2 Inv-loop μ-loop
+array-read-stays-2 c = search needs
+
 add-stays : tie.Need-add-stays Inv-loop μ-loop
 add-stays c = search needs
 
 stays-requires : tie.Need-stays-requires Inv-loop μ-loop
-stays-requires c κs = let all = c .before .before .before .before .before .loop .inv .3 in (all _, all _, all _)
+stays-requires c κs =
+    let l = c .before .before .before .before .before in
+    let s = l .before .before .before .before .before .before in
+    let all = l .loop .inv .3 in
+    let e = l .loop .inv .6 in (
+      all _,
+      all _,
+      all _,
+      walk.step-in (s .args .t1) (s .args .n) _ e (l .loop .i) (omega arith) (omega arith),
+      walk.step-after (s .args .t1) (s .args .n) _ e (l .loop .i) _ (omega arith) (c .before .before .before .next .ensures .0),
+    )
 
 mul-half : tie.Need-mul-half Inv-loop μ-loop
 mul-half c = search needs
@@ -129,7 +156,7 @@ array-read-half-2 : tie.Need-array-read-half-2 Inv-loop μ-loop
 array-read-half-2 c = search needs
 
 point-at-arclength-requires : tie.Need-point-at-arclength-requires Inv-loop μ-loop
-point-at-arclength-requires c κs = (search needs, search needs, c .before .before .before .before .before .before .before .loop .inv .4)
+point-at-arclength-requires c κs = (search needs, search needs, c .before .before .before .before .before .before .before .before .loop .inv .4)
 
 mul-snaps : tie.Need-mul-snaps Inv-loop μ-loop
 mul-snaps c = search needs
@@ -161,12 +188,12 @@ loop-less c = search needs
 loop-again : tie.Need-loop-again Inv-loop μ-loop
 loop-again c =
     let l = c .before .before .before .before .before .before .before .loop in
-    (search needs, search needs, search needs, l .inv .3, l .inv .4, joined c)
+    (search needs, search needs, search needs, l .inv .3, l .inv .4, joined c, l .inv .6)
 
 returns-2 : tie.Need-returns-2 Inv-loop μ-loop
 returns-2 c =
     let l = c .before .loop in
-    let s = c .before .before .before .before .before in
+    let s = c .before .before .before .before .before .before .before in
     let h : s .args .n ≤ length (s .args .t1) = omega (arith, s .good .0 .1 .0 .1) in
     let e : l .i ≡ length (take (s .args .n) (s .args .t1)) = rw (length-take-le (s .args .n) (s .args .t1) h) (omega arith) in
     kept-whole (take (s .args .n) (s .args .t1)) (l .points) (l .snaps) (l .count) (l .previous) (l .i) (l .inv .5) (omega arith) e
@@ -178,7 +205,7 @@ simplify-chain-spec =
     Inv-loop
     μ-loop
     returns
-    arcs-requires
+    measure-requires
     array-copy-out-points
     array-set-from-points
     loop-holds
@@ -190,6 +217,10 @@ simplify-chain-spec =
     array-copy-out-stays-2
     mul-stays-3
     array-copy-out-stays-3
+    mul-stays-4
+    array-read-stays
+    mul-stays-5
+    array-read-stays-2
     add-stays
     stays-requires
     mul-half

@@ -1,10 +1,11 @@
 -- `stays` meets its contract: each return is one case of the definition. Assumes nothing.
-use mathlib.Core.Path.{_≡_, ap, _∙_}
+use mathlib.Core.Path.{_≡_, sym, ap, _∙_}
 use lib.Ieee.{Float, round, ofBits}
 use borrow.Author.Needs.{needs}
 use Rattle.laws.specs.Double.{lit, _<f_}
 use Rattle.vector.specs.declared.GridPoint.{GridPoint}
 use Rattle.vector.specs.Grid as Grid
+use Rattle.root.specs.Norm.{gridNorm, gridDist}
 use Rattle.chain.specs.Cosine as Cosine
 use Rattle.chain.proofs.stays.Statement.{statement}
 use Rattle.chain.proofs.stays.Tie as tie
@@ -36,19 +37,19 @@ is-zero-requires-2 c κs = search needs
 returns-3 : tie.Need-returns-3
 returns-3 c = let k = c .before .before in rw (k .before .before .if1 .left, ← in-zero (k .before), k .if2 .left, ← out-zero (c .before), c .if3 .taken)
 
-grid-norm-requires : tie.Need-grid-norm-requires
-grid-norm-requires c κs = search needs
-
-grid-norm-requires-2 : tie.Need-grid-norm-requires-2
-grid-norm-requires-2 c κs = search needs
-
 cosine-requires : tie.Need-cosine-requires
-cosine-requires c κs = search needs
+unfolding gridDist
+cosine-requires c κs =
+    let k = c .before .before .before .before .before in
+    let u = k .before .sub .ensures in
+    let v = k .sub2 .ensures in
+    let s = k .before .before in
+    (u .1, v .1, s .pre .3 ∙ ap gridNorm (sym (u .0)), s .pre .4 (c .before .before .before .before .if1 .left) ∙ ap gridNorm (sym (v .0)))
 
 returns-4 : tie.Need-returns-4
 unfolding lit round ofBits
 returns-4 c =
-    let j = c .before .before .before in
+    let j = c .before in
     let k = j .before .before in
     let u = k .before .before .before .before .sub .ensures .0 in
     let v = k .before .before .before .sub2 .ensures .0 in
@@ -66,7 +67,5 @@ stays-spec =
     returns-2
     is-zero-requires-2
     returns-3
-    grid-norm-requires
-    grid-norm-requires-2
     cosine-requires
     returns-4)

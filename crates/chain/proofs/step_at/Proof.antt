@@ -13,11 +13,11 @@ use Rattle.chain.proofs.step_at.Statement.{statement}
 use Rattle.chain.proofs.step_at.Tie as tie
 
 abbrev Inv-loop : tie.InvT-loop
-Inv-loop n s arc i₀ i-end i =
+Inv-loop arc n s i₀ i-end i =
     (2 ≤ n) × (n ≤ 60) × (i-end ≡ n - 2) × (i ≤ n - 2) × (first (λ k. s ≤f getD arc (suc k) nan) (n - 2 - i) i ≡ first (λ k. s ≤f getD arc (suc k) nan) (n - 2) 0)
 
 abbrev μ-loop : tie.MeasureT-loop
-μ-loop n s arc i₀ i-end i = n - i
+μ-loop arc n s i₀ i-end i = n - i
 
 sub-i-end : tie.Need-sub-i-end Inv-loop μ-loop
 sub-i-end c = search needs
@@ -31,13 +31,13 @@ add-if1 c = search needs
 mul-if1 : tie.Need-mul-if1 Inv-loop μ-loop
 mul-if1 c = search needs
 
-array-read-if1 : tie.Need-array-read-if1 Inv-loop μ-loop
-array-read-if1 c = search needs
+element-copy-out-if1 : tie.Need-element-copy-out-if1 Inv-loop μ-loop
+element-copy-out-if1 c = search needs
 
 returns : tie.Need-returns Inv-loop μ-loop
 returns c =
-    let l = c .before .before .loop in
-    let n = c .before .before .before .args .n in
+    let l = c .before .before .before .loop in
+    let n = c .before .before .before .before .args .n in
     (sym (laws.first-hit _ (n - 2) (l .i) (omega arith) (rw (add-one (l .i)) at (c .if1 .taken))) ∙ l .inv .4, omega arith)
 
 add-i : tie.Need-add-i Inv-loop μ-loop
@@ -48,8 +48,8 @@ loop-less c = search needs
 
 loop-again : tie.Need-loop-again Inv-loop μ-loop
 loop-again c =
-    let l = c .before .before .loop in
-    let n = c .before .before .before .args .n in (
+    let l = c .before .before .before .loop in
+    let n = c .before .before .before .before .args .n in (
       search needs,
       search needs,
       refl,
@@ -76,7 +76,7 @@ step-at-spec =
     loop-holds
     add-if1
     mul-if1
-    array-read-if1
+    element-copy-out-if1
     returns
     add-i
     loop-less

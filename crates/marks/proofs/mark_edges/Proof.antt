@@ -1,18 +1,31 @@
--- `mark_edges` meets its contract, for every count from 0 to 60. The loop's invariant: the edges before i have their marks.
--- Assumes nothing.
-use Prim.Native.Nat.{_+_, _-_, _≤_}
+-- `mark_edges` meets its contract, for every count from 0 to 60. The outer invariant: the edges before i have their marks; the inner: what is
+-- left of the search is the whole search. Assumes nothing.
+use Prim.Native.Nat.{_+_, _-_, _≤_, _<_}
 use native.Mathlib.Omega.{arith}
+use native.Mathlib.Numerals.{add-one}
 use mathlib.Core.Path.{_≡_, sym, _∙_}
 use mathlib.Core.Logic.{⊎-elim}
-use lib.ListN.{length, take}
+use lib.ListN.{length, take, getD}
 use borrow.Author.Needs.{needs}
+use Rattle.laws.specs.Bounded.{first}
+use Rattle.laws.proofs.Search as laws
+use Rattle.vector.specs.Grid.{origin}
 use Rattle.vector.proofs.Rings as rings
-use Rattle.chain.specs.Kept.{stretchesIn}
-use Rattle.marks.specs.Marks.{mark}
+use Rattle.chain.specs.Chain.{noStretch}
+use Rattle.chain.specs.Kept.{stretchIn, stretchesIn}
+use Rattle.marks.specs.Marks.{joins, mark}
 use Rattle.marks.specs.Edges.{Marked}
 use Rattle.marks.proofs.Edges.{mark-snap, mark-straight, marked-none, marked-snap, marked-straight}
 use Rattle.marks.proofs.mark_edges.Statement.{statement}
 use Rattle.marks.proofs.mark_edges.Tie as tie
+
+abbrev Inv-search : tie.InvT-search
+Inv-search n ring edges₀ points snaps count i a b j₀ edges j =
+    (i < n) × (n ≤ 60) × (count ≤ 59) × (j ≤ count) × Marked (stretchesIn (record { points = points; snaps = snaps; count = count })) (take n ring) i edges
+    × (first (λ k. joins a b (stretchIn points snaps k)) (count - j) j ≡ first (λ k. joins a b (stretchIn points snaps k)) count 0)
+
+abbrev μ-search : tie.MeasureT-search
+μ-search n ring edges₀ points snaps count i a b j₀ edges j = count - j
 
 abbrev Inv-loop : tie.InvT-loop
 Inv-loop n ring edges₀ points snaps count i₀ edges i =
@@ -21,77 +34,126 @@ Inv-loop n ring edges₀ points snaps count i₀ edges i =
 abbrev μ-loop : tie.MeasureT-loop
 μ-loop n ring edges₀ points snaps count i₀ edges i = n - i
 
+-- whether stretch j joins the ends of edge i
+judged : (k : tie.After-joins Inv-search μ-search Inv-loop μ-loop) →
+    let q = k .before .before .before .before in
+    let s = q .before .before .before .before .before .before .before .before in
+    let i = q .before .before .before .before .before .loop .i in
+    k .joins .result ≡ joins (getD (s .args .t1) i origin) (getD (s .args .t1) (q .before .before .next .result) origin) (stretchIn (s .args .chain .points) (s .args .chain .snaps) (q .search .j))
+judged k =
+    let q = k .before .before .before .before in
+    let s = q .before .before .before .before .before .before .before .before in
+    rw (add-one (q .search .j)) at (k .joins .ensures (getD (s .args .chain .snaps) (q .search .j) (noStretch .snap)))
+
 -- the marks after the turn, by whether a stretch was found
-joined : (c : tie.Joined1 Inv-loop μ-loop) →
+joined : (c : tie.Left-search Inv-search μ-search Inv-loop μ-loop) →
     let l = c .before .before .before .before .before .before in
     let s = l .before .before .before in
-    Marked (stretchesIn (s .args .chain)) (take (s .args .n) (s .args .t1)) (l .loop .i + 1) (c .if1 .edges)
+    Marked (stretchesIn (s .args .chain)) (take (s .args .n) (s .args .t1)) (l .loop .i + 1) (c .search-test .edges)
 joined c =
-    let l = c .before .before .before .before .before .before in
+    let q = c .before in
+    let l = q .before .before .before .before .before in
     let s = l .before .before .before in
-    let o = l .loop in
+    let o = q .search in
+    let i = l .loop .i in
     let n = s .args .n in
     let ps = s .args .t1 in
     let h : n ≤ length ps = omega (arith, s .good .0 .1 .0 .1) in
-    let k = c .before .stretch-of in
-    let ss = stretchesIn (s .args .chain) in
-    let a = rings.at-in ps n h (omega arith) (o .i) (omega arith) in
-    let b = rings.at-next ps n h (omega arith) (o .i) _ (c .before .before .before .next .ensures .0) in
-    let f = k .ensures .0 (s .args .chain .snaps) in
+    let chain = s .args .chain in
+    let ss = stretchesIn chain in
+    let a = rings.at-in ps n h (omega arith) i (omega arith) in
+    let b = rings.at-next ps n h (omega arith) i _ (q .before .before .next .ensures .0) in
     ⊎-elim
     (λ w.
-    rw (w .2)
-    (marked-snap ss (take n ps) (o .i) (o .edges) (o .inv .3) (omega arith) _
-    (sym ((λ j. mark ss (a j) (b j)) ∙ mark-snap (s .args .chain) _ _ (k .result) f (w .0 .taken)))))
-    (λ w.
+    let f = sym (laws.first-end _ (chain .count) (o .j) (omega arith)) ∙ o .inv .5 in
     rw (w .1)
-    (marked-straight ss (take n ps) (o .i) (o .edges) (o .inv .3) (omega arith)
-    ((λ j. mark ss (a j) (b j)) ∙ mark-straight (s .args .chain) _ _ (k .result) f (w .0 .left))))
-    (c .if1 .came)
+    (marked-straight ss (take n ps) i (o .edges) (o .inv .4) (omega arith)
+    ((λ j. mark ss (a j) (b j)) ∙ mark-straight chain _ _ (chain .count) f (omega arith))))
+    (λ w.
+    let f = sym (laws.first-hit _ (chain .count) (o .j) (w .0 .taken) (sym (judged (record { before = record { before = record { before = record { before = q; search-test = w .0 }; joins-arg = w .1 }; joins-arg2 = w .2 }; joins = w .3 })) ∙ w .4 .taken)) ∙ o .inv .5 in
+    rw (w .6)
+    (marked-snap ss (take n ps) i (o .edges) (o .inv .4) (omega arith) _
+    (sym ((λ j. mark ss (a j) (b j)) ∙ mark-snap chain _ _ (o .j) f (w .0 .taken)))))
+    (c .search-test .came)
 
-loop-holds : tie.Need-loop-holds Inv-loop μ-loop
+loop-holds : tie.Need-loop-holds Inv-search μ-search Inv-loop μ-loop
 loop-holds c = (search needs, search needs, search needs, marked-none _ _)
 
-mul-stretch-of : tie.Need-mul-stretch-of Inv-loop μ-loop
-mul-stretch-of c = search needs
+mul-a : tie.Need-mul-a Inv-search μ-search Inv-loop μ-loop
+mul-a c = search needs
 
-array-copy-out-stretch-of : tie.Need-array-copy-out-stretch-of Inv-loop μ-loop
-array-copy-out-stretch-of c = search needs
+array-copy-out-a : tie.Need-array-copy-out-a Inv-search μ-search Inv-loop μ-loop
+array-copy-out-a c = search needs
 
-next-requires : tie.Need-next-requires Inv-loop μ-loop
+next-requires : tie.Need-next-requires Inv-search μ-search Inv-loop μ-loop
 next-requires c κs = search needs
 
-mul-stretch-of-2 : tie.Need-mul-stretch-of-2 Inv-loop μ-loop
-mul-stretch-of-2 c = search needs
+mul-b : tie.Need-mul-b Inv-search μ-search Inv-loop μ-loop
+mul-b c = search needs
 
-array-copy-out-stretch-of-2 : tie.Need-array-copy-out-stretch-of-2 Inv-loop μ-loop
-array-copy-out-stretch-of-2 c = search needs
+array-copy-out-b : tie.Need-array-copy-out-b Inv-search μ-search Inv-loop μ-loop
+array-copy-out-b c = search needs
 
-stretch-of-requires : tie.Need-stretch-of-requires Inv-loop μ-loop
-stretch-of-requires c κs = search needs
+search-holds : tie.Need-search-holds Inv-search μ-search Inv-loop μ-loop
+search-holds c = let l = c .before .before .before .before .loop in (search needs, search needs, search needs, search needs, l .inv .3, laws.first-start _ _)
 
-mul-t23 : tie.Need-mul-t23 Inv-loop μ-loop
-mul-t23 c = search needs
+mul-joins : tie.Need-mul-joins Inv-search μ-search Inv-loop μ-loop
+mul-joins c = search needs
 
-array-copy-out-t26 : tie.Need-array-copy-out-t26 Inv-loop μ-loop
-array-copy-out-t26 c = search needs
+array-copy-out-joins : tie.Need-array-copy-out-joins Inv-search μ-search Inv-loop μ-loop
+array-copy-out-joins c = search needs
 
-mul-edges : tie.Need-mul-edges Inv-loop μ-loop
+add-joins : tie.Need-add-joins Inv-search μ-search Inv-loop μ-loop
+add-joins c = search needs
+
+mul-joins-2 : tie.Need-mul-joins-2 Inv-search μ-search Inv-loop μ-loop
+mul-joins-2 c = search needs
+
+array-copy-out-joins-2 : tie.Need-array-copy-out-joins-2 Inv-search μ-search Inv-loop μ-loop
+array-copy-out-joins-2 c = search needs
+
+joins-requires : tie.Need-joins-requires Inv-search μ-search Inv-loop μ-loop
+joins-requires c κs = search needs
+
+mul-t34 : tie.Need-mul-t34 Inv-search μ-search Inv-loop μ-loop
+mul-t34 c = search needs
+
+array-copy-out-t37 : tie.Need-array-copy-out-t37 Inv-search μ-search Inv-loop μ-loop
+array-copy-out-t37 c = search needs
+
+mul-edges : tie.Need-mul-edges Inv-search μ-search Inv-loop μ-loop
 mul-edges c = search needs
 
-array-set-from-edges : tie.Need-array-set-from-edges Inv-loop μ-loop
+array-set-from-edges : tie.Need-array-set-from-edges Inv-search μ-search Inv-loop μ-loop
 array-set-from-edges c = search needs
 
-add-i : tie.Need-add-i Inv-loop μ-loop
+add-j : tie.Need-add-j Inv-search μ-search Inv-loop μ-loop
+add-j c = search needs
+
+search-less : tie.Need-search-less Inv-search μ-search Inv-loop μ-loop
+search-less c = search needs
+
+search-again : tie.Need-search-again Inv-search μ-search Inv-loop μ-loop
+search-again c =
+    let o = c .before .before .before .before .before .search in (
+      search needs,
+      search needs,
+      search needs,
+      search needs,
+      o .inv .4,
+      sym (laws.first-pass _ _ (o .j) (omega arith) (sym (judged (c .before)) ∙ c .if1 .left)) ∙ o .inv .5,
+    )
+
+add-i : tie.Need-add-i Inv-search μ-search Inv-loop μ-loop
 add-i c = search needs
 
-loop-less : tie.Need-loop-less Inv-loop μ-loop
+loop-less : tie.Need-loop-less Inv-search μ-search Inv-loop μ-loop
 loop-less c = search needs
 
-loop-again : tie.Need-loop-again Inv-loop μ-loop
+loop-again : tie.Need-loop-again Inv-search μ-search Inv-loop μ-loop
 loop-again c = (search needs, search needs, search needs, joined c)
 
-returns : tie.Need-returns Inv-loop μ-loop
+returns : tie.Need-returns Inv-search μ-search Inv-loop μ-loop
 returns c =
     let l = c .before .loop in
     let e : l .i ≡ c .before .before .before .before .args .n = omega arith in
@@ -101,19 +163,30 @@ pub mark-edges-spec : {M : Type 1} → statement M
 mark-edges-spec =
     tie.close
     (tie.spec
+    Inv-search
+    μ-search
     Inv-loop
     μ-loop
     loop-holds
-    mul-stretch-of
-    array-copy-out-stretch-of
+    mul-a
+    array-copy-out-a
     next-requires
-    mul-stretch-of-2
-    array-copy-out-stretch-of-2
-    stretch-of-requires
-    mul-t23
-    array-copy-out-t26
+    mul-b
+    array-copy-out-b
+    search-holds
+    mul-joins
+    array-copy-out-joins
+    add-joins
+    mul-joins-2
+    array-copy-out-joins-2
+    joins-requires
+    mul-t34
+    array-copy-out-t37
     mul-edges
     array-set-from-edges
+    add-j
+    search-less
+    search-again
     add-i
     loop-less
     loop-again

@@ -16,22 +16,22 @@ use Rattle.split.proofs.piece_marks.Statement.{statement}
 use Rattle.split.proofs.piece_marks.Tie as tie
 
 abbrev Inv-loop : tie.InvT-loop
-Inv-loop i marks corners a n straight out₀ j₀ out j = (j ≤ n) × (n ≤ 60) × (a + n ≤ 124) × (length out ≡ 60) × (take j out ≡ tab (λ k. markAt marks corners (a + k)) j)
+Inv-loop i marks pieces a n straight out₀ j₀ out j = (j ≤ n) × (n ≤ 60) × (a + n ≤ 124) × (length out ≡ 60) × (take j out ≡ tab (λ k. markAt marks (pieces .corners) (a + k)) j)
 
 abbrev μ-loop : tie.MeasureT-loop
-μ-loop i marks corners a n straight out₀ j₀ out j = n - j
+μ-loop i marks pieces a n straight out₀ j₀ out j = n - j
 
 placed : (c : tie.Start Inv-loop μ-loop)
-    → let p = c .args .pieces in
+    → let p = c .args .t2 in
     let i = c .args .i in
     (end p i + 3 ≤ end p (i + 1)) × (end p (i + 1) ≤ end p i + 60) × (end p (i + 1) ≤ 124) × (end p (i + 1) - end p i ≡ size p i)
-placed c = Pieces.placed (c .args .pieces) (c .args .i) (c .pre .1) (c .pre .0)
+placed c = Pieces.placed (c .args .t2) (c .args .i) (c .pre .1) (c .pre .0)
 
 mul-a : tie.Need-mul-a Inv-loop μ-loop
 mul-a c = search needs
 
-array-read-a : tie.Need-array-read-a Inv-loop μ-loop
-array-read-a c = search needs
+element-copy-out-a : tie.Need-element-copy-out-a Inv-loop μ-loop
+element-copy-out-a c = search needs
 
 add-n : tie.Need-add-n Inv-loop μ-loop
 add-n c = search needs
@@ -39,8 +39,8 @@ add-n c = search needs
 mul-n : tie.Need-mul-n Inv-loop μ-loop
 mul-n c = search needs
 
-array-read-n : tie.Need-array-read-n Inv-loop μ-loop
-array-read-n c = search needs
+element-copy-out-n : tie.Need-element-copy-out-n Inv-loop μ-loop
+element-copy-out-n c = search needs
 
 sub-n : tie.Need-sub-n Inv-loop μ-loop
 sub-n c = let z = placed (c .before .before) in omega arith
@@ -54,8 +54,8 @@ add-c c = search needs
 mul-c : tie.Need-mul-c Inv-loop μ-loop
 mul-c c = search needs
 
-array-copy-out-c : tie.Need-array-copy-out-c Inv-loop μ-loop
-array-copy-out-c c = search needs
+element-copy-out-c : tie.Need-element-copy-out-c Inv-loop μ-loop
+element-copy-out-c c = search needs
 
 cast-k : tie.Need-cast-k Inv-loop μ-loop
 cast-k c = search needs
@@ -84,7 +84,7 @@ loop-again c =
     let s = l .before .before .before in
     let o = l .loop in
     let marks = s .args .t1 in
-    let p = s .args .pieces in
+    let p = s .args .t2 in
     let f : ℕ → Edge = (λ k. markAt marks (p .corners) (end p (s .args .i) + k)) in
     let e : c .if1 .e ≡ f (o .j) =
     ⊎-elim
@@ -98,8 +98,8 @@ returns c =
     let l = c .before in
     let s = l .before .before .before in
     let z = placed s in
-    let e : l .loop .j ≡ size (s .args .pieces) (s .args .i) = omega (arith, z .3) in
-    Pieces.marks-are (s .args .pieces) (s .args .i) (s .pre .1) (s .args .t1) (l .loop .out) (rw e at (l .loop .inv .4))
+    let e : l .loop .j ≡ size (s .args .t2) (s .args .i) = omega (arith, z .3) in
+    Pieces.marks-are (s .args .t2) (s .args .i) (s .pre .1) (s .args .t1) (l .loop .out) (rw e at (l .loop .inv .4))
 
 pub piece-marks-spec : {M : Type 1} → statement M
 piece-marks-spec =
@@ -108,15 +108,15 @@ piece-marks-spec =
     Inv-loop
     μ-loop
     mul-a
-    array-read-a
+    element-copy-out-a
     add-n
     mul-n
-    array-read-n
+    element-copy-out-n
     sub-n
     loop-holds
     add-c
     mul-c
-    array-copy-out-c
+    element-copy-out-c
     cast-k
     mul-e
     array-copy-out-e

@@ -12,23 +12,25 @@ add-result c = search needs
 mul-result : tie.Need-mul-result
 mul-result c = search needs
 
-array-read-result : tie.Need-array-read-result
-array-read-result c = search needs
+element-copy-out-result : tie.Need-element-copy-out-result
+element-copy-out-result c = search needs
 
 mul-result-2 : tie.Need-mul-result-2
 mul-result-2 c = search needs
 
-array-read-result-2 : tie.Need-array-read-result-2
-array-read-result-2 c = search needs
+element-copy-out-result-2 : tie.Need-element-copy-out-result-2
+element-copy-out-result-2 c = search needs
 
 sub-result : tie.Need-sub-result
-sub-result c = let z = Pieces.placed (c .before .args .pieces) (c .before .args .i) (c .before .pre .1) (c .before .pre .0) in omega arith
+sub-result c =
+    let s = c .before .before in
+    let z = Pieces.placed (s .args .t1) (s .args .i) (s .pre .1) (s .pre .0) in omega arith
 
 returns : tie.Need-returns
 returns c =
-    let s = c .before in
-    let z = Pieces.placed (s .args .pieces) (s .args .i) (s .pre .1) (s .pre .0) in
-    (λ ring es. z .3 ∙ Pieces.piece-length (s .args .pieces) (s .args .i) (s .pre .1) ring es, z .3, omega arith, omega arith)
+    let s = c .before .before in
+    let z = Pieces.placed (s .args .t1) (s .args .i) (s .pre .1) (s .pre .0) in
+    (λ ring es. z .3 ∙ Pieces.piece-length (s .args .t1) (s .args .i) (s .pre .1) ring es, z .3, omega arith, omega arith)
 
 pub piece-size-spec : {M : Type 1} → statement M
 piece-size-spec =
@@ -36,8 +38,8 @@ piece-size-spec =
     (tie.spec
     add-result
     mul-result
-    array-read-result
+    element-copy-out-result
     mul-result-2
-    array-read-result-2
+    element-copy-out-result-2
     sub-result
     returns)

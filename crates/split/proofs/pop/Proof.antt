@@ -74,8 +74,8 @@ sub-t c = search needs
 mul-a : tie.Need-mul-a
 mul-a c = search needs
 
-array-read-a : tie.Need-array-read-a
-array-read-a c = search needs
+element-copy-out-a : tie.Need-element-copy-out-a
+element-copy-out-a c = search needs
 
 add-n : tie.Need-add-n
 add-n c = search needs
@@ -83,11 +83,11 @@ add-n c = search needs
 mul-n : tie.Need-mul-n
 mul-n c = search needs
 
-array-read-n : tie.Need-array-read-n
-array-read-n c = search needs
+element-copy-out-n : tie.Need-element-copy-out-n
+element-copy-out-n c = search needs
 
 sub-n : tie.Need-sub-n
-sub-n c = let z = top (c .before .before .before .before .before) in omega arith
+sub-n c = let z = top (c .before .before .before .before) in omega arith
 
 load-requires : tie.Need-load-requires
 load-requires c κs =
@@ -145,11 +145,11 @@ push-parts-requires c κs =
     let r = range g _ (c .before .d .given .1) in
     (Popped.kept-without (s .args .s) _ (z .4) h, omega (arith, h .parts, r .2), omega (arith, r .2), omega arith, g .before .worst .ensures .2, r .0, r .1, g .before .before .before .load .ensures .1, s .pre .2)
 
-add-t21 : tie.Need-add-t21
-add-t21 c = omega (arith, start (c .before .before .before .before .before) .pre .0 .cuts)
+add-t19 : tie.Need-add-t19
+add-t19 c = omega (arith, start (c .before .before .before .before .before) .pre .0 .cuts)
 
-add-t30 : tie.Need-add-t30
-add-t30 c =
+add-t29 : tie.Need-add-t29
+add-t29 c =
     let h = start (c .before .before .before .before .before .before) .pre .0 in
     omega (arith, c .before .before .push-parts .ensures .small, h .cuts, h .turned)
 
@@ -173,10 +173,10 @@ pop-spec =
     (tie.spec
     sub-t
     mul-a
-    array-read-a
+    element-copy-out-a
     add-n
     mul-n
-    array-read-n
+    element-copy-out-n
     sub-n
     load-requires
     rotated-points-requires
@@ -187,6 +187,6 @@ pop-spec =
     push-requires
     returns
     push-parts-requires
-    add-t21
-    add-t30
+    add-t19
+    add-t29
     returns-2)
