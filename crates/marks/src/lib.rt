@@ -60,16 +60,14 @@ pub fn mark_edges(ring: [GridPoint; 60], n: usize, chain: Simplified) -> [Edge; 
         mark: EdgeMark::Straight,
     };
     let mut edges = [straight; 60];
-    let points = chain.points;
-    let snaps = chain.snaps;
     let count = chain.count;
     for i in 0..n {
         let a = ring[i];
         let b = ring[vector::next(i, n)];
         'search: for j in 0..count {
-            if joins(points[j], points[j + 1], a, b) {
+            if joins(chain.points[j], chain.points[j + 1], a, b) {
                 edges[i] = Edge {
-                    mark: EdgeMark::Snap(snaps[j]),
+                    mark: EdgeMark::Snap(chain.snaps[j]),
                 };
                 break 'search;
             }

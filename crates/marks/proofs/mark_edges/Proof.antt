@@ -20,46 +20,46 @@ use Rattle.marks.proofs.mark_edges.Statement.{statement}
 use Rattle.marks.proofs.mark_edges.Tie as tie
 
 abbrev Inv-search : tie.InvT-search
-Inv-search n ring edges₀ points snaps count i a b j₀ edges j =
-    (i < n) × (n ≤ 60) × (count ≤ 59) × (j ≤ count) × Marked (stretchesIn (record { points = points; snaps = snaps; count = count })) (take n ring) i edges
-    × (first (λ k. joins a b (stretchIn points snaps k)) (count - j) j ≡ first (λ k. joins a b (stretchIn points snaps k)) count 0)
+Inv-search n ring chain edges₀ count i a b j₀ edges j =
+    (i < n) × (n ≤ 60) × (chain .count ≤ 59) × (j ≤ chain .count) × Marked (stretchesIn chain) (take n ring) i edges
+    × (first (λ k. joins a b (stretchIn (chain .points) (chain .snaps) k)) (chain .count - j) j ≡ first (λ k. joins a b (stretchIn (chain .points) (chain .snaps) k)) (chain .count) 0)
 
 abbrev μ-search : tie.MeasureT-search
-μ-search n ring edges₀ points snaps count i a b j₀ edges j = count - j
+μ-search n ring chain edges₀ count i a b j₀ edges j = count - j
 
 abbrev Inv-loop : tie.InvT-loop
-Inv-loop n ring edges₀ points snaps count i₀ edges i =
-    (i ≤ n) × (n ≤ 60) × (count ≤ 59) × Marked (stretchesIn (record { points = points; snaps = snaps; count = count })) (take n ring) i edges
+Inv-loop n ring chain edges₀ count i₀ edges i =
+    (i ≤ n) × (n ≤ 60) × (chain .count ≤ 59) × Marked (stretchesIn chain) (take n ring) i edges
 
 abbrev μ-loop : tie.MeasureT-loop
-μ-loop n ring edges₀ points snaps count i₀ edges i = n - i
+μ-loop n ring chain edges₀ count i₀ edges i = n - i
 
 -- whether stretch j joins the ends of edge i
 judged : (k : tie.After-joins Inv-search μ-search Inv-loop μ-loop) →
     let q = k .before .before .before .before in
-    let s = q .before .before .before .before .before .before .before .before in
+    let s = q .before .before .before .before .before .before in
     let i = q .before .before .before .before .before .loop .i in
-    k .joins .result ≡ joins (getD (s .args .t1) i origin) (getD (s .args .t1) (q .before .before .next .result) origin) (stretchIn (s .args .chain .points) (s .args .chain .snaps) (q .search .j))
+    k .joins .result ≡ joins (getD (s .args .t1) i origin) (getD (s .args .t1) (q .before .before .next .result) origin) (stretchIn (s .args .t3 .points) (s .args .t3 .snaps) (q .search .j))
 judged k =
     let q = k .before .before .before .before in
-    let s = q .before .before .before .before .before .before .before .before in
-    rw (add-one (q .search .j)) at (k .joins .ensures (getD (s .args .chain .snaps) (q .search .j) (noStretch .snap)))
+    let s = q .before .before .before .before .before .before in
+    rw (add-one (q .search .j)) at (k .joins .ensures (getD (s .args .t3 .snaps) (q .search .j) (noStretch .snap)))
 
 -- the marks after the turn, by whether a stretch was found
 joined : (c : tie.Left-search Inv-search μ-search Inv-loop μ-loop) →
     let l = c .before .before .before .before .before .before in
-    let s = l .before .before .before in
-    Marked (stretchesIn (s .args .chain)) (take (s .args .n) (s .args .t1)) (l .loop .i + 1) (c .search-test .edges)
+    let s = l .before in
+    Marked (stretchesIn (s .args .t3)) (take (s .args .n) (s .args .t1)) (l .loop .i + 1) (c .search-test .edges)
 joined c =
     let q = c .before in
     let l = q .before .before .before .before .before in
-    let s = l .before .before .before in
+    let s = l .before in
     let o = q .search in
     let i = l .loop .i in
     let n = s .args .n in
     let ps = s .args .t1 in
     let h : n ≤ length ps = omega (arith, s .good .0 .1 .0 .1) in
-    let chain = s .args .chain in
+    let chain = s .args .t3 in
     let ss = stretchesIn chain in
     let a = rings.at-in ps n h (omega arith) i (omega arith) in
     let b = rings.at-next ps n h (omega arith) i _ (q .before .before .next .ensures .0) in
@@ -100,8 +100,8 @@ search-holds c = let l = c .before .before .before .before .loop in (search need
 mul-joins : tie.Need-mul-joins Inv-search μ-search Inv-loop μ-loop
 mul-joins c = search needs
 
-array-copy-out-joins : tie.Need-array-copy-out-joins Inv-search μ-search Inv-loop μ-loop
-array-copy-out-joins c = search needs
+element-copy-out-joins : tie.Need-element-copy-out-joins Inv-search μ-search Inv-loop μ-loop
+element-copy-out-joins c = search needs
 
 add-joins : tie.Need-add-joins Inv-search μ-search Inv-loop μ-loop
 add-joins c = search needs
@@ -109,17 +109,17 @@ add-joins c = search needs
 mul-joins-2 : tie.Need-mul-joins-2 Inv-search μ-search Inv-loop μ-loop
 mul-joins-2 c = search needs
 
-array-copy-out-joins-2 : tie.Need-array-copy-out-joins-2 Inv-search μ-search Inv-loop μ-loop
-array-copy-out-joins-2 c = search needs
+element-copy-out-joins-2 : tie.Need-element-copy-out-joins-2 Inv-search μ-search Inv-loop μ-loop
+element-copy-out-joins-2 c = search needs
 
 joins-requires : tie.Need-joins-requires Inv-search μ-search Inv-loop μ-loop
 joins-requires c κs = search needs
 
-mul-t34 : tie.Need-mul-t34 Inv-search μ-search Inv-loop μ-loop
-mul-t34 c = search needs
+mul-t33 : tie.Need-mul-t33 Inv-search μ-search Inv-loop μ-loop
+mul-t33 c = search needs
 
-array-copy-out-t37 : tie.Need-array-copy-out-t37 Inv-search μ-search Inv-loop μ-loop
-array-copy-out-t37 c = search needs
+element-copy-out-t36 : tie.Need-element-copy-out-t36 Inv-search μ-search Inv-loop μ-loop
+element-copy-out-t36 c = search needs
 
 mul-edges : tie.Need-mul-edges Inv-search μ-search Inv-loop μ-loop
 mul-edges c = search needs
@@ -156,7 +156,7 @@ loop-again c = (search needs, search needs, search needs, joined c)
 returns : tie.Need-returns Inv-search μ-search Inv-loop μ-loop
 returns c =
     let l = c .before .loop in
-    let e : l .i ≡ c .before .before .before .before .args .n = omega arith in
+    let e : l .i ≡ c .before .before .args .n = omega arith in
     rw e at (l .inv .3)
 
 pub mark-edges-spec : {M : Type 1} → statement M
@@ -175,13 +175,13 @@ mark-edges-spec =
     array-copy-out-b
     search-holds
     mul-joins
-    array-copy-out-joins
+    element-copy-out-joins
     add-joins
     mul-joins-2
-    array-copy-out-joins-2
+    element-copy-out-joins-2
     joins-requires
-    mul-t34
-    array-copy-out-t37
+    mul-t33
+    element-copy-out-t36
     mul-edges
     array-set-from-edges
     add-j
