@@ -29,10 +29,6 @@ pub no : (b : Bool) → not b ≡ true → b ≡ false
 no true e = sym e
 no false e = refl
 
-pub yes : (b : Bool) → not b ≡ false → b ≡ true
-yes true e = refl
-yes false e = sym e
-
 pub area-read : (z a : ℤ) (b : Bool) → z ≡ a → natAbs z ≤ 2 ^ 53 → ltZ (pos 0) (r64 z) ≡ b → ltZ (pos 0) a ≡ b
 area-read z a b e h t = ap (ltZ (pos 0)) (sym (back z (omega arith) ∙ e)) ∙ t
 

@@ -2,7 +2,8 @@
 use mathlib.Core.Bool.{true, false}
 use lib.ListN.{take}
 use lib.Seq.{length-take-le}
-use Rattle.divider.proofs.RingTests.{no, yes, area-read, under-three, not-simple, by-area}
+use Rattle.laws.proofs.Booleans.{is-true}
+use Rattle.divider.proofs.RingTests.{no, area-read, under-three, not-simple, by-area}
 use mathlib.Core.Path.{sym, _∙_}
 use borrow.Author.Needs.{needs}
 use Rattle.divider.proofs.ring_refusal.Statement.{statement}
@@ -34,7 +35,7 @@ returns-3 : tie.Need-returns-3
 returns-3 c =
     let a = c .before .before .before .before .before .args in
     by-area (take (a .n) (a .points)) (rw (length-take-le (a .n) (a .points) (search needs)) (c .before .before .before .before .if1 .left))
-    (sym (c .before .before .before .polygon-simple .ensures) ∙ yes (c .before .before .before .polygon-simple .result) (c .before .before .if2 .left))
+    (sym (c .before .before .before .polygon-simple .ensures) ∙ is-true (c .before .before .before .polygon-simple .result) (c .before .before .if2 .left))
     true (area-read (c .before .polygon-area .result) _ true (c .before .polygon-area .ensures .0) (c .before .polygon-area .ensures .1) (c .if3 .taken))
 
 -- src/lib.rt:56:1
@@ -42,7 +43,7 @@ returns-4 : tie.Need-returns-4
 returns-4 c =
     let a = c .before .before .before .before .before .args in
     by-area (take (a .n) (a .points)) (rw (length-take-le (a .n) (a .points) (search needs)) (c .before .before .before .before .if1 .left))
-    (sym (c .before .before .before .polygon-simple .ensures) ∙ yes (c .before .before .before .polygon-simple .result) (c .before .before .if2 .left))
+    (sym (c .before .before .before .polygon-simple .ensures) ∙ is-true (c .before .before .before .polygon-simple .result) (c .before .before .if2 .left))
     false (area-read (c .before .polygon-area .result) _ false (c .before .polygon-area .ensures .0) (c .before .polygon-area .ensures .1) (c .if3 .left))
 
 pub ring-refusal-spec : {M : Type 1} → statement M
