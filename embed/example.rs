@@ -1,4 +1,5 @@
-//! Divides the square of 1 mm, and has the same square clockwise refused.
+//! Divides the square of 1 mm, has the same square clockwise refused, and divides the square beside the first over the
+//! same two lists.
 
 /// A row of the table, as in ring_divide.h.
 #[repr(C)]
@@ -40,7 +41,7 @@ struct Lists {
     cell_count: usize,
 }
 
-/// A safe call: the library tests all that it is handed.
+/// A safe call: the library tests all that it is handed. Both counts are carried on.
 fn divide(ring: &[i32], chain: &[i32], size: u32, lists: &mut Lists) -> Row {
     let (nodes, cells) = (&mut lists.nodes, &mut lists.cells);
     let row = unsafe {
@@ -59,7 +60,19 @@ fn divide(ring: &[i32], chain: &[i32], size: u32, lists: &mut Lists) -> Row {
         )
     };
     lists.node_count = row.nodes as usize;
+    lists.cell_count = row.cells as usize;
     row
+}
+
+/// The row, and the cells from `first` on.
+fn print(row: &Row, lists: &Lists, first: usize) {
+    println!(
+        "code {} corners {} cuts {} pieces {} nodes {} cells {}",
+        row.code, row.corners, row.cuts, row.pieces, row.nodes, row.cells
+    );
+    for cell in lists.cells.chunks(4).take(lists.cell_count).skip(first) {
+        println!("quad {} {} {} {}", cell[0], cell[1], cell[2], cell[3]);
+    }
 }
 
 fn main() {
@@ -71,15 +84,12 @@ fn main() {
         cell_count: 0,
     };
     let row = divide(&[0, 0, MM, 0, MM, MM, 0, MM], &[], 1, &mut lists);
-    println!(
-        "code {} corners {} cuts {} pieces {} nodes {} cells {}",
-        row.code, row.corners, row.cuts, row.pieces, row.nodes, row.cells
-    );
-    for cell in lists.cells.chunks(4).take(row.cells as usize) {
-        println!("quad {} {} {} {}", cell[0], cell[1], cell[2], cell[3]);
-    }
+    print(&row, &lists, 0);
     println!("node 8 at {} {}", lists.nodes[16], lists.nodes[17]);
 
     let row = divide(&[0, 0, 0, MM, MM, MM, MM, 0], &[], 1, &mut lists);
-    println!("code {} nodes {} cells {}", row.code, row.nodes, row.cells);
+    print(&row, &lists, 4);
+
+    let row = divide(&[MM, 0, 2 * MM, 0, 2 * MM, MM, MM, MM], &[], 1, &mut lists);
+    print(&row, &lists, 4);
 }

@@ -9,13 +9,31 @@
  *   cells         the cell list, four node numbers a cell; cell_count of its places are used
  *
  * With code 0 the new nodes and cells follow the used ones; 1 to 7 leave all as found; 8 leaves its new nodes and zeros
- * the cell places that the ring had reserved. Lists may not overlap. A list of length 0 may be any aligned pointer that is not null.
+ * the cell places that the ring had reserved. The row has both counts as they are afterwards: hand them to the next call.
+ * Lists may not overlap. A list of length 0 may be any aligned pointer that is not null.
+ *
+ * What the library takes:
+ *
+ *   stack      RING_DIVIDE_STACK bytes a call, as read from the compiled code by embed/stack (no function calls itself);
+ *              what memcpy and memset take comes on top
+ *   functions  memcpy and memset, and no other
+ *   data       none that is written, so it is re-entrant: calls on other lists may run at the same time or interrupt one another
+ *   doubles    rounding to nearest, subnormals kept: the mode that a program starts in
+ *   processor  the archive is for x86-64, its base instructions (SSE2), with the calling convention of Linux. That is the one
+ *              target that the kit compiles for, on whatever machine it runs. For another, take a kit that has its target:
+ *              the sources name no processor; lengths and counts have 64 bits in every promise
  */
 #ifndef RING_DIVIDE_H
 #define RING_DIVIDE_H
 
 #include <stddef.h>
 #include <stdint.h>
+
+#ifdef __cplusplus
+extern "C" {
+#endif
+
+#define RING_DIVIDE_STACK 17152
 
 struct ring_row {
     uint64_t code;    /* 0, or the refusal 1 to 8 */
@@ -35,5 +53,9 @@ struct ring_row ring_divide(const int32_t *ring, size_t ring_len,
                             uint32_t size,
                             double *nodes, size_t nodes_len, size_t node_count,
                             uint16_t *cells, size_t cells_len, size_t cell_count);
+
+#ifdef __cplusplus
+}
+#endif
 
 #endif

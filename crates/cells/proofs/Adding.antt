@@ -11,9 +11,12 @@ use lib.Seq.{take-suc-set, getD-take}
 use lib.Ieee.{Float}
 use Rattle.vector.specs.declared.Point.{Point}
 use Rattle.nodes.specs.declared.Placed.{Placed}
-use Rattle.nodes.specs.Nodes.{nodeAt, addNode, Added, addNodes}
+use Rattle.nodes.specs.Nodes.{mostPlaces, nodeAt, addNode, Added, addNodes}
 use Rattle.nodes.specs.Growth.{Grown, Anything, InRange, EachNode}
 use Rattle.nodes.specs.Flat.{pointAt, nodesIn, over, Usable, placed}
+use Rattle.nodes.specs.declared.nearby.Nearby.{Nearby}
+use Rattle.nodes.specs.Nearby.{Held}
+use Rattle.nodes.proofs.Collection.{held-over}
 use Rattle.nodes.proofs.Growth.{addNode-grown, addNodes-grown, addNodes-number, grown-each}
 use Rattle.nodes.proofs.Flat.{length-in, node-in, at-over, in-over, length-over, over-over, over-in}
 use Rattle.cells.specs.Flat.{CanAdd, Adds, ListedTo}
@@ -22,7 +25,7 @@ use Rattle.cells.specs.Flat.{CanAdd, Adds, ListedTo}
 pub nodes-ranged : {l : List Float} {u : ℕ} → Usable l u → EachNode InRange (nodesIn l u)
 nodes-ranged {l} {u} g j b = let h : j < u = omega (arith, b, length-in l u) in subst InRange (sym (node-in l u j h)) (g .ranged j h)
 
-pub over-usable : (l : List Float) (ns : List Point) {m : List Float} {v : ℕ} → m ≡ over l ns → v ≡ length ns → EachNode InRange ns → length ns ≤ 65535 → length ns * 2 ≤ length l → Usable m v
+pub over-usable : (l : List Float) (ns : List Point) {m : List Float} {v : ℕ} → m ≡ over l ns → v ≡ length ns → EachNode InRange ns → length ns ≤ mostPlaces → length ns * 2 ≤ length l → Usable m v
 over-usable l ns e f h a b =
     record {
       room = omega (arith, f, b, ap length e ∙ length-over l ns b);
@@ -79,6 +82,10 @@ module _ {l : List Float} {u : ℕ} {p : ℕ → Point} where
   -- a place that was used before is as it was
   pub read : {i : ℕ} {m : List Float} {v : ℕ} {ks : List ℕ} → Adds l u p i m v ks → (j : ℕ) → j < u → pointAt m j ≡ nodeAt (nodesIn l u) j
   read {i} s j h = ap (λ (m : List Float). pointAt m j) (s .nodes) ∙ at-over l (E l u p i .nodes) j (omega (arith, longer l u p i)) ∙ grown l u p i .same j (omega (arith, length-in l u))
+
+  -- what was collected of the list stays true of it
+  pub held : {c : Nearby} {numbers : List ℕ} {xs : List Float} {i : ℕ} {m : List Float} {v : ℕ} {ks : List ℕ} → Adds l u p i m v ks → Held l u c numbers xs → Held m v c numbers xs
+  held {c} {numbers} {xs} {i} {m} {v} s h = held-over l m u v (E l u p i .nodes) c numbers xs (s .nodes) (s .used) (grown l u p i) h
 
   -- the numbers are those of listed nodes
   pub listed : {n : ℕ} {m : List Float} {v : ℕ} {ks : List ℕ} → Adds l u p n m v ks → ListedTo v ks n

@@ -19,7 +19,7 @@ use Rattle.marks.specs.declared.Edge.{Edge}
 use Rattle.marks.specs.declared.EdgeMark.{EdgeMark}
 use Rattle.marks.specs.declared.EdgeMark.the-variants.{Straight}
 use Rattle.nodes.specs.declared.Placed.{Placed}
-use Rattle.nodes.specs.Nodes.{nodeAt, addNode, Added, addNodes}
+use Rattle.nodes.specs.Nodes.{mostPlaces, nodeAt, addNode, Added, addNodes}
 use Rattle.nodes.specs.Growth.{Anything, InRange}
 use Rattle.nodes.specs.Flat.{pointAt, nodesIn, over, Usable, placed}
 use Rattle.nodes.proofs.Growth.{addNode-grown, addNode-number, addNodes-grown}
@@ -94,7 +94,7 @@ module _ {share : Float} {l : List Float} {u : ℕ} {ps : List GridPoint} {es : 
   try-is : A share l u ps es n ≡ attemptIn share l u ps es n
   try-is = ap (tryWith share (nodesIn l u) (take n ps) (marksOf (partIn ps es n))) (sym corners) ∙ same-try share (nodesIn l u) (take n ps) (marksOf (partIn ps es n))
 
-  all-fit : length (A share l u ps es n .nodes) ≤ 65535
+  all-fit : length (A share l u ps es n .nodes) ≤ mostPlaces
   all-fit = omega (arith, ap (λ (t : Attempt). length (t .nodes)) try-is, f .fits)
 
   all-room : length (A share l u ps es n .nodes) * 2 ≤ length l

@@ -14,6 +14,9 @@ use Rattle.marks.specs.declared.Edge.{Edge}
 use Rattle.marks.specs.declared.EdgeMark.the-variants.{Straight}
 use Rattle.nodes.specs.Growth.{InRange, EachNode}
 use Rattle.nodes.specs.Flat.{nodesIn, over}
+use Rattle.nodes.specs.declared.nearby.Nearby.{Nearby}
+use Rattle.nodes.specs.Nearby.{Held}
+use Rattle.nodes.proofs.Collection.{held-over}
 use Rattle.nodes.proofs.Growth.{grown-each}
 use Rattle.nodes.proofs.Flat.{in-over, length-over, over-over}
 use Rattle.cells.specs.declared.Tried.{Tried}
@@ -98,6 +101,10 @@ module _ {share : Float} {l : List Float} {u : ℕ} {ps : List GridPoint} {es : 
 
     pub if-far : (r .fails ≡ n → ⊥) → r .far ≡ true → Answers S l q r m q'
     if-far h e = same-answers T1 S l q (refused (λ k. h (fails-is ∙ k)) (sym far-is ∙ e)) t
+
+    -- what was collected of the list stays true of it
+    pub held-first : {c : Nearby} {numbers : List ℕ} {xs : List Float} → Held l u c numbers xs → Held m (r .used) c numbers xs
+    held-first {c} {numbers} {xs} h = held-over l m u (r .used) (T1 .nodes) c numbers xs (t .1) (ap (λ (r : Tried). r .used) (t .0)) (attempt-any share (nodesIn l u) (take n ps) (marksOf (partIn ps es n))) h
 
     -- ---- two attempts
     module _ (h : r .fails ≡ n → ⊥) (e : r .far ≡ false) where

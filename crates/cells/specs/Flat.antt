@@ -16,7 +16,7 @@ use Rattle.marks.specs.declared.EdgeMark.{EdgeMark}
 use Rattle.marks.specs.declared.EdgeMark.the-variants.{Straight}
 use Rattle.marks.specs.Part.{Part}
 use Rattle.marks.specs.Edges.{marksIn}
-use Rattle.nodes.specs.Nodes.{nodeAt, addNodes}
+use Rattle.nodes.specs.Nodes.{mostPlaces, nodeAt, addNodes}
 use Rattle.nodes.specs.Growth.{InRange}
 use Rattle.nodes.specs.Flat.{nodesIn, over, Usable}
 use Rattle.cells.specs.declared.Cell.{Cell}
@@ -41,7 +41,7 @@ pub record CanAdd (l : List Float) (u : ℕ) (p : ℕ → Point) (n : ℕ) : Typ
   pub some : 0 < n
   pub few : n ≤ 60
   pub ranged : (j : ℕ) → j < n → InRange (p j)
-  pub fits : length (addNodes (nodesIn l u) p n .nodes) ≤ 65535
+  pub fits : length (addNodes (nodesIn l u) p n .nodes) ≤ mostPlaces
   pub room : length (addNodes (nodesIn l u) p n .nodes) * 2 ≤ length l
 
 -- they have been added: the list is now m, with v nodes, and the first n of ks are their numbers
@@ -100,7 +100,7 @@ pub record CanTry (share : Float) (l : List Float) (u : ℕ) (ps : List GridPoin
   pub few : n ≤ 60
   pub long : length ps ≡ 60
   pub fair : Fair (partIn ps es n)
-  pub fits : length (attemptIn share l u ps es n .nodes) ≤ 65535
+  pub fits : length (attemptIn share l u ps es n .nodes) ≤ mostPlaces
   pub room : length (attemptIn share l u ps es n .nodes) * 2 ≤ length l
 
 -- ---- a piece
@@ -114,5 +114,5 @@ pub record CanDivide (share : Float) (l : List Float) (u : ℕ) (ps : List GridP
   pub few : n ≤ 60
   pub long : length ps ≡ 60
   pub fair : Fair (partIn ps es n)
-  pub fits : length (subdivideIn share l u ps es n .nodes) ≤ 65535
+  pub fits : length (subdivideIn share l u ps es n .nodes) ≤ mostPlaces
   pub room : length (subdivideIn share l u ps es n .nodes) * 2 ≤ length l

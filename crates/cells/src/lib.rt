@@ -11,38 +11,41 @@ ghost use Prim.Native.Nat.{ℕ, _+_, _*_, _≤_, _<_};
 ghost use lib.ListN.{length, getD, take, drop};
 ghost use Rattle.laws.specs.Bounded.{any, first};
 ghost use Rattle.nodes.specs.Flat.{pointAt, nodesIn, over};
+ghost use Rattle.nodes.specs.Nearby.{Held};
 ghost use Rattle.cells.specs.Cells as Cells;
 ghost use Rattle.cells.specs.Cells.{noCell};
 ghost use Rattle.cells.specs.Claims.{Listed};
 ghost use Rattle.cells.specs.Flat.{middleOf, positive, CanAdd, Adds, ListedTo, cornerAt, middleAt, farAt, four, overCells, CanTry, CanDivide, attemptIn, subdivideIn, triedOf};
 use marks::Edge;
 use marks::EdgeMark;
+use nodes::Nearby;
+use nodes::NodeNumber;
 use vector::GridPoint;
 use vector::Point;
 
 // Four node numbers.
 pub struct Cell {
-    pub a: u16,
-    pub b: u16,
-    pub c: u16,
-    pub d: u16,
+    pub a: NodeNumber,
+    pub b: NodeNumber,
+    pub c: NodeNumber,
+    pub d: NodeNumber,
 }
 
 // Where the middle of an edge goes, and whether its snap point was too far.
-pub struct Middle {
+struct Middle {
     pub at: Point,
     pub far: bool,
 }
 
 // The numbers that the points of a piece have got, and how many nodes are then used.
-pub struct Numbers {
-    pub list: [u16; 60],
+struct Numbers {
+    pub list: [NodeNumber; 60],
     pub used: usize,
 }
 
 // The same of edge middles, and whether a snap was too far.
-pub struct MiddleNumbers {
-    pub list: [u16; 60],
+struct MiddleNumbers {
+    pub list: [NodeNumber; 60],
     pub used: usize,
     pub far: bool,
 }
@@ -56,7 +59,7 @@ pub struct Tried {
 }
 
 // A straight middle.
-pub fn halfway(a: Point, b: Point) -> Point
+fn halfway(a: Point, b: Point) -> Point
     ensures { λ r. ⌜ r ≡ Cells.middle a b ⌝ }
 {
     Point {
@@ -66,7 +69,7 @@ pub fn halfway(a: Point, b: Point) -> Point
 }
 
 // A snap point is taken where it is no farther from the straight middle than this share of the chord.
-pub fn edge_middle(m: EdgeMark, a: Point, b: Point, share: f64) -> Middle
+fn edge_middle(m: EdgeMark, a: Point, b: Point, share: f64) -> Middle
     ensures { λ r. ⌜ r ≡ middleOf share m a b ⌝ }
 {
     let c = halfway(a, b);
@@ -85,7 +88,7 @@ pub fn edge_middle(m: EdgeMark, a: Point, b: Point, share: f64) -> Middle
 }
 
 // The corner at b turns left by more than 1.0e-15.
-pub fn turns_left(a: Point, b: Point, c: Point) -> bool
+fn turns_left(a: Point, b: Point, c: Point) -> bool
     ensures { λ r. ⌜ r ≡ Cells.turnsLeft a b c ⌝ }
 {
     let u = b.sub(a);
@@ -93,7 +96,7 @@ pub fn turns_left(a: Point, b: Point, c: Point) -> bool
     !(u.cross(v) <= 1.0e-15)
 }
 
-pub fn quad_positive(p: Point, q: Point, r: Point, s: Point) -> bool
+fn quad_positive(p: Point, q: Point, r: Point, s: Point) -> bool
     ensures { λ t. ⌜ t ≡ positive p q r s ⌝ }
 {
     if turns_left(p, q, r) {
@@ -106,7 +109,7 @@ pub fn quad_positive(p: Point, q: Point, r: Point, s: Point) -> bool
     false
 }
 
-pub fn all_distinct(c: Cell) -> bool
+fn all_distinct(c: Cell) -> bool
     ensures { λ t. ⌜ t ≡ Cells.allDistinct c ⌝ }
 {
     if c.a == c.b {
@@ -127,7 +130,7 @@ pub fn all_distinct(c: Cell) -> bool
     c.c != c.d
 }
 
-pub fn node_at(nodes: &[f64], i: u16) -> Point
+fn node_at(nodes: &[f64], i: NodeNumber) -> Point
     requires { ⌜ i * 2 + 2 ≤ length (now nodes) ⌝ }
     ensures { λ r. ⌜ r ≡ pointAt (now (nodes .entry)) i ⌝ }
 {
@@ -139,7 +142,7 @@ pub fn node_at(nodes: &[f64], i: u16) -> Point
 }
 
 // Whether a cell passes both tests.
-pub fn holds(nodes: &[f64], used: usize, c: Cell) -> bool
+fn holds(nodes: &[f64], used: usize, c: Cell) -> bool
     requires { ⌜ (used * 2 ≤ length (now nodes)) × Listed used c ⌝ }
     ensures { λ r. ⌜ r ≡ Cells.holds (nodesIn (now (nodes .entry)) used) c ⌝ }
 {
@@ -153,15 +156,23 @@ pub fn holds(nodes: &[f64], used: usize, c: Cell) -> bool
     false
 }
 
-pub fn add_corners(nodes: &mut [f64], used: usize, points: [GridPoint; 60], n: usize) -> Numbers
-    requires { ⌜ CanAdd (now nodes) used (cornerAt points n) n ⌝ }
+fn add_corners(
+    nodes: &mut [f64],
+    used: usize,
+    points: [GridPoint; 60],
+    n: usize,
+    near: Nearby,
+    numbers: &[NodeNumber],
+    xs: &[f64],
+) -> Numbers
+    requires { ⌜ CanAdd (now nodes) used (cornerAt points n) n × Held (now nodes) used near (now numbers) (now xs) ⌝ }
     ensures { λ r. ⌜ Adds (now (nodes .entry)) used (cornerAt points n) n (now (nodes .exit)) (r .used) (r .list) ⌝ }
 {
     let mut list = [0; 60];
     let mut at = used;
     for i in 0..n {
         let p = points[i];
-        let r = nodes::add_node(nodes, at, Point::new(p));
+        let r = nodes::add_node(nodes, at, Point::new(p), near, numbers, xs);
         list[i] = r.number;
         at = r.used;
     }
@@ -172,15 +183,18 @@ pub fn add_corners(nodes: &mut [f64], used: usize, points: [GridPoint; 60], n: u
 }
 
 // The middles are those of the listed ends, whose numbers are vs.
-pub fn add_middles(
+fn add_middles(
     nodes: &mut [f64],
     used: usize,
-    vs: [u16; 60],
+    vs: [NodeNumber; 60],
     marks: [Edge; 60],
     n: usize,
     share: f64,
+    near: Nearby,
+    numbers: &[NodeNumber],
+    xs: &[f64],
 ) -> MiddleNumbers
-    requires { ⌜ CanAdd (now nodes) used (middleAt share (now nodes) used vs marks n) n × ListedTo used vs n ⌝ }
+    requires { ⌜ CanAdd (now nodes) used (middleAt share (now nodes) used vs marks n) n × ListedTo used vs n × Held (now nodes) used near (now numbers) (now xs) ⌝ }
     ensures { λ r. ⌜ Adds (now (nodes .entry)) used (middleAt share (now (nodes .entry)) used vs marks n) n (now (nodes .exit)) (r .used) (r .list)
         × (r .far ≡ any (farAt share (now (nodes .entry)) used vs marks n) n) ⌝ }
 {
@@ -195,7 +209,7 @@ pub fn add_middles(
         let k = e.mark;
         let m = edge_middle(k, a, b, share);
         let q = m.at;
-        let r = nodes::add_node(nodes, at, q);
+        let r = nodes::add_node(nodes, at, q, near, numbers, xs);
         list[i] = r.number;
         at = r.used;
         far = far | m.far;
@@ -208,7 +222,7 @@ pub fn add_middles(
 }
 
 // The mean of the listed corners, summed from 0.0 in their order.
-pub fn mean(nodes: &[f64], vs: [u16; 60], n: usize) -> Point
+fn mean(nodes: &[f64], vs: [NodeNumber; 60], n: usize) -> Point
     requires { ⌜ (0 < n) × (n ≤ 60) × ((j : ℕ) → j < n → getD vs j 0 * 2 + 2 ≤ length (now nodes)) ⌝ }
     ensures { λ r. ⌜ r ≡ Cells.mean (λ i. pointAt (now (nodes .entry)) (getD vs i 0)) n ⌝ }
 {
@@ -224,7 +238,7 @@ pub fn mean(nodes: &[f64], vs: [u16; 60], n: usize) -> Point
 }
 
 // A cell's four numbers, over the first places of a list.
-pub fn put_cell(out: &mut [u16], c: Cell)
+fn put_cell(out: &mut [NodeNumber], c: Cell)
     requires { ⌜ 4 ≤ length (now out) ⌝ }
     ensures { λ _. ⌜ now (out .exit) ≡ four c ++ drop 4 (now (out .entry)) ⌝ }
 {
@@ -235,7 +249,7 @@ pub fn put_cell(out: &mut [u16], c: Cell)
 }
 
 // The cells of a piece, over the first places of a list: cell k is centre, middle k, corner k + 1, middle k + 1.
-pub fn put_cells(cells: &mut [u16], centre: u16, ms: [u16; 60], vs: [u16; 60], n: usize)
+fn put_cells(cells: &mut [NodeNumber], centre: NodeNumber, ms: [NodeNumber; 60], vs: [NodeNumber; 60], n: usize)
     requires { ⌜ (n ≤ 60) × (n * 4 ≤ length (now cells)) × (length ms ≡ 60) × (length vs ≡ 60) ⌝ }
     ensures { λ _. ⌜ now (cells .exit) ≡ overCells (now (cells .entry)) (Cells.cellsTo centre (take n ms) (take n vs) n) ⌝ }
 {
@@ -254,12 +268,12 @@ pub fn put_cells(cells: &mut [u16], centre: u16, ms: [u16; 60], vs: [u16; 60], n
 }
 
 // The first of these cells that fails, or n.
-pub fn first_failing(
+fn first_failing(
     nodes: &[f64],
     used: usize,
-    centre: u16,
-    ms: [u16; 60],
-    vs: [u16; 60],
+    centre: NodeNumber,
+    ms: [NodeNumber; 60],
+    vs: [NodeNumber; 60],
     n: usize,
 ) -> usize
     requires { ⌜ (n ≤ 60) × (used * 2 ≤ length (now nodes)) × (centre < used) × ListedTo used ms n × ListedTo used vs n × (length ms ≡ 60) × (length vs ≡ 60) ⌝ }
@@ -282,26 +296,29 @@ pub fn first_failing(
 
 // One attempt: the piece's nodes are added and all its cells are put, also where one fails. The retry puts its own over
 // the same places, so no cell of an abandoned attempt is left.
-pub fn attempt(
+fn attempt(
     nodes: &mut [f64],
     used: usize,
-    cells: &mut [u16],
+    cells: &mut [NodeNumber],
     points: [GridPoint; 60],
     marks: [Edge; 60],
     n: usize,
     share: f64,
+    near: Nearby,
+    numbers: &[NodeNumber],
+    xs: &[f64],
 ) -> Tried
-    requires { ⌜ CanTry share (now nodes) used points marks n × (n * 4 ≤ length (now cells)) ⌝ }
+    requires { ⌜ CanTry share (now nodes) used points marks n × (n * 4 ≤ length (now cells)) × Held (now nodes) used near (now numbers) (now xs) ⌝ }
     ensures { λ r. ⌜ (r ≡ triedOf (attemptIn share (now (nodes .entry)) used points marks n))
         × (now (nodes .exit) ≡ over (now (nodes .entry)) (attemptIn share (now (nodes .entry)) used points marks n .nodes))
         × (now (cells .exit) ≡ overCells (now (cells .entry)) (attemptIn share (now (nodes .entry)) used points marks n .cells)) ⌝ }
 {
-    let c = add_corners(nodes, used, points, n);
+    let c = add_corners(nodes, used, points, n, near, numbers, xs);
     let vs = c.list;
-    let m = add_middles(nodes, c.used, vs, marks, n, share);
+    let m = add_middles(nodes, c.used, vs, marks, n, share, near, numbers, xs);
     let ms = m.list;
     let p = mean(nodes, vs, n);
-    let z = nodes::add_node(nodes, m.used, p);
+    let z = nodes::add_node(nodes, m.used, p, near, numbers, xs);
     put_cells(cells, z.number, ms, vs, n);
     let f = first_failing(nodes, z.used, z.number, ms, vs, n);
     Tried {
@@ -315,18 +332,23 @@ pub fn attempt(
 pub fn subdivide(
     nodes: &mut [f64],
     used: usize,
-    cells: &mut [u16],
+    cells: &mut [NodeNumber],
     points: [GridPoint; 60],
     marks: [Edge; 60],
     n: usize,
     share: f64,
+    near: Nearby,
+    numbers: &[NodeNumber],
+    xs: &[f64],
 ) -> Tried
-    requires { ⌜ CanDivide share (now nodes) used points marks n × (n * 4 ≤ length (now cells)) ⌝ }
+    requires { ⌜ CanDivide share (now nodes) used points marks n × (n * 4 ≤ length (now cells)) × Held (now nodes) used near (now numbers) (now xs) ⌝ }
     ensures { λ r. ⌜ (r ≡ triedOf (subdivideIn share (now (nodes .entry)) used points marks n))
         × (now (nodes .exit) ≡ over (now (nodes .entry)) (subdivideIn share (now (nodes .entry)) used points marks n .nodes))
         × (now (cells .exit) ≡ overCells (now (cells .entry)) (subdivideIn share (now (nodes .entry)) used points marks n .cells)) ⌝ }
 {
-    let t = attempt(nodes, used, cells, points, marks, n, share);
+    let t = attempt(
+        nodes, used, cells, points, marks, n, share, near, numbers, xs,
+    );
     if t.fails == n {
         return t;
     }
@@ -337,5 +359,7 @@ pub fn subdivide(
         mark: EdgeMark::Straight,
     };
     let plain = [e; 60];
-    attempt(nodes, t.used, cells, points, plain, n, share)
+    attempt(
+        nodes, t.used, cells, points, plain, n, share, near, numbers, xs,
+    )
 }

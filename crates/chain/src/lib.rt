@@ -108,7 +108,7 @@ fn between(a: GridPoint, low: f64, b: GridPoint, high: f64, s: f64) -> Point
 }
 
 // The point of the chain at the length s.
-pub fn point_at_arclength(chain: [GridPoint; 60], arc: &[f64; 60], n: usize, s: f64) -> Point
+fn point_at_arclength(chain: [GridPoint; 60], arc: &[f64; 60], n: usize, s: f64) -> Point
     requires { ⌜ (2 ≤ n) × (n ≤ 60) × (take n (now arc) ≡ tab (Chain.arc (take n chain)) n) ⌝ }
     ensures { λ r. ⌜ r ≡ Chain.pointAtArclength (take n chain) s ⌝ }
 {

@@ -3,6 +3,11 @@ pub mod Kept
 pub mod Settled
 pub mod Nearness
 pub mod Apart
+pub mod AtRest
+pub mod RustCleaning
+pub mod Places
+pub mod Survivors
+pub mod Choices
 pub mod Filter
 pub mod Turns
 pub mod Passing

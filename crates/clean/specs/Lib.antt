@@ -1,3 +1,4 @@
--- What clean_polygon makes of a ring.
+-- What clean_polygon makes of a ring, and which places stay.
 pub mod Clean
+pub mod Places
 pub mod Rings

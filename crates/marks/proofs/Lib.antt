@@ -1,3 +1,4 @@
--- What is proved of a ring's marks, and the laws of the loops that lay and count them.
+-- What is proved of a ring's marks, the Rust's test among it, and the laws of the loops that lay and count them.
 pub mod Edges
+pub mod RustMarks
 pub mod SnapRange

@@ -2,92 +2,37 @@
 //
 // It stands under Cells: the corners, edge middles and means of all pieces get their numbers here, and the list goes on
 // from piece to piece and from ring to ring. It is a lent slice of doubles, x and y in turn, whose first `used` places
-// hold nodes; specs/Flat has the words for that.
+// hold nodes; specs/Flat has the words for that. A ring's box is known before its first point is sought: one pass collects
+// the nodes in it (`nearby`), and a point is then looked for among these and the nodes that were added since.
+
+mod keys;
+mod nearby;
 
 ghost use mathlib.Core.Path.{_≡_};
-ghost use mathlib.Core.Bool.{_&&_};
 ghost use Prim.Native.Nat.{_+_, _-_, _*_, _≤_};
 ghost use lib.ListN.{length};
-ghost use lib.IntN.{natAbs};
-ghost use Rattle.laws.specs.Within.{Within};
 ghost use Rattle.laws.specs.Bounded.{any, first};
-ghost use Rattle.laws.specs.Integer.{eqZ};
-ghost use Rattle.nodes.specs.Nodes as Nodes;
 ghost use Rattle.nodes.specs.Nodes.{number, addNode};
 ghost use Rattle.nodes.specs.Growth.{InRange};
-ghost use Rattle.nodes.specs.Flat.{pointAt, nodesIn, over, Usable, placed, soughtKey, Sought, near, hasAt};
+ghost use Rattle.nodes.specs.Flat.{pointAt, nodesIn, over, Usable, placed, Sought, near, hasAt};
+ghost use Rattle.nodes.specs.Nearby.{Held};
+use keys::SoughtKey;
+pub use nearby::MOST_NEARBY;
+pub use nearby::Nearby;
+pub use nearby::Window;
+pub use nearby::collect;
 use vector::Point;
 
-// A coordinate's key to look for, and the same as a double.
-pub struct SoughtKey {
-    pub key: i64,
-    pub value: f64,
-}
+// The number of a node: its place in the list.
+pub type NodeNumber = u16;
+
+// A node list has no more places than this, so that every place is a number.
+pub const MOST_PLACES: usize = 65535;
 
 // A point's number, and how many places are then used.
 pub struct Placed {
-    pub number: u16,
+    pub number: NodeNumber,
     pub used: usize,
-}
-
-// A coordinate's key. What truncation leaves is exact, so two comparisons with a half round it away from zero.
-pub fn key(x: f64) -> i64
-    requires { ⌜ Within 1024 x ⌝ }
-    ensures { λ r. ⌜ (r ≡ Nodes.key x) × (natAbs r ≤ 102400000000) ⌝ }
-{
-    let y = x * 1.0e8;
-    let t = std::num::truncating_f64_to_i64(y);
-    let r = y - t as f64;
-    if r >= 0.5 {
-        t + 1
-    } else if r <= -0.5 {
-        t - 1
-    } else {
-        t
-    }
-}
-
-impl SoughtKey {
-    pub fn new(x: f64) -> SoughtKey
-        requires { ⌜ Within 1024 x ⌝ }
-        ensures { λ r. ⌜ (r ≡ soughtKey (Nodes.key x)) × Sought r ⌝ }
-    {
-        let k = key(x);
-        SoughtKey {
-            key: k,
-            value: k as f64,
-        }
-    }
-
-    // Whether x is near enough to have this key. That is one comparison, and nearly always it is not.
-    pub fn is_near(self, x: f64) -> bool
-        ensures { λ r. ⌜ r ≡ near (self .value) x ⌝ }
-    {
-        let d = x * 1.0e8 - self.value;
-        !(d * d >= 2.0)
-    }
-
-    pub fn is_key_of(self, x: f64) -> bool
-        requires { ⌜ Within 1024 x × Sought self ⌝ }
-        ensures { λ r. ⌜ r ≡ eqZ (self .key) (Nodes.key x) ⌝ }
-    {
-        if self.is_near(x) {
-            let k = key(x);
-            return k == self.key;
-        }
-        false
-    }
-}
-
-// Whether the point x, y has the two keys.
-pub fn has_key(kx: SoughtKey, ky: SoughtKey, x: f64, y: f64) -> bool
-    requires { ⌜ Within 1024 x × Within 1024 y × Sought kx × Sought ky ⌝ }
-    ensures { λ r. ⌜ r ≡ (eqZ (kx .key) (Nodes.key x) && eqZ (ky .key) (Nodes.key y)) ⌝ }
-{
-    if kx.is_key_of(x) {
-        return ky.is_key_of(y);
-    }
-    false
 }
 
 // The first place with the two keys among those from `from` on, or `to`.
@@ -96,7 +41,7 @@ fn find_in(nodes: &[f64], from: usize, to: usize, kx: SoughtKey, ky: SoughtKey) 
     ensures { λ r. ⌜ r ≡ first (hasAt (now (nodes .entry)) (kx .key) (ky .key)) (to - from) from ⌝ }
 {
     for i in from..to {
-        if has_key(kx, ky, nodes[i * 2], nodes[i * 2 + 1]) {
+        if keys::has_key(kx, ky, nodes[i * 2], nodes[i * 2 + 1]) {
             return i;
         }
     }
@@ -126,14 +71,13 @@ fn find_block(nodes: &[f64], i: usize, kx: SoughtKey, ky: SoughtKey) -> usize
     i + 16
 }
 
-// The first used place with p's key, or `used`. What is left after the last 16 is looked at one by one.
-pub fn find(nodes: &[f64], used: usize, p: Point) -> usize
-    requires { ⌜ Usable (now nodes) used × InRange p ⌝ }
-    ensures { λ r. ⌜ r ≡ number (nodesIn (now (nodes .entry)) used) p ⌝ }
+// The first place with the two keys among those from `from` on, or `used`. What is left after the last 16 is looked at one
+// by one.
+fn find_from(nodes: &[f64], from: usize, used: usize, kx: SoughtKey, ky: SoughtKey) -> usize
+    requires { ⌜ Usable (now nodes) used × (from ≤ used) × Sought kx × Sought ky ⌝ }
+    ensures { λ r. ⌜ r ≡ first (hasAt (now (nodes .entry)) (kx .key) (ky .key)) (used - from) from ⌝ }
 {
-    let kx = SoughtKey::new(p.x);
-    let ky = SoughtKey::new(p.y);
-    let mut i = 0;
+    let mut i = from;
     while i + 16 <= used {
         let k = find_block(nodes, i, kx, ky);
         if k < i + 16 {
@@ -144,22 +88,54 @@ pub fn find(nodes: &[f64], used: usize, p: Point) -> usize
     find_in(nodes, i, used, kx, ky)
 }
 
+// The first used place with p's key, or `used`. Where the collected nodes decide, only these and the nodes after the first
+// `old` places are looked at; else all are.
+fn find_nearby(
+    nodes: &[f64],
+    used: usize,
+    p: Point,
+    near: Nearby,
+    numbers: &[NodeNumber],
+    xs: &[f64],
+) -> usize
+    requires { ⌜ Usable (now nodes) used × InRange p × Held (now nodes) used near (now numbers) (now xs) ⌝ }
+    ensures { λ r. ⌜ r ≡ number (nodesIn (now (nodes .entry)) used) p ⌝ }
+{
+    let kx = SoughtKey::new(p.x);
+    let ky = SoughtKey::new(p.y);
+    if !near.decides(kx, ky) {
+        return find_from(nodes, 0, used, kx, ky);
+    }
+    let j = nearby::find_listed(nodes, near.old, numbers, xs, near.count, kx, ky);
+    if j < near.count {
+        return numbers[j] as usize;
+    }
+    find_from(nodes, near.old, used, kx, ky)
+}
+
 // p's number: the first place with its key, or else a new place, where p is written.
-pub fn add_node(nodes: &mut [f64], used: usize, p: Point) -> Placed
-    requires { ⌜ Usable (now nodes) used × InRange p × (length (addNode (nodesIn (now nodes) used) p) * 2 ≤ length (now nodes)) ⌝ }
+pub fn add_node(
+    nodes: &mut [f64],
+    used: usize,
+    p: Point,
+    near: Nearby,
+    numbers: &[NodeNumber],
+    xs: &[f64],
+) -> Placed
+    requires { ⌜ Usable (now nodes) used × InRange p × (length (addNode (nodesIn (now nodes) used) p) * 2 ≤ length (now nodes)) × Held (now nodes) used near (now numbers) (now xs) ⌝ }
     ensures { λ r. ⌜ (r ≡ placed (nodesIn (now (nodes .entry)) used) p) × (now (nodes .exit) ≡ over (now (nodes .entry)) (addNode (nodesIn (now (nodes .entry)) used) p)) ⌝ }
 {
-    let i = find(nodes, used, p);
+    let i = find_nearby(nodes, used, p, near, numbers, xs);
     if i < used {
         return Placed {
-            number: i as u16,
+            number: i as NodeNumber,
             used: used,
         };
     }
     nodes[used * 2] = p.x;
     nodes[used * 2 + 1] = p.y;
     Placed {
-        number: used as u16,
+        number: used as NodeNumber,
         used: used + 1,
     }
 }

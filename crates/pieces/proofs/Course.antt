@@ -17,8 +17,11 @@ use Rattle.marks.specs.declared.Edge.{Edge}
 use Rattle.marks.specs.Part.{Part, noPart}
 use Rattle.split.specs.declared.PartList.{PartList}
 use Rattle.split.specs.State.{pieceIn, marksOf}
-use Rattle.nodes.specs.Growth.{InRange, EachNode}
+use Rattle.nodes.specs.Growth.{Grown, Anything, InRange, EachNode}
 use Rattle.nodes.specs.Flat.{nodesIn, over, Usable}
+use Rattle.nodes.specs.declared.nearby.Nearby.{Nearby}
+use Rattle.nodes.specs.Nearby.{Held}
+use Rattle.nodes.proofs.Collection.{held-over}
 use Rattle.nodes.proofs.Flat.{length-in, in-over, length-over, over-over, over-in}
 use Rattle.cells.specs.declared.Cell.{Cell}
 use Rattle.cells.specs.declared.Tried.{Tried}
@@ -27,7 +30,7 @@ use Rattle.cells.specs.Pieces.{Outcome, done, failed, onward, piecesTo}
 use Rattle.cells.specs.Stages.{nodesOf}
 use Rattle.cells.specs.Claims.{Fair, cornersTo, CellsOf}
 use Rattle.cells.specs.Flat.{partIn, overCells, subdivideIn, triedOf, CanDivide}
-use Rattle.cells.proofs.Attempts.{onward-done, pieces-later, subdivide-any}
+use Rattle.cells.proofs.Attempts.{onward-done, pieces-any, pieces-later, subdivide-any}
 use Rattle.cells.proofs.Ranges.{pieces-in-range}
 use Rattle.cells.proofs.NewCells.{subdivide-cells, pieces-cells}
 use Rattle.cells.proofs.Adding.{nodes-ranged, over-usable}
@@ -118,6 +121,11 @@ module _ {share : Float} {l : List Float} {u : ℕ} {q : List ℕ} {first reserv
         over-usable l (s .ns) (s .nodes) (s .used)
         (subst (λ (o : Outcome). EachNode InRange (nodesOf o)) (s .is) (pieces-in-range share ps (nodesIn l u) i (λ k a. f .fair k (omega arith)) (nodes-ranged (f .usable))))
         (omega (arith, listed, rise i h, f .fits)) (omega (arith, listed, rise i h, f .room))
+
+    -- what was collected of the nodes at first stays true of them
+    pub held : {c : Nearby} {numbers : List ℕ} {xs : List Float} → Held l u c numbers xs → Held m v c numbers xs
+    held {c} {numbers} {xs} h =
+        held-over l m u v (s .ns) c numbers xs (s .nodes) (s .used) (subst (λ (o : Outcome). Grown Anything (nodesIn l u) (nodesOf o)) (s .is) (pieces-any share ps (nodesIn l u) i)) h
 
     pub all-done : i ≡ p .count → Left l q first reserve (O (p .count)) (Done v (at - first)) m r
     all-done e =

@@ -10,6 +10,7 @@ use Rattle.marks.specs.Part.{Part}
 use Rattle.split.specs.declared.PartList.{PartList}
 use Rattle.split.specs.Layout.{Kept, listOf}
 use Rattle.split.specs.State.{pieceIn, marksOf}
+use Rattle.nodes.specs.Nodes.{mostPlaces}
 use Rattle.nodes.specs.Flat.{nodesIn, Usable}
 use Rattle.cells.specs.declared.Cell.{Cell}
 use Rattle.cells.specs.Cells.{noCell}
@@ -34,7 +35,7 @@ pub record CanSubdivide (share : Float) (l : List Float) (u : ℕ) (q : List ℕ
   pub sheet : AllOnSheet ring
   pub kept : Kept p
   pub fair : (i : ℕ) → i < p .count → Fair (pieceIn ring (marksOf es) p i)
-  pub fits : length (nodesOf (outcomeIn share l u ring es p)) ≤ 65535
+  pub fits : length (nodesOf (outcomeIn share l u ring es p)) ≤ mostPlaces
   pub room : length (nodesOf (outcomeIn share l u ring es p)) * 2 ≤ length l
   pub corners : cornersTo (piecesIn ring es p) (p .count) ≤ reserve
   pub places : (first + reserve) * 4 ≤ length q

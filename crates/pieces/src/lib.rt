@@ -4,6 +4,8 @@
 // cells go into the part of the caller's list that starts where those of the piece before ended. After a failure the
 // places that were reserved for the ring's cells are zero. specs/Flat says what is asked, answered and left.
 
+mod extent;
+
 ghost use mathlib.Core.Path.{_≡_};
 ghost use Prim.Native.Nat.{_*_, _≤_};
 ghost use lib.ListN.{length, replicate};
@@ -13,6 +15,8 @@ ghost use Rattle.cells.specs.Stages.{nodesOf};
 ghost use Rattle.cells.specs.Flat.{overCells};
 ghost use Rattle.pieces.specs.Flat.{outcomeIn, CanSubdivide, row, rowOf, overFrom, cellsLeft};
 use marks::Edge;
+use nodes::MOST_NEARBY;
+use nodes::NodeNumber;
 use split::PartList;
 use vector::GridPoint;
 
@@ -31,7 +35,7 @@ pub enum Subdivision {
 }
 
 // Zeros over the first n cells.
-fn clear(cells: &mut [u16], n: usize)
+fn clear(cells: &mut [NodeNumber], n: usize)
     requires { ⌜ n * 4 ≤ length (now cells) ⌝ }
     ensures { λ _. ⌜ now (cells .exit) ≡ overCells (now (cells .entry)) (replicate n noCell) ⌝ }
 {
@@ -45,7 +49,7 @@ fn clear(cells: &mut [u16], n: usize)
 pub fn subdivide_all(
     nodes: &mut [f64],
     used: usize,
-    cells: &mut [u16],
+    cells: &mut [NodeNumber],
     first: usize,
     reserve: usize,
     ring: [GridPoint; 60],
@@ -58,6 +62,10 @@ pub fn subdivide_all(
         × (now (nodes .exit) ≡ over (now (nodes .entry)) (nodesOf (outcomeIn share (now (nodes .entry)) used ring marks pieces)))
         × (now (cells .exit) ≡ overFrom (now (cells .entry)) first (cellsLeft reserve (outcomeIn share (now (nodes .entry)) used ring marks pieces))) ⌝ }
 {
+    let w = extent::window(ring, marks, pieces);
+    let mut numbers = [0; MOST_NEARBY];
+    let mut xs = [0.0; MOST_NEARBY];
+    let near = nodes::collect(nodes, used, w, &mut numbers, &mut xs);
     let mut u = used;
     let mut at = first;
     for i in 0..pieces.count {
@@ -65,7 +73,9 @@ pub fn subdivide_all(
         let ps = split::piece_points(ring, pieces, i);
         let es = split::piece_marks(marks, pieces, i);
         let start = at * 4;
-        let t = cells::subdivide(nodes, u, &mut cells[start..], ps, es, n, share);
+        let t = cells::subdivide(
+            nodes, u, &mut cells[start..], ps, es, n, share, near, &numbers, &xs,
+        );
         if t.fails != n {
             let window = first * 4;
             clear(&mut cells[window..], reserve);

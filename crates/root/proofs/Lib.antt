@@ -1,8 +1,10 @@
--- The theorem, the starred rows, and bounds of lengths for the layers above.
+-- The theorem, the starred rows, and of lengths, for the layers above: bounds, that those over the grid are the Rust's, and where they are 0.
 pub mod NearestRoot
 pub mod Trials
 pub mod Length
 pub mod AtLeast
+pub mod RustLengths
+pub mod ZeroLengths
 -- What they and the code's proofs rest on: whole numbers, then doubles.
 pub mod Square
 pub mod Heron

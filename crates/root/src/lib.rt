@@ -94,7 +94,7 @@ pub fn root(x: f64) -> f64
         if b < 0x7ff0_0000_0000_0000 {
             return f64::from_bits(root_positive(b));
         }
-        return x;
+        return x; // infinity gives itself
     }
     if x == 0.0 {
         return x; // a zero keeps its sign
@@ -158,17 +158,11 @@ pub fn grid_dist_at_most(a: GridPoint, b: GridPoint, t: f64) -> bool
     root_at_most(vector::square_mm(v.dot(v)), t)
 }
 
-// The two for C and Rust to call (`bench/root` runs them beside the processor's own).
+// For C and Rust to call (`bench/root` runs it beside the processor's own): over bit patterns, since a NaN that crosses as
+// a double has bits that no promise names.
 #[no_mangle]
 pub extern "C" fn ring_root_bits(b: u64) -> u64
     ensures { λ r. ⌜ r ≡ rootBits b ⌝ }
 {
     root_bits(b)
-}
-
-#[no_mangle]
-pub extern "C" fn ring_root(x: f64) -> f64
-    ensures { λ r. ⌜ r ≡ rootOf x ⌝ }
-{
-    root(x)
 }

@@ -7,14 +7,13 @@ use mathlib.Core.List.{List}
 use lib.ListN.{length}
 use lib.Dec.{T}
 use Rattle.laws.specs.Double.{_<f_, _≤f_}
-use Rattle.laws.specs.All.{All}
 use Rattle.vector.specs.declared.GridPoint.{GridPoint}
 use Rattle.marks.specs.Part.{Part}
 use Rattle.corner.specs.declared.Limits.{Limits}
 use Rattle.corner.specs.Corner.{measureAt, bad, Worst}
 use Rattle.diagonal.specs.Diagonal.{meetsRule, score}
 use Rattle.split.specs.Cut.{rotate}
-use Rattle.split.specs.Split.{Cut, Stack}
+use Rattle.split.specs.Split.{Cut}
 
 -- of the diagonals from the corner 0 of r to 2 .. its corners less 2, the one to k is the best: it meets the rule, no other that does has a smaller larger cosine, and none before it an equal one
 pub record Best (L : Limits) (r : List GridPoint) (k : ℕ) : Type 0 where

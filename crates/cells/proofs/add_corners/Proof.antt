@@ -13,13 +13,13 @@ use Rattle.cells.proofs.add_corners.Statement.{statement}
 use Rattle.cells.proofs.add_corners.Tie as tie
 
 abbrev Inv-loop : tie.InvT-loop
-Inv-loop nodes₀ used n points list₀ at₀ i₀ nodes list at i = (i ≤ n) × Adds nodes₀ used (cornerAt points n) i nodes at list
+Inv-loop nodes₀ used n near numbers xs points list₀ at₀ i₀ nodes list at i = (i ≤ n) × Adds nodes₀ used (cornerAt points n) i nodes at list
 
 abbrev μ-loop : tie.MeasureT-loop
-μ-loop nodes₀ used n points list₀ at₀ i₀ nodes list at i = n - i
+μ-loop nodes₀ used n near numbers xs points list₀ at₀ i₀ nodes list at i = n - i
 
 loop-holds : tie.Need-loop-holds Inv-loop μ-loop
-loop-holds c = (search needs, adding.start _ (c .before .pre .usable .room) refl)
+loop-holds c = (search needs, adding.start _ (c .before .before .before .pre .0 .usable .room) refl)
 
 mul-p : tie.Need-mul-p Inv-loop μ-loop
 mul-p c = search needs
@@ -32,11 +32,12 @@ new-requires c κs = search needs
 
 add-node-requires : tie.Need-add-node-requires Inv-loop μ-loop
 add-node-requires c κs =
-    let s = c .before .before .before .before .before .before in
-    let l = c .before .before .before .before .loop in
+    let o = c .before .before .before .before in
+    let s = o .before .before .before .before in
+    let l = o .loop in
     let t = c .before .before .before .loop-test .taken in
     let e = c .new .ensures ∙ ap inMm (sym (getD-take (s .args .n) (s .args .t3) (l .i) origin t)) in
-    (adding.usable (s .pre) (l .inv .1) (l .inv .0), subst InRange (sym e) (s .pre .ranged (l .i) t), adding.ahead (s .pre) (l .inv .1) t e)
+    (adding.usable (s .pre .0) (l .inv .1) (l .inv .0), subst InRange (sym e) (s .pre .0 .ranged (l .i) t), adding.ahead (s .pre .0) (l .inv .1) t e, adding.held (l .inv .1) (s .pre .1))
 
 mul-list : tie.Need-mul-list Inv-loop μ-loop
 mul-list c = search needs
@@ -52,19 +53,20 @@ loop-less c = search needs
 
 loop-again : tie.Need-loop-again Inv-loop μ-loop
 loop-again c =
-    let s = c .before .before .before .before .before .before .before .before .before in
-    let l = c .before .before .before .before .before .before .before .loop in
+    let o = c .before .before .before .before .before .before .before in
+    let s = o .before .before .before .before in
+    let l = o .loop in
     let t = c .before .before .before .before .before .before .loop-test .taken in
     let a = c .before .before .add-node in
     let k = c .before .before .before .new in
-    (search needs, adding.next (l .inv .1) (omega (arith, s .pre .few)) (k .ensures ∙ ap inMm (sym (getD-take (s .args .n) (s .args .t3) (l .i) origin t))) (a .ensures .0) (a .ensures .1))
+    (search needs, adding.next (l .inv .1) (omega (arith, s .pre .0 .few)) (k .ensures ∙ ap inMm (sym (getD-take (s .args .n) (s .args .t3) (l .i) origin t))) (a .ensures .0) (a .ensures .1))
 
 same-length : tie.Need-same-length Inv-loop μ-loop
-same-length c = let l = c .before .loop in adding.same-size (c .before .before .before .pre) (l .inv .1) (l .inv .0)
+same-length c = let o = c .before in adding.same-size (o .before .before .before .before .pre .0) (o .loop .inv .1) (o .loop .inv .0)
 
 returns : tie.Need-returns Inv-loop μ-loop
 returns c =
-    let a = c .before .before .before .args in
+    let a = c .before .before .before .before .before .args in
     let l = c .before .loop in
     let e : l .i ≡ a .n = omega arith in
     subst (λ (k : ℕ). Adds (a .nodes .now) (a .used) (cornerAt (a .t3) (a .n)) k (l .nodes) (l .at) (l .list)) e (l .inv .1)

@@ -1,6 +1,6 @@
 -- `cells::add_middles` meets its contract.
 use mathlib.Core.Path.{_≡_, refl, sym, ap, _∙_, subst}
-use Prim.Native.Nat.{ℕ, suc, _-_, _≤_}
+use Prim.Native.Nat.{ℕ, suc, _-_, _≤_, _<_}
 use lib.ListN.{getD}
 use Rattle.laws.specs.Bounded.{any}
 use Rattle.laws.proofs.Search.{any-next}
@@ -20,23 +20,23 @@ use Rattle.cells.proofs.add_middles.Statement.{statement}
 use Rattle.cells.proofs.add_middles.Tie as tie
 
 abbrev Inv-loop : tie.InvT-loop
-Inv-loop nodes₀ used n share vs marks list₀ at₀ far₀ i₀ nodes list at far i = (i ≤ n) × Adds nodes₀ used (middleAt share nodes₀ used vs marks n) i nodes at list × (far ≡ any (farAt share nodes₀ used vs marks n) i)
+Inv-loop nodes₀ used n share near numbers xs vs marks list₀ at₀ far₀ i₀ nodes list at far i = (i ≤ n) × Adds nodes₀ used (middleAt share nodes₀ used vs marks n) i nodes at list × (far ≡ any (farAt share nodes₀ used vs marks n) i)
 
 abbrev μ-loop : tie.MeasureT-loop
-μ-loop nodes₀ used n share vs marks list₀ at₀ far₀ i₀ nodes list at far i = n - i
+μ-loop nodes₀ used n share near numbers xs vs marks list₀ at₀ far₀ i₀ nodes list at far i = n - i
 
 -- the middle of edge i is that of the definition
 abbrev Mid : tie.After-edge-middle Inv-loop μ-loop → Type 0
 Mid c =
     let x = c .before .before .before .before .before .before in
-    let a = x .before .before .before .before .args in
+    let a = x .before .before .before .before .before .before .args in
     let i = x .before .before .loop .i in
     c .edge-middle .result ≡ middleOf (a .share) (getD (marksIn (a .t4) (a .n)) i Straight) (endAt (a .nodes .now) (a .used) (a .t3) (a .n) i) (endAt (a .nodes .now) (a .used) (a .t3) (a .n) (suc i))
 
 mid : (c : tie.After-edge-middle Inv-loop μ-loop) → Mid c
 mid c =
     let x = c .before .before .before .before .before .before in
-    let s = x .before .before .before .before in
+    let s = x .before .before .before .before .before .before in
     let a = s .args in
     let l = x .before .before .loop in
     let t = x .before .loop-test .taken in
@@ -48,7 +48,7 @@ mid c =
 
 loop-holds : tie.Need-loop-holds Inv-loop μ-loop
 unfolding any
-loop-holds c = (search needs, adding.start _ (c .before .pre .0 .usable .room) refl, refl)
+loop-holds c = (search needs, adding.start _ (c .before .before .before .pre .0 .usable .room) refl, refl)
 
 next-requires : tie.Need-next-requires Inv-loop μ-loop
 next-requires c κs = search needs
@@ -62,7 +62,7 @@ array-read-node-at c = search needs
 node-at-requires : tie.Need-node-at-requires Inv-loop μ-loop
 node-at-requires c κs =
     let x = c .before .before in
-    let s = x .before .before .before in
+    let s = x .before .before .before .before .before in
     let l = x .before .loop in
     omega (arith, adding.same-size (s .pre .0) (l .inv .1) (l .inv .0), s .pre .1 (l .i) (x .loop-test .taken), s .pre .0 .usable .room)
 
@@ -75,7 +75,7 @@ array-read-node-at-2 c = search needs
 node-at-requires-2 : tie.Need-node-at-requires-2 Inv-loop μ-loop
 node-at-requires-2 c κs =
     let x = c .before .before .before in
-    let s = x .before .before .before .before in
+    let s = x .before .before .before .before .before .before in
     let l = x .before .before .loop in
     omega (arith, adding.same-size (s .pre .0) (l .inv .1) (l .inv .0), s .pre .1 _ (x .next .ensures .1), s .pre .0 .usable .room)
 
@@ -91,21 +91,27 @@ edge-middle-requires c κs = search needs
 add-node-requires : tie.Need-add-node-requires Inv-loop μ-loop
 add-node-requires c κs =
     let x = c .before .before .before .before .before .before .before .before in
-    let s = x .before .before .before .before in
+    let s = x .before .before .before .before .before .before in
     let l = x .before .before .loop in
     let t = x .before .loop-test .taken in
     let r = s .pre .0 in
     let e = ap (λ (m : Middle). m .at) (mid (c .before .before)) in
-    (adding.usable r (l .inv .1) (l .inv .0), subst InRange (sym e) (r .ranged (l .i) t), adding.ahead r (l .inv .1) t e)
+    (adding.usable r (l .inv .1) (l .inv .0), subst InRange (sym e) (r .ranged (l .i) t), adding.ahead r (l .inv .1) t e, adding.held (l .inv .1) (s .pre .2))
+
+-- edge i has a place in the list of numbers
+few : (c : tie.After-add-node Inv-loop μ-loop) → c .before .before .before .before .before .before .before .before .before .before .before .loop .i < 60
+few c =
+    let x = c .before .before .before .before .before .before .before .before .before in
+    omega (arith, x .before .loop-test .taken, x .before .before .before .before .before .before .pre .0 .few)
 
 mul-list : tie.Need-mul-list Inv-loop μ-loop
-mul-list c = search needs
+mul-list c = omega (arith, few (c .before .before))
 
 array-write-list : tie.Need-array-write-list Inv-loop μ-loop
-array-write-list c = search needs
+array-write-list c = few (c .before .before)
 
 add-i : tie.Need-add-i Inv-loop μ-loop
-add-i c = search needs
+add-i c = omega (arith, few (c .before .before .before))
 
 loop-less : tie.Need-loop-less Inv-loop μ-loop
 loop-less c = search needs
@@ -115,16 +121,16 @@ loop-again c =
     let y = c .before .before .before in
     let m = mid (y .before .before .before) in
     let x = y .before .before .before .before .before .before .before .before .before in
-    let s = x .before .before .before .before in
+    let s = x .before .before .before .before .before .before in
     let l = x .before .before .loop in
-    (search needs, adding.next (l .inv .1) (omega (arith, s .pre .0 .few, x .before .loop-test .taken)) (ap (λ (m : Middle). m .at) m) (y .add-node .ensures .0) (y .add-node .ensures .1), any-next _ (l .i) (l .far) _ (l .inv .2) (ap (λ (m : Middle). m .far) m))
+    (search needs, adding.next (l .inv .1) (few y) (ap (λ (m : Middle). m .at) m) (y .add-node .ensures .0) (y .add-node .ensures .1), any-next _ (l .i) (l .far) _ (l .inv .2) (ap (λ (m : Middle). m .far) m))
 
 same-length : tie.Need-same-length Inv-loop μ-loop
-same-length c = let l = c .before .loop in adding.same-size (c .before .before .before .pre .0) (l .inv .1) (l .inv .0)
+same-length c = let o = c .before in adding.same-size (o .before .before .before .before .pre .0) (o .loop .inv .1) (o .loop .inv .0)
 
 returns : tie.Need-returns Inv-loop μ-loop
 returns c =
-    let a = c .before .before .before .args in
+    let a = c .before .before .before .before .before .args in
     let l = c .before .loop in
     let e : l .i ≡ a .n = omega arith in (
       subst (λ (k : ℕ). Adds (a .nodes .now) (a .used) (middleAt (a .share) (a .nodes .now) (a .used) (a .t3) (a .t4) (a .n)) k (l .nodes) (l .at) (l .list)) e (l .inv .1),

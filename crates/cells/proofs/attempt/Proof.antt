@@ -1,24 +1,26 @@
 -- `cells::attempt` meets its contract.
-use Rattle.cells.proofs.Adding.{listed}
+use Rattle.cells.proofs.Adding.{listed, held}
 use Rattle.cells.proofs.OneAttempt as one
 use borrow.Author.Needs.{needs}
 use Rattle.cells.proofs.attempt.Statement.{statement}
 use Rattle.cells.proofs.attempt.Tie as tie
 
 add-corners-requires : tie.Need-add-corners-requires
-add-corners-requires c κs = one.add-corners (c .before .before .before .pre .0)
+add-corners-requires c κs = let s = c .before .before .before .before .before in (one.add-corners (s .pre .0), s .pre .2)
 
 add-middles-requires : tie.Need-add-middles-requires
 add-middles-requires c κs =
     let k = c .before .before .before .before in
-    let f = k .before .before .before .before .pre .0 in
-    (one.add-middles f (k .add-corners .ensures), listed (k .add-corners .ensures))
+    let s = k .before .before .before .before .before .before in
+    let f = s .pre .0 in
+    (one.add-middles f (k .add-corners .ensures), listed (k .add-corners .ensures), held (k .add-corners .ensures) (s .pre .2))
 
 mean-requires : tie.Need-mean-requires
 mean-requires c κs =
     let m = c .before .before .before .before in
     let k = m .before .before .before .before .before in
-    let f = k .before .before .before .before .pre .0 in
+    let s = k .before .before .before .before .before .before in
+    let f = s .pre .0 in
     (f .some, f .few, one.corner-room f (k .add-corners .ensures) (m .add-middles .ensures .0))
 
 add-node-requires : tie.Need-add-node-requires
@@ -26,10 +28,11 @@ add-node-requires c κs =
     let q = c .before in
     let m = q .before .before .before .before .before in
     let k = m .before .before .before .before .before in
-    let f = k .before .before .before .before .pre .0 in
+    let s = k .before .before .before .before .before .before in
+    let f = s .pre .0 in
     let a = k .add-corners .ensures in
     let b = m .add-middles .ensures .0 in
-    (one.after-middles f a b, one.centre-ranged f a b (q .mean .ensures), one.centre-room f a b (q .mean .ensures))
+    (one.after-middles f a b, one.centre-ranged f a b (q .mean .ensures), one.centre-room f a b (q .mean .ensures), held b (held a (s .pre .2)))
 
 put-cells-requires : tie.Need-put-cells-requires
 put-cells-requires c κs =
@@ -37,7 +40,7 @@ put-cells-requires c κs =
     let q = z .before .before in
     let m = q .before .before .before .before .before in
     let k = m .before .before .before .before .before in
-    let s = k .before .before .before .before in
+    let s = k .before .before .before .before .before .before in
     (s .pre .0 .few, s .pre .1, m .add-middles .ensures .0 .long, k .add-corners .ensures .long)
 
 first-failing-requires : tie.Need-first-failing-requires
@@ -46,7 +49,7 @@ first-failing-requires c κs =
     let q = z .before .before in
     let m = q .before .before .before .before .before in
     let k = m .before .before .before .before .before in
-    let s = k .before .before .before .before in
+    let s = k .before .before .before .before .before .before in
     let f = s .pre .0 in
     let a = k .add-corners .ensures in
     let b = m .add-middles .ensures .0 in
@@ -73,7 +76,7 @@ returns c =
     let q = z .before .before in
     let m = q .before .before .before .before .before in
     let k = m .before .before .before .before .before in
-    let s = k .before .before .before .before in
+    let s = k .before .before .before .before .before .before in
     let e = z .add-node .ensures in
     one.answer (s .pre .0) (k .add-corners .ensures) (m .add-middles .ensures .0) (q .mean .ensures) (e .0) (e .1) (s .args .cells .now) (m .add-middles .ensures .1) (c .first-failing .ensures) (c .before .before .before .before .put-cells .ensures)
 

@@ -1,31 +1,31 @@
 -- `nodes::add_node` meets its contract.
 use Prim.Native.Nat.{_+_, _*_, _≤_}
-use lib.ListN.{length, length-set}
-use Rattle.nodes.proofs.Adding as adding
 use native.Mathlib.Omega.{arith}
 use borrow.Author.Needs.{needs}
+use lib.ListN.{length, length-set}
+use Rattle.nodes.proofs.Adding as adding
 use Rattle.nodes.proofs.add_node.Statement.{statement}
 use Rattle.nodes.proofs.add_node.Tie as tie
 
 -- a point that is not listed has a place
-room : (c : tie.Else1) → c .before .before .before .before .args .used * 2 + 2 ≤ length (c .before .before .before .before .args .nodes .now)
+room : (c : tie.Else1) → let a = c .before .before .before .before .before .before .args in a .used * 2 + 2 ≤ length (a .nodes .now)
 room c =
-    let s = c .before .before .before .before in
-    omega (arith, s .pre .2, adding.longer (s .args .nodes .now) (s .args .used) (c .before .find .result) (s .args .p) (c .before .find .ensures) (c .if1 .left))
+    let s = c .before .before .before .before .before .before in
+    omega (arith, s .pre .2, adding.longer (s .args .nodes .now) (s .args .used) (c .before .find-nearby .result) (s .args .p) (c .before .find-nearby .ensures) (c .if1 .left))
 
-find-requires : tie.Need-find-requires
-find-requires c κs = search needs
+find-nearby-requires : tie.Need-find-nearby-requires
+find-nearby-requires c κs = search needs
 
-cast-t8 : tie.Need-cast-t8
-cast-t8 c = search needs
+cast-t11 : tie.Need-cast-t11
+cast-t11 c = search needs
 
 same-length : tie.Need-same-length
 same-length c = search needs
 
 returns : tie.Need-returns
 returns c =
-    let s = c .before .before .before .before in
-    adding.old (s .args .nodes .now) (s .args .used) (c .before .find .result) (s .args .p) (c .before .find .ensures) (omega arith) (c .if1 .taken)
+    let s = c .before .before .before .before .before .before in
+    adding.old (s .args .nodes .now) (s .args .used) (c .before .find-nearby .result) (s .args .p) (c .before .find-nearby .ensures) (omega arith) (c .if1 .taken)
 
 mul-nodes : tie.Need-mul-nodes
 mul-nodes c = search needs
@@ -48,26 +48,26 @@ mul-nodes-4 c = search needs
 slice-write-nodes-2 : tie.Need-slice-write-nodes-2
 slice-write-nodes-2 c = simp length-set (omega (arith, room c))
 
-cast-t14 : tie.Need-cast-t14
-cast-t14 c = search needs
+cast-t17 : tie.Need-cast-t17
+cast-t17 c = search needs
 
-add-t9 : tie.Need-add-t9
-add-t9 c = search needs
+add-t12 : tie.Need-add-t12
+add-t12 c = search needs
 
 same-length-2 : tie.Need-same-length-2
 same-length-2 c = search needs
 
 returns-2 : tie.Need-returns-2
 returns-2 c =
-    let s = c .before .before .before .before in
-    adding.new (s .args .nodes .now) (s .args .used) (c .before .find .result) (s .args .p) (c .before .find .ensures) (room c) (c .if1 .left)
+    let s = c .before .before .before .before .before .before in
+    adding.new (s .args .nodes .now) (s .args .used) (c .before .find-nearby .result) (s .args .p) (c .before .find-nearby .ensures) (room c) (c .if1 .left)
 
 pub add-node-spec : {M : Type 1} → statement M
 add-node-spec =
     tie.close
     (tie.spec
-    find-requires
-    cast-t8
+    find-nearby-requires
+    cast-t11
     same-length
     returns
     mul-nodes
@@ -77,7 +77,7 @@ add-node-spec =
     add-nodes
     mul-nodes-4
     slice-write-nodes-2
-    cast-t14
-    add-t9
+    cast-t17
+    add-t12
     same-length-2
     returns-2)

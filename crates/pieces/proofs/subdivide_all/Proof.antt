@@ -1,6 +1,6 @@
 -- `pieces::subdivide_all` meets its contract.
 use mathlib.Core.Path.{_≡_, refl, ap, _∙_}
-use Prim.Native.Nat.{ℕ, _+_, _-_, _*_, _≤_}
+use Prim.Native.Nat.{ℕ, _+_, _-_, _*_, _^_, _≤_, _<_}
 use lib.ListN.{length, take, length-take, length-drop}
 use borrow.Rule.Slice.PartMut.{putMid}
 use Rattle.split.specs.State.{marksOf}
@@ -12,18 +12,22 @@ use Rattle.pieces.proofs.subdivide_all.Statement.{statement}
 use Rattle.pieces.proofs.subdivide_all.Tie as tie
 
 abbrev Inv-loop : tie.InvT-loop
-Inv-loop nodes₀ used cells₀ first reserve ring marks pieces share u₀ at₀ i₀ i-end nodes cells u at i = (i ≤ pieces .count) × (i-end ≡ pieces .count) × Reached share nodes₀ used cells₀ first ring marks pieces i nodes u cells at
+Inv-loop nodes₀ used cells₀ first reserve ring marks pieces share numbers xs near u₀ at₀ i₀ i-end nodes cells u at i = (i ≤ pieces .count) × (i-end ≡ pieces .count) × Reached share nodes₀ used cells₀ first ring marks pieces i nodes u cells at
 
 abbrev μ-loop : tie.MeasureT-loop
-μ-loop nodes₀ used cells₀ first reserve ring marks pieces share u₀ at₀ i₀ i-end nodes cells u at i = pieces .count - i
+μ-loop nodes₀ used cells₀ first reserve ring marks pieces share numbers xs near u₀ at₀ i₀ i-end nodes cells u at i = pieces .count - i
+
+-- where the function began
+abbrev begin : tie.At-loop Inv-loop μ-loop → tie.Start Inv-loop μ-loop
+begin c = c .before .before .before .before .before .before .before .before .before .before
 
 -- piece i has been read
 read : (c : tie.After-piece-marks Inv-loop μ-loop)
-    → let s = c .before .before .before .before .before .before .before in
+    → let s = begin (c .before .before .before .before) in
     Read (s .args .ring) (s .args .marks) (s .args .pieces) (c .before .before .before .before .loop .i) (c .before .before .piece-size .result) (c .before .piece-points .result) (c .piece-marks .result)
 read c =
     let x = c .before .before in
-    let a = x .before .before .before .before .before .args in
+    let a = begin (x .before .before) .args in
     let n = x .piece-size .ensures in
     record {
       count = x .before .loop-test .taken;
@@ -32,31 +36,51 @@ read c =
       corners = n .0 (a .ring) (marksOf (a .marks));
       long = search needs;
       points = ap (λ (k : ℕ). take k (c .before .piece-points .result)) (n .1) ∙ c .before .piece-points .ensures .0 (marksOf (a .marks));
-      marks = ap (λ (k : ℕ). marksOf (take k (c .piece-marks .result))) (n .1) ∙ c .piece-marks .ensures (a .ring);
+      marks = ap (λ (k : ℕ). marksOf (take k (c .piece-marks .result))) (n .1) ∙ c .piece-marks .ensures .0 (a .ring);
     }
 
 -- its cells have room from place `at` on
 room : (c : tie.After-piece-marks Inv-loop μ-loop) → let o = c .before .before .before .before .loop in o .at * 4 + c .before .before .piece-size .result * 4 ≤ length (o .cells)
-room c = let o = c .before .before .before .before in course.cell-room (o .before .before .before .pre) (o .loop .inv .2) (read c)
+room c = let o = c .before .before .before .before in course.cell-room (begin o .pre) (o .loop .inv .2) (read c)
 
 -- the list of cells is as long as it came
-long : (c : tie.At-loop Inv-loop μ-loop) → length (c .loop .cells) ≡ length (c .before .before .before .args .cells .now)
-long c = course.long-cells (c .before .before .before .pre) (c .loop .inv .2) (c .loop .inv .0)
+long : (c : tie.At-loop Inv-loop μ-loop) → length (c .loop .cells) ≡ length (begin c .args .cells .now)
+long c = course.long-cells (begin c .pre) (c .loop .inv .2) (c .loop .inv .0)
 
 -- after the piece the list still has the places that are to be cleared
 window : (c : tie.Then1 Inv-loop μ-loop)
     → let y = c .before .before .before .before .before .before in
-    let o = y .before .before .before .before .before .before .before in
-    let a = o .before .before .before .args in
+    let o = y .before .before .before .before .before .before .before .before .before in
+    let a = begin o .args in
     (a .first + a .reserve) * 4 ≤ length (putMid (o .loop .at * 4) (length (o .loop .cells) - o .loop .at * 4) (o .loop .cells) (y .subdivide .last .1 .1 .0))
 window c =
     let y = c .before .before .before .before .before .before in
-    let x = y .before .before .before in
+    let x = y .before .before .before .before .before in
     let o = x .before .before .before .before in
-    course.clear-room (o .before .before .before .pre) (o .loop .inv .2) (read x) (y .subdivide .ensures)
+    course.clear-room (begin o .pre) (o .loop .inv .2) (read x) (y .subdivide .ensures)
+
+window-requires : tie.Need-window-requires Inv-loop μ-loop
+window-requires c κs = search needs
+
+slice-aggregate-collect : tie.Need-slice-aggregate-collect Inv-loop μ-loop
+slice-aggregate-collect c = search needs
+
+slice-aggregate-collect-2 : tie.Need-slice-aggregate-collect-2 Inv-loop μ-loop
+slice-aggregate-collect-2 c = search needs
+
+collect-requires : tie.Need-collect-requires Inv-loop μ-loop
+collect-requires c κs =
+    let w = c .before .before .before in
+    (w .before .before .before .pre .usable, w .window .ensures, refl, refl)
+
+-- the places to be cleared begin within the list
+low : (c : tie.Then1 Inv-loop μ-loop)
+    → let o = c .before .before .before .before .before .before .before .before .before .before .before .before .before .before .before in
+    begin o .args .first * 8 < 2 ^ 64
+low c = let o = c .before .before .before .before .before .before .before .before .before .before .before .before .before .before .before in omega (arith, begin o .pre .places, begin o .good .1 .1 .0)
 
 loop-holds : tie.Need-loop-holds Inv-loop μ-loop
-loop-holds c = (search needs, refl, course.start (c .before .before .pre))
+loop-holds c = (search needs, refl, course.start (c .before .before .before .before .before .before .before .before .before .pre))
 
 piece-size-requires : tie.Need-piece-size-requires Inv-loop μ-loop
 piece-size-requires c κs = search needs
@@ -68,10 +92,10 @@ piece-marks-requires : tie.Need-piece-marks-requires Inv-loop μ-loop
 piece-marks-requires c κs = search needs
 
 mul-start : tie.Need-mul-start Inv-loop μ-loop
-mul-start c = let o = c .before .before .before .before in omega (arith, room c, long o, o .before .before .before .good .1 .1 .0)
+mul-start c = let o = c .before .before .before .before in omega (arith, room c, long o, begin o .good .1 .1 .0)
 
 mul-subdivide : tie.Need-mul-subdivide Inv-loop μ-loop
-mul-subdivide c = let o = c .before .before .before .before .before in omega (arith, room (c .before), long o, o .before .before .before .good .1 .1 .0)
+mul-subdivide c = let o = c .before .before .before .before .before in omega (arith, room (c .before), long o, begin o .good .1 .1 .0)
 
 sub-subdivide : tie.Need-sub-subdivide Inv-loop μ-loop
 sub-subdivide c = omega (arith, room (c .before))
@@ -82,17 +106,23 @@ part-subdivide-start c = omega (arith, room (c .before))
 part-subdivide-end : tie.Need-part-subdivide-end Inv-loop μ-loop
 part-subdivide-end c = search needs
 
+slice-aggregate-subdivide : tie.Need-slice-aggregate-subdivide Inv-loop μ-loop
+slice-aggregate-subdivide c = search needs
+
+slice-aggregate-subdivide-2 : tie.Need-slice-aggregate-subdivide-2 Inv-loop μ-loop
+slice-aggregate-subdivide-2 c = search needs
+
 subdivide-requires : tie.Need-subdivide-requires Inv-loop μ-loop
 subdivide-requires c κs =
-    let x = c .before .before in
+    let x = c .before .before .before .before in
     let o = x .before .before .before .before in
-    (course.can (o .before .before .before .pre) (o .loop .inv .2) (read x), simp (length-take, length-drop) (omega (arith, room x)))
+    (course.can (begin o .pre) (o .loop .inv .2) (read x), simp (length-take, length-drop) (omega (arith, room x)), course.held (begin o .pre) (o .loop .inv .2) (o .before .before .before .collect .ensures .2))
 
 mul-window : tie.Need-mul-window Inv-loop μ-loop
-mul-window c = search needs
+mul-window c = omega (arith, low c)
 
 mul-clear : tie.Need-mul-clear Inv-loop μ-loop
-mul-clear c = search needs
+mul-clear c = omega (arith, low c)
 
 sub-clear : tie.Need-sub-clear Inv-loop μ-loop
 sub-clear c = omega (arith, window c)
@@ -109,32 +139,35 @@ clear-requires c κs = simp (length-take, length-drop) (omega (arith, window (c 
 same-length : tie.Need-same-length Inv-loop μ-loop
 same-length c =
     let y = c .before .before .before .before .before .before .before .before .before .before in
-    let o = y .before .before .before .before .before .before .before in
-    y .subdivide .kept .0 ∙ course.long-nodes (o .before .before .before .pre) (o .loop .inv .2) (o .loop .inv .0)
+    let o = y .before .before .before .before .before .before .before .before .before in
+    y .subdivide .kept .0 ∙ course.long-nodes (begin o .pre) (o .loop .inv .2) (o .loop .inv .0)
 
 same-length-2 : tie.Need-same-length-2 Inv-loop μ-loop
 same-length-2 c =
     let y = c .before .before .before .before .before .before .before .before .before .before in
-    let x = y .before .before .before in
+    let x = y .before .before .before .before .before in
     let o = x .before .before .before .before in
-    course.long-cleared (o .before .before .before .pre) (o .loop .inv .2) (read x) (y .subdivide .ensures) (c .before .before .clear .ensures)
+    course.long-cleared (begin o .pre) (o .loop .inv .2) (read x) (y .subdivide .ensures) (c .before .before .clear .ensures)
 
 returns : tie.Need-returns Inv-loop μ-loop
 returns c =
     let t = c .before .before .before .before in
     let y = t .before .before .before .before .before .before in
-    let x = y .before .before .before in
+    let x = y .before .before .before .before .before in
     let o = x .before .before .before .before in
-    course.after-failure (o .before .before .before .pre) (o .loop .inv .2) (read x) (y .subdivide .ensures) (c .before .before .clear .ensures) (t .if1 .taken)
+    course.after-failure (begin o .pre) (o .loop .inv .2) (read x) (y .subdivide .ensures) (c .before .before .clear .ensures) (t .if1 .taken)
 
 add-at : tie.Need-add-at Inv-loop μ-loop
 add-at c =
-    let x = c .before .before .before .before .before .before .before .before .before in
+    let x = c .before .before .before .before .before .before .before .before .before .before .before in
     let o = x .before .before .before .before in
-    omega (arith, room x, long o, o .before .before .before .good .1 .1 .0)
+    omega (arith, room x, long o, begin o .good .1 .1 .0)
 
 add-i : tie.Need-add-i Inv-loop μ-loop
-add-i c = search needs
+add-i c =
+    let x = c .before .before .before .before .before .before .before .before .before .before .before in
+    let o = x .before .before .before .before in
+    omega (arith, read x .count, begin o .pre .kept .few)
 
 loop-less : tie.Need-loop-less Inv-loop μ-loop
 loop-less c = search needs
@@ -142,15 +175,15 @@ loop-less c = search needs
 loop-again : tie.Need-loop-again Inv-loop μ-loop
 loop-again c =
     let y = c .before .before .before .before .before .before in
-    let x = y .before .before .before in
+    let x = y .before .before .before .before .before in
     let o = x .before .before .before .before in
-    (search needs, search needs, course.go-on (o .before .before .before .pre) (o .loop .inv .2) (read x) (y .subdivide .ensures) (c .if1 .left))
+    (search needs, search needs, course.go-on (begin o .pre) (o .loop .inv .2) (read x) (y .subdivide .ensures) (c .if1 .left))
 
-sub-t34 : tie.Need-sub-t34 Inv-loop μ-loop
-sub-t34 c = search needs
+sub-t48 : tie.Need-sub-t48 Inv-loop μ-loop
+sub-t48 c = search needs
 
 same-length-3 : tie.Need-same-length-3 Inv-loop μ-loop
-same-length-3 c = let o = c .before in course.long-nodes (o .before .before .before .pre) (o .loop .inv .2) (o .loop .inv .0)
+same-length-3 c = let o = c .before in course.long-nodes (begin o .pre) (o .loop .inv .2) (o .loop .inv .0)
 
 same-length-4 : tie.Need-same-length-4 Inv-loop μ-loop
 same-length-4 c = long (c .before)
@@ -158,8 +191,8 @@ same-length-4 c = long (c .before)
 returns-2 : tie.Need-returns-2 Inv-loop μ-loop
 returns-2 c =
     let o = c .before in
-    let e : o .loop .i ≡ o .before .before .before .args .pieces .count = omega (arith, o .loop .inv .0, o .loop .inv .1, c .loop-test .left) in
-    course.all-done (o .before .before .before .pre) (o .loop .inv .2) e
+    let e : o .loop .i ≡ begin o .args .pieces .count = omega (arith, o .loop .inv .0, o .loop .inv .1, c .loop-test .left) in
+    course.all-done (begin o .pre) (o .loop .inv .2) e
 
 pub subdivide-all-spec : {M : Type 1} → statement M
 subdivide-all-spec =
@@ -167,6 +200,10 @@ subdivide-all-spec =
     (tie.spec
     Inv-loop
     μ-loop
+    window-requires
+    slice-aggregate-collect
+    slice-aggregate-collect-2
+    collect-requires
     loop-holds
     piece-size-requires
     piece-points-requires
@@ -176,6 +213,8 @@ subdivide-all-spec =
     sub-subdivide
     part-subdivide-start
     part-subdivide-end
+    slice-aggregate-subdivide
+    slice-aggregate-subdivide-2
     subdivide-requires
     mul-window
     mul-clear
@@ -190,7 +229,7 @@ subdivide-all-spec =
     add-i
     loop-less
     loop-again
-    sub-t34
+    sub-t48
     same-length-3
     same-length-4
     returns-2)

@@ -1,0 +1,211 @@
+-- The collected nodes: how a collection goes on, and that what it decides is what the whole scan finds.
+use mathlib.Core.Path.{_≡_, refl, sym, ap, _∙_, subst}
+use mathlib.Core.List.{List}
+use Prim.Native.Nat.{ℕ, _+_, _-_, _*_, _≤_, _<_, zero-le}
+use native.Mathlib.Nat.{zero-add}
+use native.Mathlib.Omega.{arith}
+use mathlib.Core.Bool.{Bool, true, false, not, _&&_}
+use lib.IntN.{ℤ}
+use lib.Dec.{T, leb, leb→le}
+use lib.ListN.{length, getD, set, length-set}
+use lib.Seq.{getD-take, length-take-le}
+use lib.Ieee.{Float, nan}
+use lib.Ieee.Fits.{and-i, and-l, and-r}
+use Rattle.laws.specs.Bounded.{any, first}
+use Rattle.laws.specs.Integer.{eqZ}
+use Rattle.laws.proofs.Booleans.{is-false, bool-ext}
+use Rattle.laws.proofs.SignedTests.{eqZ→}
+use Rattle.laws.proofs.Search.{any-none, first-none, first-within, first-beyond}
+use Rattle.vector.specs.declared.Point.{Point}
+use Rattle.nodes.specs.Nodes.{key, number}
+use Rattle.nodes.specs.Growth.{InRange, Grown}
+use Rattle.nodes.specs.declared.keys.SoughtKey.{SoughtKey}
+use Rattle.nodes.specs.Flat.{pointAt, nodesIn, over, Usable, soughtKey, Sought, near, hasAt}
+use Rattle.nodes.proofs.Flat.{length-in, node-in, at-over}
+use Rattle.nodes.specs.declared.nearby.Span.{Span}
+use Rattle.nodes.specs.declared.nearby.Window.{Window}
+use Rattle.nodes.specs.declared.nearby.Nearby.{Nearby}
+use Rattle.nodes.specs.Nearby.{mostNearby, Framed, chosen, insideAt, surrounds, Collected, Held, Lists, hasListed, strictly, inSpan}
+use Rattle.nodes.proofs.Scan.{has-is, not-near, fewer, found-is}
+use Rattle.nodes.proofs.Rounding.{wider}
+use Rattle.nodes.proofs.Monotone.{in-span}
+use Rattle.nodes.proofs.Chosen.{pass, hit, skip, none, chosen-ext, numbers-below, values-at, listed, unlisted}
+
+T→true : (b : Bool) → T b → b ≡ true
+T→true b t = bool-ext b true (λ z. tt) (λ z. t)
+
+and-false : (b : Bool) → (b && false) ≡ false
+and-false true = refl
+and-false false = refl
+
+-- ---- how it goes on
+module _ (l : List Float) (w : Window) where
+  pub at-start : (numbers : List ℕ) (xs : List Float) → length numbers ≡ mostNearby → length xs ≡ mostNearby → Collected l w 0 numbers xs 0
+  at-start numbers xs a b =
+      record { places = a; places-x = b; few = zero-le; are = sym (none (λ i. i) (insideAt w l)); are-x = sym (none (λ i. pointAt l i .x) (insideAt w l)) }
+
+  pub past : (i n : ℕ) (numbers : List ℕ) (xs : List Float) → insideAt w l i ≡ false → Collected l w i numbers xs n → Collected l w (i + 1) numbers xs n
+  past i n numbers xs h c =
+      record { places = c .places; places-x = c .places-x; few = c .few; are = c .are ∙ sym (pass (λ i. i) (insideAt w l) i h); are-x = c .are-x ∙ sym (pass (λ i. pointAt l i .x) (insideAt w l) i h) }
+
+  pub put : (i n : ℕ) (numbers : List ℕ) (xs : List Float) → insideAt w l i ≡ true → n < mostNearby → Collected l w i numbers xs n → Collected l w (i + 1) (set numbers n i) (set xs n (pointAt l i .x)) (n + 1)
+  put i n numbers xs h k c =
+      record {
+        places = length-set numbers n i ∙ c .places;
+        places-x = length-set xs n (pointAt l i .x) ∙ c .places-x;
+        few = omega arith;
+        are = hit (λ i. i) (insideAt w l) numbers i n i (omega (arith, c .places)) (c .are) h refl;
+        are-x = hit (λ i. pointAt l i .x) (insideAt w l) xs i n (pointAt l i .x) (omega (arith, c .places-x)) (c .are-x) h refl;
+      }
+
+  pub carried : (i n n' : ℕ) (numbers numbers' : List ℕ) (xs xs' : List Float) → numbers' ≡ numbers → xs' ≡ xs → n' ≡ n → Collected l w i numbers xs n → Collected l w i numbers' xs' n'
+  carried i n n' numbers numbers' xs xs' a b d c =
+      subst (λ (z : List ℕ). Collected l w i z xs' n') (sym a) (subst (λ (z : List Float). Collected l w i numbers z n') (sym b) (subst (λ (z : ℕ). Collected l w i numbers xs z) (sym d) c))
+
+  -- d nodes of which none is in the window
+  pub past-block : (i d n : ℕ) (numbers : List ℕ) (xs : List Float) → ((j : ℕ) → j < d → insideAt w l (i + j) ≡ false) → Collected l w i numbers xs n → Collected l w (i + d) numbers xs n
+  past-block i d n numbers xs clear c =
+      record { places = c .places; places-x = c .places-x; few = c .few; are = c .are ∙ sym (skip (λ i. i) (insideAt w l) d i clear); are-x = c .are-x ∙ sym (skip (λ i. pointAt l i .x) (insideAt w l) d i clear) }
+
+  -- for none has its x there, or none its y
+  clear-of : (t : Span) (at d : ℕ) → any (λ j. inSpan t (getD l (at + j * 2) nan)) d ≡ false → (j k : ℕ) → j < d → at + j * 2 ≡ k → inSpan t (getD l k nan) ≡ false
+  clear-of t at d h j k b e = subst (λ (m : ℕ). inSpan t (getD l m nan) ≡ false) e (is-false _ (any-none (λ j. inSpan t (getD l (at + j * 2) nan)) d (subst (λ (b : Bool). T (not b)) (sym h) tt) j b))
+
+  pub none-across : (i d : ℕ) → any (λ j. inSpan (w .x) (getD l (i * 2 + j * 2) nan)) d ≡ false → (j : ℕ) → j < d → insideAt w l (i + j) ≡ false
+  unfolding insideAt
+  none-across i d h j k = ap (λ (b : Bool). b && inSpan (w .y) (pointAt l (i + j) .y)) (clear-of (w .x) (i * 2) d h j ((i + j) * 2) k (omega arith))
+
+  pub none-along : (i d : ℕ) → any (λ j. inSpan (w .y) (getD l (i * 2 + 1 + j * 2) nan)) d ≡ false → (j : ℕ) → j < d → insideAt w l (i + j) ≡ false
+  unfolding insideAt
+  none-along i d h j k = ap (λ (b : Bool). inSpan (w .x) (pointAt l (i + j) .x) && b) (clear-of (w .y) (i * 2 + 1) d h j ((i + j) * 2 + 1) k (omega arith)) ∙ and-false (inSpan (w .x) (pointAt l (i + j) .x))
+
+-- ---- it stays true while the first places keep their nodes
+same-inside : (l m : List Float) (w : Window) (i : ℕ) → pointAt l i ≡ pointAt m i → insideAt w l i ≡ insideAt w m i
+unfolding insideAt
+same-inside l m w i e = ap (λ (p : Point). inSpan (w .x) (p .x) && inSpan (w .y) (p .y)) e
+
+pub later : (l m : List Float) (w : Window) (n count : ℕ) (numbers : List ℕ) (xs : List Float) → ((i : ℕ) → i < n → pointAt m i ≡ pointAt l i) → Collected l w n numbers xs count → Collected m w n numbers xs count
+later l m w n count numbers xs h c =
+    let k : (i : ℕ) → i < 0 + n → pointAt l i ≡ pointAt m i = (λ i u. sym (h i (omega (arith, u)))) in
+    record {
+      places = c .places;
+      places-x = c .places-x;
+      few = c .few;
+      are = c .are ∙ chosen-ext (λ i. i) (λ i. i) (insideAt w l) (insideAt w m) n 0 (λ i u. (refl, same-inside l m w i (k i u)));
+      are-x = c .are-x ∙ chosen-ext (λ i. pointAt l i .x) (λ i. pointAt m i .x) (insideAt w l) (insideAt w m) n 0 (λ i u. (ap (λ (p : Point). p .x) (k i u), same-inside l m w i (k i u)));
+    }
+
+-- so while the list grows
+held-grown : {P : Point → Type 0} (l : List Float) (used : ℕ) (ns : List Point) (c : Nearby) (numbers : List ℕ) (xs : List Float) → Grown P (nodesIn l used) ns → Held l used c numbers xs → Held (over l ns) (length ns) c numbers xs
+held-grown l used ns c numbers xs g k =
+    let h = length-in l used in
+    record {
+      old = omega (arith, k .old, g .longer, h);
+      framed = k .framed;
+      complete = λ u. later l (over l ns) (c .window) (c .old) (c .count) numbers xs
+          (λ i v. at-over l ns i (omega (arith, v, k .old, g .longer, h)) ∙ g .same i (omega (arith, v, k .old, h)) ∙ node-in l used i (omega (arith, v, k .old)))
+          (k .complete u);
+    }
+
+pub held-over : {P : Point → Type 0} (l m : List Float) (used v : ℕ) (ns : List Point) (c : Nearby) (numbers : List ℕ) (xs : List Float) → m ≡ over l ns → v ≡ length ns → Grown P (nodesIn l used) ns → Held l used c numbers xs → Held m v c numbers xs
+held-over l m used v ns c numbers xs e f g k = subst (λ (z : ℕ). Held m z c numbers xs) (sym f) (subst (λ (z : List Float). Held z (length ns) c numbers xs) (sym e) (held-grown l used ns c numbers xs g k))
+
+-- ---- what it holds
+module _ (l : List Float) (w : Window) (n count : ℕ) (numbers : List ℕ) (xs : List Float) (c : Collected l w n numbers xs count) where
+  size : length (chosen (λ i. i) (insideAt w l) n 0) ≡ count
+  size = ap length (sym (c .are)) ∙ length-take-le count numbers (omega (arith, c .places, c .few))
+
+  pub listed-at : (j : ℕ) → j < count → getD numbers j 0 ≡ getD (chosen (λ i. i) (insideAt w l) n 0) j 0
+  listed-at j h = sym (getD-take count numbers j 0 h) ∙ ap (λ (z : List ℕ). getD z j 0) (c .are)
+
+  pub listed-low : (j : ℕ) → j < count → getD numbers j 0 < n
+  listed-low j h = omega (arith, listed-at j h, numbers-below (insideAt w l) n 0 j (omega (arith, size)))
+
+  pub listed-x : (j : ℕ) → j < count → getD xs j nan ≡ pointAt l (getD numbers j 0) .x
+  listed-x j h =
+      sym (getD-take count xs j nan h) ∙ ap (λ (z : List Float). getD z j nan) (c .are-x)
+      ∙ values-at (insideAt w l) (λ i. pointAt l i .x) nan n 0 j (omega (arith, size))
+      ∙ ap (λ (i : ℕ). pointAt l i .x) (sym (listed-at j h))
+
+  pub lists : Lists l n numbers xs count
+  lists = record { places = c .places; places-x = c .places-x; few = c .few; low = listed-low; same = listed-x }
+
+-- fewer of them
+pub lists-fewer : (l : List Float) (n count m : ℕ) (numbers : List ℕ) (xs : List Float) → m ≤ count → Lists l n numbers xs count → Lists l n numbers xs m
+lists-fewer l n count m numbers xs h c =
+    record { places = c .places; places-x = c .places-x; few = omega (arith, c .few); low = λ j k. c .low j (omega arith); same = λ j k. c .same j (omega arith) }
+
+-- d of them, where none of m places is near
+pub none-close : (l : List Float) (n count : ℕ) (numbers : List ℕ) (xs : List Float) (kx : SoughtKey) (ky : ℤ) (i d m : ℕ) → Lists l n numbers xs count → Sought kx → Usable l n → d ≤ m → i + d ≤ count
+    → any (λ j. near (kx .value) (getD xs (i + j) nan)) m ≡ false → first (hasListed l numbers (kx .key) ky) d i ≡ i + d
+none-close l n count numbers xs kx ky i d m c so u g h e = first-none (hasListed l numbers (kx .key) ky) d i clear
+  where
+    clear : (k : ℕ) → i ≤ k → k < i + d → hasListed l numbers (kx .key) ky k ≡ false
+    clear k x y =
+        let f : i + (k - i) ≡ k = omega arith in
+        let v = any-none (λ j. near (kx .value) (getD xs (i + j) nan)) m (subst (λ (b : Bool). T (not b)) (sym e) tt) (k - i) (omega arith) in
+        not-near l kx ky (getD numbers k 0) so (u .ranged (getD numbers k 0) (c .low k (omega arith)) .0)
+        (ap (near (kx .value)) (sym (c .same k (omega arith))) ∙ is-false _ (subst (λ (m : ℕ). T (not (near (kx .value) (getD xs m nan)))) f v))
+
+-- ---- what it decides
+-- a node with keys strictly inside is in the window
+pub keyed-inside : (l : List Float) (w : Window) (kx ky : ℤ) (i : ℕ) → Framed w → InRange (pointAt l i) → surrounds w kx ky ≡ true → hasAt l kx ky i ≡ true → insideAt w l i ≡ true
+unfolding insideAt
+keyed-inside l w kx ky i f r s h =
+    let x = pointAt l i .x in
+    let y = pointAt l i .y in
+    let t = subst T (sym (sym (has-is l kx ky i) ∙ h)) tt in
+    let a : kx ≡ key x = eqZ→ kx (key x) (and-l (eqZ kx (key x)) (eqZ ky (key y)) t) in
+    let b : ky ≡ key y = eqZ→ ky (key y) (and-r (eqZ kx (key x)) (eqZ ky (key y)) t) in
+    let v = subst T (sym s) tt in
+    let p = in-span (w .x) x (f .0) (wider x (r .0)) (subst (λ (k : ℤ). T (strictly (w .x) k)) a (and-l (strictly (w .x) kx) (strictly (w .y) ky) v)) in
+    let q = in-span (w .y) y (f .1) (wider y (r .1)) (subst (λ (k : ℤ). T (strictly (w .y) k)) b (and-r (strictly (w .x) kx) (strictly (w .y) ky) v)) in
+    T→true _ (and-i (inSpan (w .x) x) (inSpan (w .y) y) p q)
+
+module _ (l : List Float) (w : Window) (n used count : ℕ) (numbers : List ℕ) (xs : List Float) (kx ky : ℤ) (c : Collected l w n numbers xs count) (u : Usable l used) (le : n ≤ used) (f : Framed w) (s : surrounds w kx ky ≡ true)
+    (j : ℕ) (e : j ≡ first (hasListed l numbers kx ky) count 0) where
+  only : (k : ℕ) → k < n → hasAt l kx ky k ≡ true → insideAt w l k ≡ true
+  only k h t = keyed-inside l w kx ky k f (u .ranged k (omega arith)) s t
+
+  room : count ≤ length numbers
+  room = omega (arith, c .places, c .few)
+
+  rest : n + (used - n) ≡ used
+  rest = omega arith
+
+  -- a collected node is the first of all
+  pub decided : j < count → getD numbers j 0 ≡ first (hasAt l kx ky) used 0
+  decided h =
+      let a = listed (hasAt l kx ky) (insideAt w l) n count numbers room (c .are) only j e h in
+      a ∙ sym (first-within (hasAt l kx ky) n (used - n) 0 (omega (arith, a, listed-low l w n count numbers xs c j h))) ∙ ap (λ (m : ℕ). first (hasAt l kx ky) m 0) rest
+
+  -- or the search goes on after the old nodes
+  pub undecided : count ≤ j → first (hasAt l kx ky) (used - n) n ≡ first (hasAt l kx ky) used 0
+  undecided h =
+      let a = unlisted (hasAt l kx ky) (insideAt w l) n count numbers room (c .are) only j e h in
+      sym (ap (λ (m : ℕ). first (hasAt l kx ky) m 0) (sym rest) ∙ first-beyond (hasAt l kx ky) n (used - n) 0 (omega (arith, a)) ∙ ap (first (hasAt l kx ky) (used - n)) (zero-add n))
+
+-- ---- the search of a point p, whose keys are those of a and b, where the collection decides
+module _ (l : List Float) (used : ℕ) (c : Nearby) (numbers : List ℕ) (xs : List Float) (p : Point) (a b : SoughtKey) (h : Held l used c numbers xs) (u : Usable l used) (e : a ≡ soughtKey (key (p .x))) (f : b ≡ soughtKey (key (p .y)))
+    (d : (leb (c .count) mostNearby && surrounds (c .window) (a .key) (b .key)) ≡ true) where
+  both : T (leb (c .count) mostNearby && surrounds (c .window) (a .key) (b .key))
+  both = subst T (sym d) tt
+
+  all : Collected l (c .window) (c .old) numbers xs (c .count)
+  all = h .complete (leb→le (c .count) mostNearby (and-l (leb (c .count) mostNearby) (surrounds (c .window) (a .key) (b .key)) both))
+
+  within : surrounds (c .window) (a .key) (b .key) ≡ true
+  within = T→true (surrounds (c .window) (a .key) (b .key)) (and-r (leb (c .count) mostNearby) (surrounds (c .window) (a .key) (b .key)) both)
+
+  pub searchable : Usable l (c .old) × Lists l (c .old) numbers xs (c .count)
+  searchable = (fewer l (c .old) used (h .old) u, lists l (c .window) (c .old) (c .count) numbers xs all)
+
+  pub room-at : (j : ℕ) → j < c .count → (j < length numbers) × (j < mostNearby)
+  room-at j k = (omega (arith, k, all .places, all .few), omega (arith, k, all .few))
+
+  module _ (j : ℕ) (g : j ≡ first (hasListed l numbers (a .key) (b .key)) (c .count) 0) where
+    pub found : j < c .count → getD numbers j 0 ≡ number (nodesIn l used) p
+    found k = decided l (c .window) (c .old) used (c .count) numbers xs (a .key) (b .key) all u (h .old) (h .framed) within j g k ∙ found-is l used p a b e f
+
+    pub not-found : (r : ℕ) → c .count ≤ j → r ≡ first (hasAt l (a .key) (b .key)) (used - c .old) (c .old) → r ≡ number (nodesIn l used) p
+    not-found r k s = s ∙ undecided l (c .window) (c .old) used (c .count) numbers xs (a .key) (b .key) all u (h .old) (h .framed) within j g k ∙ found-is l used p a b e f

@@ -1,0 +1,121 @@
+-- A key grows with its coordinate. So a coordinate outside a span has a key that is not strictly between those of the ends.
+use mathlib.Core.Path.{_≡_, refl, sym, ap, subst}
+use mathlib.Core.Logic.{inl, inr}
+use Prim.Native.Nat.{ℕ, zero, suc, _+_, _*_, _≤_, _<_, zero-le}
+use native.Mathlib.Nat.{le-of-mul-le-mul-right, mul-le-mul-right, mul-pos, le-div-iff-mul-le, div-mul-le-self}
+use native.Mathlib.Omega.{arith}
+use mathlib.Core.Bool.{true, false}
+use lib.IntN.{ℤ, pos, negsuc, negℤ}
+use lib.Signed.{ltZ, leZ}
+use lib.Dec.{T, leb→le, le→leb, ltb→lt}
+use lib.Ieee.{Float, fin, binary64, up, down, mul, le}
+use lib.Ieee.Fits.{down-pos, and-i, and-l, and-r}
+use lib.Ieee.Scale.{finite}
+use lib.Ieee.Positive.{den, den-pos}
+use Rattle.laws.specs.Within.{Within}
+use Rattle.laws.proofs.Fractions.{plus, less, Le, le→Le}
+use Rattle.laws.proofs.Order.{le-or-lt, lt→le}
+use Rattle.laws.proofs.Between.{within-real}
+use Rattle.laws.proofs.Round.{rounds-mono}
+use Rattle.laws.proofs.Results.{mul-rounds}
+use Rattle.nodes.specs.Nodes.{rounded, key}
+use Rattle.nodes.proofs.Rounding.{e8, halfUp, key-is, scaled-1025}
+use Rattle.nodes.specs.declared.nearby.Span.{Span}
+use Rattle.nodes.specs.Nearby.{span, Spans, inSpan, strictly}
+
+-- ---- a product with 1.0e8
+scaled-up : (p n d q m c z e : ℕ) → p * c + m * d ≤ q * d + n * c → (p * z + n * 0) * (c * e) + (q * 0 + m * z) * (d * e) ≤ (q * z + m * 0) * (d * e) + (p * 0 + n * z) * (c * e)
+scaled-up p n d q m c z e h = omega (arith, mul-le-mul-right (z * e) h)
+
+mul-mono : (x y : Float) → T (finite x) → T (finite y) → T (le x y) → T (le (mul binary64 x e8) (mul binary64 y e8))
+mul-mono x y p q h =
+    rounds-mono binary64 (mul binary64 x e8) (mul binary64 y e8) _ _ (den x * den e8) _ _ (den y * den e8) (mul-pos (den-pos x) (den-pos e8)) (mul-pos (den-pos y) (den-pos e8))
+    (mul-rounds binary64 x e8 p tt) (mul-rounds binary64 y e8 q tt)
+    (scaled-up (plus x) (less x) (den x) (plus y) (less y) (den y) (plus e8) (den e8) (le→Le x y p q h))
+
+-- ---- rounding half away from zero
+halfUp-mono : (a c b d : ℕ) → 0 < c → 0 < d → a * d ≤ b * c → halfUp a c ≤ halfUp b d
+halfUp-mono a c b d C D h = le-div-iff-mul-le {k = 2 * d} (omega arith) .1 (go (halfUp a c) (div-mul-le-self (2 * a + c) (2 * c)))
+  where
+    go : (k : ℕ) → k * (2 * c) ≤ 2 * a + c → k * (2 * d) ≤ 2 * b + d
+    go k l =
+        let u : k * (2 * c) * d ≤ (2 * a + c) * d = mul-le-mul-right d l in
+        le-of-mul-le-mul-right {k = c} (omega arith) C
+
+nothing : (a d : ℕ) → 0 < d → a * d ≤ 0 → a ≡ 0
+nothing zero d D h = refl
+nothing (suc a) d D h = omega arith
+
+halfUp-zero : (a d : ℕ) → 0 < d → a ≡ 0 → halfUp a d ≡ 0
+halfUp-zero a d D e = go (halfUp a d) (div-mul-le-self (2 * a + d) (2 * d))
+  where
+    go : (k : ℕ) → k * (2 * d) ≤ 2 * a + d → k ≡ 0
+    go zero h = refl
+    go (suc k) h = omega arith
+
+minus-plus : (a b : ℕ) → T (leZ (negℤ (pos a)) (pos b))
+minus-plus zero b = le→leb 0 b zero-le
+minus-plus (suc a) b = tt
+
+minus-minus : (a b : ℕ) → b ≤ a → T (leZ (negℤ (pos a)) (negℤ (pos b)))
+minus-minus zero zero h = tt
+minus-minus zero (suc b) h = omega arith
+minus-minus (suc a) zero h = tt
+minus-minus (suc a) (suc b) h = le→leb b a (omega arith)
+
+plus-minus : (a b : ℕ) → a ≡ 0 → b ≡ 0 → T (leZ (pos a) (negℤ (pos b)))
+plus-minus a b e f = subst (λ (z : ℕ). T (leZ (pos z) (negℤ (pos b)))) (sym e) (subst (λ (z : ℕ). T (leZ (pos 0) (negℤ (pos z)))) (sym f) tt)
+
+rounded-mono : (x y : Float) → T (finite x) → T (finite y) → Le x y → T (leZ (rounded x) (rounded y))
+unfolding rounded
+rounded-mono (fin false m e) (fin false n d) p q h = le→leb _ _ (halfUp-mono (m * up e) (down e) (n * up d) (down d) (down-pos e) (down-pos d) (omega arith))
+rounded-mono (fin true m e) (fin false n d) p q h = minus-plus (halfUp (m * up e) (down e)) (halfUp (n * up d) (down d))
+rounded-mono (fin false m e) (fin true n d) p q h =
+    plus-minus (halfUp (m * up e) (down e)) (halfUp (n * up d) (down d))
+    (halfUp-zero (m * up e) (down e) (down-pos e) (nothing (m * up e) (down d) (down-pos d) (omega arith)))
+    (halfUp-zero (n * up d) (down d) (down-pos d) (nothing (n * up d) (down e) (down-pos e) (omega arith)))
+rounded-mono (fin true m e) (fin true n d) p q h =
+    minus-minus (halfUp (m * up e) (down e)) (halfUp (n * up d) (down d)) (halfUp-mono (n * up d) (down d) (m * up e) (down e) (down-pos d) (down-pos e) (omega arith))
+
+-- ---- keys
+pub key-mono : (x y : Float) → Within 1025 x → Within 1025 y → T (le x y) → T (leZ (key x) (key y))
+key-mono x y u v h =
+    let a = scaled-1025 x u .0 in
+    let b = scaled-1025 y v .0 in
+    subst (λ (z : ℤ). T (leZ z (key y))) (key-is x)
+    (subst (λ (z : ℤ). T (leZ (rounded (mul binary64 x e8)) z)) (key-is y)
+    (rounded-mono (mul binary64 x e8) (mul binary64 y e8) a b (le→Le _ _ a b (mul-mono x y (u .0) (v .0) h))))
+
+both : (a b : ℤ) → T (leZ a b) → T (ltZ b a) → ⊥
+both (pos a) (pos b) h k = omega (arith, leb→le a b h, ltb→lt b a k)
+both (pos a) (negsuc b) h k = absurd h
+both (negsuc a) (pos b) h k = absurd k
+both (negsuc a) (negsuc b) h k = omega (arith, leb→le b a h, ltb→lt a b k)
+
+-- ---- a key strictly between those of the ends is that of a coordinate between them
+module _ (s : Span) (x : Float) (r : Spans s) (w : Within 1025 x) where
+  least-is : s .least ≡ key (s .lo)
+  least-is = ap (λ (t : Span). t .least) (r .same)
+
+  most-is : s .most ≡ key (s .hi)
+  most-is = ap (λ (t : Span). t .most) (r .same)
+
+  above : T (ltZ (s .least) (key x)) → T (le (s .lo) x)
+  above t =
+      elim (le-or-lt (s .lo) x (within-real 1025 (s .lo) (r .low)) (within-real 1025 x w)) [
+        | inl a ↦ a
+        | inr b ↦ absurd (both (key x) (key (s .lo)) (key-mono x (s .lo) w (r .low) (lt→le x (s .lo) b)) (subst (λ (z : ℤ). T (ltZ z (key x))) least-is t))
+      ]
+
+  below : T (ltZ (key x) (s .most)) → T (le x (s .hi))
+  below t =
+      elim (le-or-lt x (s .hi) (within-real 1025 x w) (within-real 1025 (s .hi) (r .high))) [
+        | inl a ↦ a
+        | inr b ↦ absurd (both (key (s .hi)) (key x) (key-mono (s .hi) x (r .high) w (lt→le (s .hi) x b)) (subst (λ (z : ℤ). T (ltZ (key x) z)) most-is t))
+      ]
+
+  pub in-span : T (strictly s (key x)) → T (inSpan s x)
+  in-span t =
+      let a = ltZ (s .least) (key x) in
+      let b = ltZ (key x) (s .most) in
+      and-i (le (s .lo) x) (le x (s .hi)) (above (and-l a b t)) (below (and-r a b t))

@@ -1,0 +1,13 @@
+-- `nodes::keys::SoughtKey::is_near` meets its contract: by its definition.
+use mathlib.Core.Path.{refl}
+use lib.Ieee.{ofBits, ofInt}
+use Rattle.nodes.specs.Flat.{near}
+use Rattle.nodes.proofs.keys.SoughtKey.is_near.Statement.{statement}
+use Rattle.nodes.proofs.keys.SoughtKey.is_near.Tie as tie
+
+returns : tie.Need-returns
+unfolding near ofBits ofInt
+returns c = refl
+
+pub is-near-spec : {M : Type 1} → statement M
+is-near-spec = tie.close (tie.spec returns)

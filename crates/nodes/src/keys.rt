@@ -1,0 +1,77 @@
+// Keys: what a coordinate is rounded to, and a key to look for.
+
+ghost use mathlib.Core.Path.{_≡_};
+ghost use mathlib.Core.Bool.{_&&_};
+ghost use Prim.Native.Nat.{_≤_};
+ghost use lib.IntN.{natAbs};
+ghost use Rattle.laws.specs.Within.{Within};
+ghost use Rattle.laws.specs.Integer.{eqZ};
+ghost use Rattle.nodes.specs.Nodes as Nodes;
+ghost use Rattle.nodes.specs.Flat.{soughtKey, Sought, near};
+
+// A coordinate's key to look for, and the same as a double.
+pub struct SoughtKey {
+    pub key: i64,
+    pub value: f64,
+}
+
+// A coordinate's key; also that of a side of a ring's box, which may lie a unit beyond the sheet. What truncation leaves is
+// exact, so two comparisons with a half round it away from zero.
+pub fn key(x: f64) -> i64
+    requires { ⌜ Within 1025 x ⌝ }
+    ensures { λ r. ⌜ (r ≡ Nodes.key x) × (natAbs r ≤ 102500000000) ⌝ }
+{
+    let y = x * 1.0e8;
+    let t = std::num::truncating_f64_to_i64(y);
+    let r = y - t as f64;
+    if r >= 0.5 {
+        t + 1
+    } else if r <= -0.5 {
+        t - 1
+    } else {
+        t
+    }
+}
+
+impl SoughtKey {
+    pub fn new(x: f64) -> SoughtKey
+        requires { ⌜ Within 1024 x ⌝ }
+        ensures { λ r. ⌜ (r ≡ soughtKey (Nodes.key x)) × Sought r ⌝ }
+    {
+        let k = key(x);
+        SoughtKey {
+            key: k,
+            value: k as f64,
+        }
+    }
+
+    // Whether x is near enough to have this key. That is one comparison, and nearly always it is not.
+    pub fn is_near(self, x: f64) -> bool
+        ensures { λ r. ⌜ r ≡ near (self .value) x ⌝ }
+    {
+        let d = x * 1.0e8 - self.value;
+        !(d * d >= 2.0)
+    }
+
+    pub fn is_key_of(self, x: f64) -> bool
+        requires { ⌜ Within 1024 x × Sought self ⌝ }
+        ensures { λ r. ⌜ r ≡ eqZ (self .key) (Nodes.key x) ⌝ }
+    {
+        if self.is_near(x) {
+            let k = key(x);
+            return k == self.key;
+        }
+        false
+    }
+}
+
+// Whether the point x, y has the two keys.
+pub fn has_key(kx: SoughtKey, ky: SoughtKey, x: f64, y: f64) -> bool
+    requires { ⌜ Within 1024 x × Within 1024 y × Sought kx × Sought ky ⌝ }
+    ensures { λ r. ⌜ r ≡ (eqZ (kx .key) (Nodes.key x) && eqZ (ky .key) (Nodes.key y)) ⌝ }
+{
+    if kx.is_key_of(x) {
+        return ky.is_key_of(y);
+    }
+    false
+}
