@@ -249,7 +249,13 @@ fn put_cell(out: &mut [NodeNumber], c: Cell)
 }
 
 // The cells of a piece, over the first places of a list: cell k is centre, middle k, corner k + 1, middle k + 1.
-fn put_cells(cells: &mut [NodeNumber], centre: NodeNumber, ms: [NodeNumber; 60], vs: [NodeNumber; 60], n: usize)
+fn put_cells(
+    cells: &mut [NodeNumber],
+    centre: NodeNumber,
+    ms: [NodeNumber; 60],
+    vs: [NodeNumber; 60],
+    n: usize,
+)
     requires { ⌜ (n ≤ 60) × (n * 4 ≤ length (now cells)) × (length ms ≡ 60) × (length vs ≡ 60) ⌝ }
     ensures { λ _. ⌜ now (cells .exit) ≡ overCells (now (cells .entry)) (Cells.cellsTo centre (take n ms) (take n vs) n) ⌝ }
 {
@@ -347,7 +353,16 @@ pub fn subdivide(
         × (now (cells .exit) ≡ overCells (now (cells .entry)) (subdivideIn share (now (nodes .entry)) used points marks n .cells)) ⌝ }
 {
     let t = attempt(
-        nodes, used, cells, points, marks, n, share, near, numbers, xs,
+        nodes,
+        used,
+        cells,
+        points,
+        marks,
+        n,
+        share,
+        near,
+        numbers,
+        xs,
     );
     if t.fails == n {
         return t;
@@ -360,6 +375,15 @@ pub fn subdivide(
     };
     let plain = [e; 60];
     attempt(
-        nodes, t.used, cells, points, plain, n, share, near, numbers, xs,
+        nodes,
+        t.used,
+        cells,
+        points,
+        plain,
+        n,
+        share,
+        near,
+        numbers,
+        xs,
     )
 }

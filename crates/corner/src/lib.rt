@@ -34,12 +34,16 @@ pub struct Corner {
 }
 
 impl Limits {
+    pub const CUTS: usize = 32;
+
+    pub const SHARE: f64 = 0.4;
+
     pub const DELIVERED: Limits = Limits {
-        cuts: 32,
+        cuts: Limits::CUTS,
         corner: Corner::BAD,
-        least: -0.9396926207859084,
-        greatest: 0.9781476007338057,
-        share: 0.4,
+        least: Corner::LEAST,
+        greatest: Corner::GREATEST,
+        share: Limits::SHARE,
     };
 
     // The limits of the delivered divider.
@@ -55,6 +59,11 @@ impl Corner {
     const TANGENT: f64 = 0.36397023426620236;
 
     pub const BAD: f64 = 2.0 - Corner::TANGENT / (1.0 + Corner::TANGENT);
+
+    // The cosines of 160 and of 12 degrees, between which the two of a diagonal lie.
+    pub const LEAST: f64 = -0.9396926207859084;
+
+    pub const GREATEST: f64 = 0.9781476007338057;
 
     pub const STRAIGHT: f64 = 2.0;
 
@@ -82,7 +91,7 @@ fn quotient(s: i64, c: i64) -> f64
 }
 
 // The measure of the corner between the step u into it and the step v out of it.
-pub fn measure(u: GridPoint, v: GridPoint) -> f64
+fn measure(u: GridPoint, v: GridPoint) -> f64
     requires { ⌜ Step u × Step v ⌝ }
     ensures { λ r. ⌜ r ≡ Corners.measure u v ⌝ }
 {
@@ -105,7 +114,7 @@ pub fn measure(u: GridPoint, v: GridPoint) -> f64
 }
 
 // The measure of the corner at b, between a and c.
-pub fn corner_at(a: GridPoint, b: GridPoint, c: GridPoint) -> f64
+fn corner_at(a: GridPoint, b: GridPoint, c: GridPoint) -> f64
     requires { ⌜ OnSheet a × OnSheet b × OnSheet c ⌝ }
     ensures { λ r. ⌜ r ≡ Corners.measure (Grid.sub b a) (Grid.sub c b) ⌝ }
 {

@@ -67,7 +67,7 @@ unfolding Nodes.rounded Nodes.key Nodes.hasKey Nodes.number Nodes.addNode Nodes.
 in-cells = tt
 
 unfoldable pub in-divider : Unit {0}
-unfolding Call.outside Call.anyOutside Call.held Call.usable Call.entry Divide.refused Divide.answered Divide.cleaned Divide.divide
+unfolding Call.countsOut Call.outside Call.anyOutside Call.unitsOut Call.held Call.usable Call.listsOut Call.roomOut Divide.refused Divide.answered Divide.core Divide.divide
 in-divider = tt
 
 unfoldable pub computing : Unit {0}

@@ -11,9 +11,11 @@ use lib.Ieee.{Float}
 use borrow.Author.Tests.{eq-eqb, ne-eqb, le-ltb}
 use Rattle.laws.proofs.Table.{length-tab}
 use Rattle.corner.specs.Limits.{delivered}
+use Rattle.demand.specs.Call.{listsOf}
+use Rattle.demand.specs.Divide.{startOf}
 use Rattle.demand.specs.Demand.{Demand3}
 use Rattle.demand.specs.Lent.{Lent, callOf, cellIn, divideLent}
-use Rattle.divider.specs.declared.Values.{Values}
+use Rattle.table.specs.declared.Values.{Values}
 use Rattle.divider.specs.Promise.{Promise}
 use Rattle.blocks.specs.declared.Reading.{Reading}
 use Rattle.blocks.specs.Blocks.{readBlock}
@@ -21,14 +23,14 @@ use Rattle.blocks.proofs.Counts.{points, few-points, all-places}
 use Rattle.report.specs.Report.{Printed, holds, fewCells, ringText, refusedRing}
 use Rattle.divide.specs.Row.{rowText, Shown}
 
-module _ (l : Lent) (v : Values) (m : List Float) (p : List ℕ) (q : Promise l v m p) (e : length p ≡ length (l .cells)) where
+module _ (l : Lent) (v : Values) (m : List Float) (p : List ℕ) (q : Promise delivered l v m p) (e : length p ≡ length (l .cells)) where
   grown : v .code ≡ 0 → l .nodeCount ≤ v .nodes
   grown h = go (decLe (l .nodeCount) (v .nodes))
     where
-      d : Demand3 delivered (callOf l) (divideLent delivered l)
+      d : Demand3 delivered (startOf (callOf l)) (listsOf (callOf l)) (divideLent delivered l)
       d = q .accepted h
 
-      same : v .nodes ≡ divideLent delivered l .nodeCount
+      same : v .nodes ≡ divideLent delivered l .row .nodes
       same = ap (λ (w : Values). w .nodes) (q .leaves .values)
 
       go : Dec (l .nodeCount ≤ v .nodes) → l .nodeCount ≤ v .nodes
@@ -38,7 +40,7 @@ module _ (l : Lent) (v : Values) (m : List Float) (p : List ℕ) (q : Promise l 
   listed : v .code ≡ 0 → v .cells * 4 ≤ length p
   listed h =
       let f = q .accepted h .cells-fit in
-      let s : v .cells ≡ divideLent delivered l .cellCount = ap (λ (w : Values). w .cells) (q .leaves .values) in
+      let s : v .cells ≡ divideLent delivered l .row .cells = ap (λ (w : Values). w .cells) (q .leaves .values) in
       let n = length-tab (cellIn (l .cells)) (length (l .cells) / 4) in
       omega arith
 

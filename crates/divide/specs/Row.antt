@@ -5,7 +5,7 @@ use mathlib.Core.Bool.{cond}
 use mathlib.Core.List.{List}
 use lib.ListN.{length, take}
 use lib.Dec.{eqb}
-use Rattle.divider.specs.declared.Values.{Values}
+use Rattle.table.specs.declared.Values.{Values}
 use Rattle.report.specs.Report.{ringText, refusedRing}
 
 -- the text of ring number n, whose row is v: `used` nodes were listed before it, and its cells are the first of the list

@@ -9,7 +9,6 @@ use Rattle.laws.specs.Double.{naught}
 use Rattle.corner.specs.Limits.{delivered}
 use Rattle.cells.specs.Flat.{overCells}
 use Rattle.demand.specs.Lent.{Lent, divideLent}
-use Rattle.divider.specs.Answers.{valuesOf}
 use Rattle.blocks.specs.declared.Block.the-variants.{Ring, Chain}
 use Rattle.blocks.specs.Blocks.{readBlock}
 use Rattle.report.specs.Text.{bytes}
@@ -40,5 +39,5 @@ pub record SquarePrinted : Type 0 where
   pub ring : readBlock ringBytes 0 .block ≡ Ring 4 1
   pub points : take 8 (readBlock ringBytes 0 .points) ≡ coordinates
   pub chain : readBlock chainBytes 1 .block ≡ Chain 0
-  pub text : rowText 0 0 (valuesOf (divideLent delivered squareCall)) (overCells (squareCall .cells) (divideLent delivered squareCall .cells))
+  pub text : rowText 0 0 (divideLent delivered squareCall .row) (overCells (squareCall .cells) (divideLent delivered squareCall .cells))
       ≡ bytes "ring 0 corners 4 cuts 0 turned 0 area 100\nnodes 9 new 9\nquad 8 4 1 5\nquad 8 5 2 6\nquad 8 6 3 7\nquad 8 7 0 4\n"

@@ -9,10 +9,10 @@ ghost use lib.ListN.{length};
 ghost use Rattle.report.specs.Report.{Printed, holds, fewCells};
 ghost use Rattle.divide.specs.Row.{rowText, Shown};
 use blocks::Block;
-use divider::Values;
 use libc::STDIN_FILENO;
 use libc::STDOUT_FILENO;
 use report::Divided;
+use table::Values;
 
 // After a ring: how many nodes are listed; or the end of the run.
 enum Step {

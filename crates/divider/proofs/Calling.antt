@@ -1,103 +1,134 @@
--- The call over lent lists by the outcome of the entry's tests: refused, or what follows the entry; and the promise from what was left.
-use Prim.Native.Nat.{ℕ, _/_, _*_, _≤_, _<_}
+-- The call over lent lists by the outcome of its tests: refused, or what the core does; and the promise from what was left. As a call of a list of calls it leaves what
+-- specs/LentCalls says (`as-called`).
+use Prim.Native.Nat.{ℕ, _+_, _/_, _≤_}
 use native.Mathlib.Omega.{arith}
 use mathlib.Core.Path.{_≡_, refl, sym, ap, _∙_, subst}
-use mathlib.Core.Bool.{Bool, true, false, cond, _||_}
-use mathlib.Core.Logic.{_⊎_, inl, inr}
 use mathlib.Core.List.{List}
-use lib.IntN.{ℤ}
-use lib.ListN.{length, take}
-use borrow.Author.Tests.{eq-eqb, ne-eqb}
+use lib.ListN.{length}
 use lib.Ieee.{Float}
 use Rattle.laws.proofs.Table.{length-tab}
-use Rattle.vector.specs.declared.GridPoint.{GridPoint}
-use Rattle.vector.specs.Size.{AllOnSheet}
-use Rattle.clean.specs.Clean.{cleanPolygon}
+use Rattle.marks.specs.declared.MarkedRing.{MarkedRing}
+use Rattle.marks.specs.Part.{Part}
 use Rattle.corner.specs.declared.Limits.{Limits}
 use Rattle.corner.specs.Limits.{delivered}
-use Rattle.demand.specs.Call.{Call, entry}
-use Rattle.demand.specs.Divide.{refused, cleaned, divide}
-use Rattle.demand.specs.Lent.{Lent, pointIn, pointsIn, callOf, odd, divideLent}
-use Rattle.demand.proofs.Tests.{Passed, tested}
+use Rattle.cells.specs.declared.Cell.{Cell}
+use Rattle.table.specs.declared.Values.{Values}
+use Rattle.table.specs.Answers.{refusedRow}
+use Rattle.table.specs.Refusals.{Passes, firstOf}
+use Rattle.table.proofs.Refusals.{all-pass}
+use Rattle.demand.specs.Call.{Lists, Call, listsOf, cellReserve}
+use Rattle.demand.specs.Divide.{Answer, refused, ringTests, answered, core, startOf}
+use Rattle.demand.specs.Demand.{Ready, Prepared}
+use Rattle.demand.specs.Lent.{pointIn, cellIn, allCells, LentRecords, callOfRecords, testsBy, Lent, divideLent}
+use Rattle.demand.specs.LentCalls.{Given, numbers, Pool, lend, answerOf, leaves}
+use Rattle.demand.proofs.Tests.{Passed, passed}
+use Rattle.demand.proofs.Course as Course
+use Rattle.demand.proofs.Course.{Whole, whole, outcomeOf, prepared}
 use Rattle.demand.proofs.Demand.{demand3-lent}
+use Rattle.split.specs.Split.{splitBadVertices}
 use Rattle.entry.specs.Refusal.{refusal}
-use Rattle.divider.specs.declared.Values.{Values}
-use Rattle.divider.specs.declared.Answer.the-variants.{Refused}
-use Rattle.divider.specs.Answers.{values}
+use Rattle.divider.specs.declared.CellRoom.{CellRoom}
 use Rattle.divider.specs.Promise.{Leaves, Promise}
-use Rattle.divider.specs.Steps.{callIn}
+use Rattle.divider.specs.Steps.{OnPaper, Prepares, partIn, listsIn, CanDivide, divideInto, HasRoom}
 use Rattle.divider.proofs.Leaving.{refused-leaves}
 
-pub promised : (l : Lent) (v : Values) (m : List Float) (p : List ℕ) → Leaves (divideLent delivered l) v (l .nodes) m (l .cells) p → Promise l v m p
-promised l v m p h = record { leaves = h; accepted = λ z. demand3-lent delivered l (sym (ap (λ (v : Values). v .code) (h .values)) ∙ z) }
+-- ---- the core, by the outcome of its tests
+module _ (L : Limits) (r : ℕ) (p : Part) (l : List Float) (u : ℕ) (q : List ℕ) (k : ℕ) where
+  abbrev lists : Lists
+  lists = listsIn l u q k
 
--- ---- a call c, refused with 1 at once where o holds
-module _ (L : Limits) (c : Call) where
-  pub turned-away : (o : Bool) (n : ℕ) → n ≡ cond o 1 (entry L c) → (n ≡ 0 → ⊥) → cond o (refused c 1) (divide L c) ≡ refused c n
-  unfolding divide
-  turned-away true n e z = ap (refused c) (sym e)
-  turned-away false n e z = rw (ne-eqb (entry L c) 0 (λ y. z (e ∙ y))) (ap (refused c) (sym e))
+  pub core-refused : (n : ℕ) → n ≡ firstOf (ringTests (p .points)) → (n ≡ 0 → ⊥) → Leaves (core L r p lists) (refusedRow n u k) l l q q
+  unfolding core
+  core-refused n e z =
+      rw (Course.turned-away lists (ringTests (p .points)) (answered L r p lists (splitBadVertices L p) (outcomeOf L p lists)) (λ f. z (e ∙ f)), ← e) (refused-leaves l u q k n)
 
-  pub passed : (o : Bool) → 0 ≡ cond o 1 (entry L c) → Passed L c
-  passed true e = absurd (omega arith)
-  passed false e = go (tested L c)
-    where
-      go : ((0 < entry L c) × (entry L c < 5)) ⊎ ((entry L c ≡ 0) × Passed L c) → Passed L c
-      go (inl h) = absurd (omega (arith, h .0, e))
-      go (inr h) = h .1
+  pub core-whole : (n : ℕ) → n ≡ firstOf (ringTests (p .points)) → n ≡ 0 → Whole (p .points)
+  core-whole n e z = whole (p .points) (all-pass (ringTests (p .points)) tt (sym e ∙ z))
 
-  pub entered : (o : Bool) → 0 ≡ cond o 1 (entry L c) → cond o (refused c 1) (divide L c) ≡ cleaned L c (cleanPolygon (c .size) (c .ring))
-  unfolding divide
-  entered true e = absurd (omega arith)
-  entered false e = rw (eq-eqb (entry L c) 0 (sym e))
+  pub core-laid : (n : ℕ) → n ≡ firstOf (ringTests (p .points)) → n ≡ 0 → (v : Values) (m : List Float) (o : List ℕ)
+      → Leaves (answered L r p lists (splitBadVertices L p) (outcomeOf L p lists)) v l m q o → Leaves (core L r p lists) v l m q o
+  unfolding core
+  core-laid n e z v m o h = rw (Course.goes-on lists (ringTests (p .points)) (answered L r p lists (splitBadVertices L p) (outcomeOf L p lists)) (sym e ∙ z)) h
 
--- what reading the points of such a call asks
-pub asks : (x : List ℤ) → length (pointsIn x (length x / 2)) ≤ 60 → AllOnSheet (pointsIn x (length x / 2)) → (length x / 2 ≤ 60) × (length x / 2 * 2 ≤ length x) × AllOnSheet (pointsIn x (length x / 2))
-asks x h s = (omega (arith, h, length-tab (pointIn x) (length x / 2)), omega arith, s)
+-- ---- the call
+module _ (L : Limits) (l : LentRecords) (q : List ℕ) (k : ℕ) where
+  abbrev c : Call
+  c = callOfRecords l
 
--- the limits that the code has
-module _ (L : Limits) (d : L ≡ delivered) (l : Lent) where
-  abbrev o : Bool
-  o = odd (l .ring) || odd (l .chain)
+  abbrev x : Lists
+  x = listsIn (l .nodes) (l .nodeCount) q k
 
-  pub refused-promise : (n : ℕ) → n ≡ refusal L l → (n ≡ 0 → ⊥) → Promise l (values (Refused n (l .nodeCount) (l .cellCount))) (l .nodes) (l .cells)
-  unfolding refusal divideLent
-  refused-promise n e z =
-      promised l (values (Refused n (l .nodeCount) (l .cellCount))) (l .nodes) (l .cells)
-      (rw (ap (λ (L : Limits). divideLent L l) (sym d) ∙ turned-away L (callOf l) o n e z)
-      (refused-leaves (callOf l) (l .nodes) (l .nodeCount) (l .cells) (l .cellCount) (record { nodes = refl; node-count = refl; cells = refl; cell-count = refl }) n))
+  abbrev core-of : Answer
+  core-of = core L (length (c .ring)) (startOf c) x
 
-  module _ (e : 0 ≡ refusal L l) where
-    through : Passed L (callOf l)
+  pub call-refused : (n : ℕ) → n ≡ refusal L l → (n ≡ 0 → ⊥) → Leaves (divideInto L l q k) (refusedRow n (l .nodeCount) k) (l .nodes) (l .nodes) q q
+  unfolding refusal
+  call-refused n e z =
+      rw (Course.turned-away x (testsBy (λ cs. cs) L l) core-of (λ f. z (e ∙ f)), ← e) (refused-leaves (l .nodes) (l .nodeCount) q k n)
+
+  module _ (n : ℕ) (e : n ≡ refusal L l) (z : n ≡ 0) where
+    pub through : Passed L c
     unfolding refusal
-    through = passed L (callOf l) o e
+    through = passed L c (all-pass (testsBy (λ cs. cs) L l) tt (sym e ∙ z) .1)
 
-    goes-on : divideLent L l ≡ cleaned L (callOf l) (cleanPolygon (l .size) (callOf l .ring))
-    unfolding refusal divideLent
-    goes-on = entered L (callOf l) o e
+    pub ring-read : OnPaper (l .ring)
+    ring-read = record { few = omega (arith, through .to, length-tab (pointIn (l .ring)) (length (l .ring) / 2)); sheet = through .ring }
 
-    pub ring-asks : (length (l .ring) / 2 ≤ 60) × (length (l .ring) / 2 * 2 ≤ length (l .ring)) × AllOnSheet (pointsIn (l .ring) (length (l .ring) / 2))
-    ring-asks = asks (l .ring) (through .to) (through .ring)
+    pub chain-read : OnPaper (l .chain)
+    chain-read = record { few = omega (arith, through .chain .few, length-tab (pointIn (l .chain)) (length (l .chain) / 2)); sheet = through .chain .each }
 
-    pub chain-asks : (length (l .chain) / 2 ≤ 60) × (length (l .chain) / 2 * 2 ≤ length (l .chain)) × AllOnSheet (pointsIn (l .chain) (length (l .chain) / 2))
-    chain-asks = asks (l .chain) (through .chain .few) (through .chain .each)
+    -- the ring that was prepared, and the numbers that have room for its cells
+    module _ (m : MarkedRing) (b : Prepares (l .ring) (l .chain) (l .size) m) (w : CellRoom) (at : w .at ≡ k) (places : length (l .cells) ≡ w .places) (used : l .cellCount ≡ w .used) (h : HasRoom L w q) where
+      own : length (c .ring) ≡ length (l .ring) / 2
+      own = length-tab (pointIn (l .ring)) (length (l .ring) / 2)
 
-    -- the points that were read
-    module _ (ps cs : List GridPoint) (a : take (length (l .ring) / 2) ps ≡ pointsIn (l .ring) (length (l .ring) / 2)) (b : take (length (l .chain) / 2) cs ≡ pointsIn (l .chain) (length (l .chain) / 2)) where
-      abbrev c : Call
-      c = callIn ps (length (l .ring) / 2) cs (length (l .chain) / 2) (l .size) (l .nodes) (l .nodeCount) (l .cells) (l .cellCount)
+      room : k + cellReserve L (length (c .ring)) ≤ length q / 4
+      room = omega (arith, at, h .reserve (length (c .ring)) (through .to) (omega (arith, through .ready .cells-free, through .ready .stored, places, used)))
 
-      call-is : c ≡ callOf l
-      call-is = λ j. record { ring = a j; chain = b j; size = l .size; nodes = callOf l .nodes; nodeCount = l .nodeCount; cells = callOf l .cells; cellCount = l .cellCount }
+      ready : Ready L (length (c .ring)) x
+      ready =
+          let n = length-tab (cellIn q) (length q / 4) in
+          let y = through .ready in
+          record { listed = y .listed; stored = omega (arith, room, n); places = y .places; used = y .used; nodes-free = y .nodes-free; cells-free = omega (arith, room, n) }
 
-      pub read-passed : Passed L c
-      read-passed = subst (Passed L) (sym call-is) through
+      prepared-here : Prepared L (length (c .ring)) (startOf c) x
+      prepared-here =
+          let y = prepared L c through in
+          record { few = y .few; fewer = y .fewer; sheet = y .sheet; edged = y .edged; snaps = y .snaps; ready = ready }
 
-      pub read-promise : (v : Values) (m : List Float) (p : List ℕ) → Leaves (cleaned L c (cleanPolygon (l .size) (take (length (l .ring) / 2) ps))) v (l .nodes) m (l .cells) p → Promise l v m p
-      read-promise v m p h =
-          promised l v m p
-          (rw (ap (λ (L : Limits). divideLent L l) (sym d) ∙ goes-on)
-          (subst (λ (c : Call). Leaves (cleaned L c (cleanPolygon (l .size) (c .ring))) v (l .nodes) m (l .cells) p) call-is h))
+      pub can-divide : CanDivide L (length (l .ring) / 2) m (l .nodes) (l .nodeCount) q k
+      can-divide =
+          record {
+            cuts = h .cuts;
+            held = b .held;
+            prepared = subst (λ (r : ℕ). Prepared L r (partIn m) x) own (subst (λ (p : Part). Prepared L (length (c .ring)) p x) (sym (b .part)) prepared-here);
+          }
+
+      pub call-divided : (v : Values) (n : List Float) (o : List ℕ) → Leaves (core L (length (l .ring) / 2) (partIn m) x) v (l .nodes) n q o → Leaves (divideInto L l q k) v (l .nodes) n q o
+      unfolding refusal
+      call-divided v n o f =
+          rw (Course.goes-on x (testsBy (λ cs. cs) L l) core-of (sym e ∙ z))
+          (subst (λ (r : ℕ). Leaves (core L r (startOf c) x) v (l .nodes) n q o) (sym own) (subst (λ (p : Part). Leaves (core L (length (l .ring) / 2) p x) v (l .nodes) n q o) (b .part) f))
+
+-- ---- the promise
+pub promised : (L : Limits) (l : Lent) (v : Values) (m : List Float) (p : List ℕ) → Leaves (divideLent L l) v (l .nodes) m (l .cells) p → Promise L l v m p
+promised L l v m p h = record { leaves = h; accepted = λ z. demand3-lent L l (sym (ap (λ (v : Values). v .code) (h .values)) ∙ z) }
+
+-- the lent list, its cells as records
+abbrev pub recorded : Lent → LentRecords
+recorded l = record { ring = l .ring; chain = l .chain; size = l .size; nodes = l .nodes; nodeCount = l .nodeCount; cells = allCells (l .cells); cellCount = l .cellCount }
+
+-- the set of limits, by another name
+pub own-promise : (M L : Limits) → M ≡ L → (l : Lent) (v : Values) (m : List Float) (p : List ℕ) → Leaves (divideInto M (recorded l) (l .cells) (l .cellCount)) v (l .nodes) m (l .cells) p → Promise L l v m p
+unfolding divideLent
+own-promise M L d l v m p h = subst (λ (L : Limits). Promise L l v m p) d (promised M l v m p h)
+
+pub cell-places : (q : List ℕ) → length (allCells q) ≡ length q / 4
+cell-places q = length-tab (cellIn q) (length q / 4)
 
 pub most-cuts : (L : Limits) → L ≡ delivered → L .cuts ≤ 32
 most-cuts L d = subst (λ (L : Limits). L .cuts ≤ 32) (sym d) (omega arith)
+
+-- ---- the node list that it leaves is that of a list of calls
+pub as-called : (s : Pool) (g : Given ℕ) (v : Values) (m : List Float) (p : List ℕ) → Promise (g .limits) (lend s g) v m p → _≡_ {A = Pool} (record { doubles = m; count = v .nodes }) (leaves s (answerOf s (numbers g)))
+as-called s g v m p h = λ j. record { doubles = h .leaves .nodes j; count = h .leaves .values j .nodes }

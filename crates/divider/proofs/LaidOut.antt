@@ -8,10 +8,11 @@ use lib.ListN.{length, replicate}
 use lib.Ieee.{Float}
 use Rattle.vector.specs.declared.Point.{Point}
 use Rattle.vector.specs.Grid.{polygonArea}
+use Rattle.marks.specs.declared.MarkedRing.{MarkedRing}
 use Rattle.marks.specs.Part.{Part, markCount}
 use Rattle.corner.specs.declared.Limits.{Limits}
-use Rattle.split.specs.Split.{Stack}
-use Rattle.nodes.specs.Flat.{nodesIn, over}
+use Rattle.split.specs.Split.{Stack, splitBadVertices}
+use Rattle.nodes.specs.Flat.{over}
 use Rattle.cells.specs.declared.Cell.{Cell}
 use Rattle.cells.specs.Cells.{noCell}
 use Rattle.cells.specs.Pieces.{Outcome, done, failed}
@@ -20,59 +21,64 @@ use Rattle.cells.specs.Claims.{CellsOf}
 use Rattle.cells.proofs.NewCells.{pieces-cells}
 use Rattle.pieces.specs.Flat.{overFrom, cellsLeft}
 use Rattle.pieces.proofs.Cases.{AllDone, OneFailed}
-use Rattle.demand.specs.Call.{Call, cellReserve}
+use Rattle.table.specs.declared.Values.{Values}
+use Rattle.table.specs.Answers.{dividedRow, failedRow}
+use Rattle.demand.specs.Call.{Lists, usedIn, cellReserve}
 use Rattle.demand.specs.Divide.{answered}
-use Rattle.divider.specs.declared.Values.{Values}
-use Rattle.divider.specs.declared.Answer.the-variants.{Divided, Failed}
-use Rattle.divider.specs.Answers.{values}
+use Rattle.demand.proofs.Course.{Sought, outcomeOf}
 use Rattle.divider.specs.Promise.{Leaves}
-use Rattle.divider.specs.Steps.{outcomeOf, CanLay, Lends}
+use Rattle.divider.specs.Steps.{partIn, listsIn}
 use Rattle.divider.proofs.Leaving as leaving
+use Rattle.divider.proofs.Laying as laying
 
 cells-many : (o : Outcome) (ns : List Point) (cs : List Cell) (m : ℕ) → o ≡ done ns cs → CellsOf m o → length cs ≡ m
 cells-many o ns cs m e h = (subst (CellsOf m) e h) .0
 
-module _ (L : Limits) (s : Stack) (l : List Float) (u : ℕ) (q : List ℕ) (k reserve : ℕ) (a : CanLay L s l u q k reserve) where
+module _ (L : Limits) (r : ℕ) (m : MarkedRing) (l : List Float) (u : ℕ) (q : List ℕ) (k : ℕ) (a : Sought L r (partIn m) (listsIn l u q k)) where
+  abbrev p : Part
+  p = partIn m
+
+  abbrev x : Lists
+  x = listsIn l u q k
+
+  abbrev s : Stack
+  s = splitBadVertices L p
+
   abbrev o : Outcome
-  o = outcomeOf L s l u
+  o = outcomeOf L p x
 
   node-room : (ns : List Point) → nodesOf o ≡ ns → length ns ≤ length l / 2
-  node-room ns e = omega (arith, a .room, ap length e)
+  node-room ns e = omega (arith, laying.node-room L r m l u q k a, ap length e)
 
   -- the cells of pieces that are done fit the reserve
   pub cell-room : (v d : ℕ) → AllDone o v d → k + d ≤ length q / 4
-  cell-room v d x = omega (arith, x .cells, cells-many o (x .ns) (x .cs) _ (x .is) (pieces-cells (L .share) (s .pieces) (nodesIn l u) (length (s .pieces))), a .corners, a .places)
+  cell-room v d y =
+      omega (
+        arith,
+        y .cells,
+        cells-many o (y .ns) (y .cs) _ (y .is) (pieces-cells (L .share) (s .pieces) (usedIn x) (length (s .pieces))),
+        laying.corners L r m l u q k a,
+        laying.cell-room L r m l u q k a,
+      )
 
-  -- over the lists that the call c lends
-  module _ (c : Call) (h : Lends c l u q k) (p : Part) where
-    abbrev Left : Outcome → Values → Type 0
-    Left o v = Leaves (answered L c p s o) v l (over l (nodesOf o)) q (overFrom q k (cellsLeft reserve o))
+  -- what the code was answered, over a reserve of so many places
+  abbrev Left : ℕ → Outcome → Values → Type 0
+  Left reserve o v = Leaves (answered L r p x s o) v l (over l (nodesOf o)) q (overFrom q k (cellsLeft reserve o))
 
-    pub laid-done : (n m cuts count turned area v d : ℕ) → AllDone o v d → n ≡ length (p .points) → m ≡ markCount (p .edges) → cuts ≡ s .cuts → count ≡ length (s .pieces) → turned ≡ s .turned
-        → area ≡ natAbs (polygonArea (p .points)) → Left o (values (Divided n m cuts count turned area v (k + d)))
-    laid-done n m cuts count turned area v d x e₁ e₂ e₃ e₄ e₅ e₆ =
-        let r = node-room (x .ns) (ap nodesOf (x .is)) in
-        let b = leaving.done-leaves c l u q k h L p s (x .ns) r (x .cs) (omega (arith, cell-room v d x, x .cells)) in
-        subst (λ (o : Outcome). Left o (values (Divided n m cuts count turned area v (k + d)))) (sym (x .is))
-        (subst (λ (w : Values). Left (done (x .ns) (x .cs)) w)
-        (λ j. record {
-          code = 0;
-          corners = sym e₁ j;
-          k = 0;
-          marked = sym e₂ j;
-          cuts = sym e₃ j;
-          pieces = sym e₄ j;
-          turned = sym e₅ j;
-          area = sym e₆ j;
-          nodes = sym (x .nodes) j;
-          cells = k + sym (x .cells) j;
-        })
-        b)
+  pub laid-done : (reserve n c cuts count turned area v d : ℕ) → AllDone o v d → n ≡ length (p .points) → c ≡ markCount (p .edges) → cuts ≡ s .cuts → count ≡ length (s .pieces) → turned ≡ s .turned
+      → area ≡ natAbs (polygonArea (p .points)) → Left reserve o (dividedRow n c cuts count turned area v (k + d))
+  laid-done reserve n c cuts count turned area v d y e₁ e₂ e₃ e₄ e₅ e₆ =
+      let b = node-room (y .ns) (ap nodesOf (y .is)) in
+      let f = leaving.done-leaves l u q k L r p s (y .ns) b (y .cs) (omega (arith, cell-room v d y, y .cells)) in
+      subst (λ (o : Outcome). Left reserve o (dividedRow n c cuts count turned area v (k + d))) (sym (y .is))
+      (subst (λ (w : Values). Left reserve (done (y .ns) (y .cs)) w)
+      (λ j. dividedRow (sym e₁ j) (sym e₂ j) (sym e₃ j) (sym e₄ j) (sym e₅ j) (sym e₆ j) (sym (y .nodes) j) (k + sym (y .cells) j))
+      f)
 
-    pub laid-failed : (n i v : ℕ) → OneFailed o n i v → cellReserve L (length (c .ring)) ≡ reserve → Left o (values (Failed n i v k))
-    laid-failed n i v x e =
-        let r = node-room (x .ns) (ap nodesOf (x .is)) in
-        let b = leaving.failed-leaves c l u q k h L p s (x .ns) r n i (omega (arith, e, a .places)) in
-        subst (λ (o : Outcome). Left o (values (Failed n i v k))) (sym (x .is))
-        (subst (λ (w : ℕ). Left (failed (x .ns) n i) (values (Failed n i w k))) (sym (x .nodes))
-        (subst (λ (w : ℕ). Leaves (answered L c p s (failed (x .ns) n i)) (values (Failed n i (length (x .ns)) k)) l (over l (x .ns)) q (overFrom q k (replicate w noCell))) e b))
+  pub laid-failed : (reserve n i v : ℕ) → OneFailed o n i v → reserve ≡ cellReserve L r → Left reserve o (failedRow n i v k)
+  laid-failed reserve n i v y e =
+      let b = node-room (y .ns) (ap nodesOf (y .is)) in
+      let f = leaving.failed-leaves l u q k L r p s (y .ns) b n i (laying.cell-room L r m l u q k a) in
+      subst (λ (o : Outcome). Left reserve o (failedRow n i v k)) (sym (y .is))
+      (subst (λ (w : ℕ). Left reserve (failed (y .ns) n i) (failedRow n i w k)) (sym (y .nodes))
+      (subst (λ (w : ℕ). Left w (failed (y .ns) n i) (failedRow n i (length (y .ns)) k)) (sym e) f))

@@ -1,4 +1,3 @@
--- What the divider call answers and leaves, and what its steps ask of each other.
-pub mod Answers
+-- What the divider call promises, and what its steps ask of each other.
 pub mod Promise
 pub mod Steps

@@ -3,22 +3,22 @@ use Prim.Native.Nat.{ℕ}
 use mathlib.Core.Path.{_≡_}
 use mathlib.Core.List.{List}
 use lib.Ieee.{Float}
-use Rattle.corner.specs.Limits.{delivered}
+use Rattle.corner.specs.declared.Limits.{Limits}
 use Rattle.nodes.specs.Flat.{over}
 use Rattle.cells.specs.Flat.{overCells}
-use Rattle.demand.specs.Divide as Divide
+use Rattle.table.specs.declared.Values.{Values}
+use Rattle.demand.specs.Call.{listsOf}
+use Rattle.demand.specs.Divide.{Answer, startOf}
 use Rattle.demand.specs.Demand.{Demand3}
 use Rattle.demand.specs.Lent.{Lent, callOf, divideLent}
-use Rattle.divider.specs.declared.Values.{Values}
-use Rattle.divider.specs.Answers.{valuesOf}
 
--- the values v are those of the answer a; the node list, l before, is m, and the cell list, q before, is p: its nodes and its cells over the places they came from
-pub record Leaves (a : Divide.Answer) (v : Values) (l m : List Float) (q p : List ℕ) : Type 0 where
-  pub values : v ≡ valuesOf a
+-- the values v are the row of the answer a; the node list, l before, is m, and the cell list, q before, is p: its nodes and its cells over the places they came from
+pub record Leaves (a : Answer) (v : Values) (l m : List Float) (q p : List ℕ) : Type 0 where
+  pub values : v ≡ a .row
   pub nodes : m ≡ over l (a .nodes)
   pub cells : p ≡ overCells q (a .cells)
 
--- a call over what the caller lent returned v and left the nodes m and the cells p
-pub record Promise (l : Lent) (v : Values) (m : List Float) (p : List ℕ) : Type 0 where
-  pub leaves : Leaves (divideLent delivered l) v (l .nodes) m (l .cells) p
-  pub accepted : v .code ≡ 0 → Demand3 delivered (callOf l) (divideLent delivered l)
+-- a call with the set of limits L over what the caller lent returned v and left the nodes m and the cells p
+pub record Promise (L : Limits) (l : Lent) (v : Values) (m : List Float) (p : List ℕ) : Type 0 where
+  pub leaves : Leaves (divideLent L l) v (l .nodes) m (l .cells) p
+  pub accepted : v .code ≡ 0 → Demand3 L (startOf (callOf l)) (listsOf (callOf l)) (divideLent L l)

@@ -1,59 +1,78 @@
--- The steps of a call after its entry: refusals 5 to 7 of the cleaned ring, and what laying out its pieces asks for. Definitions only.
-use Prim.Native.Nat.{ℕ, _+_, _*_, _/_, _≤_, _<_}
+-- The steps of a call: the ring that it prepares, as an array holds it, and what the core asks for. Definitions only.
+use Prim.Native.Nat.{ℕ, _+_, _*_, _-_, _/_, _≤_}
 use mathlib.Core.Path.{_≡_}
-use mathlib.Core.Bool.{not, cond}
 use mathlib.Core.List.{List}
-use lib.IntN.{pos}
-use lib.Signed.{ltZ}
-use lib.ListN.{length, getD, take}
-use lib.Dec.{ltb}
+use lib.IntN.{ℤ}
+use lib.ListN.{length, take}
 use lib.Ieee.{Float}
 use Rattle.vector.specs.declared.GridPoint.{GridPoint}
-use Rattle.vector.specs.Grid.{polygonArea}
-use Rattle.simple.specs.Simple.{polygonSimple}
-use Rattle.marks.specs.declared.Edge.{Edge}
-use Rattle.marks.specs.Part.{Part, noPart}
+use Rattle.vector.specs.Size.{AllOnSheet}
+use Rattle.chain.specs.Chain.{simplifyChain}
+use Rattle.clean.specs.Clean.{cleanPolygon}
+use Rattle.marks.specs.declared.MarkedRing.{MarkedRing}
+use Rattle.marks.specs.Part.{Part}
+use Rattle.marks.specs.Marks.{marked}
 use Rattle.marks.specs.Edges.{marksIn}
 use Rattle.corner.specs.declared.Limits.{Limits}
-use Rattle.split.specs.Split.{Stack, splitBadVertices}
-use Rattle.nodes.specs.Flat.{nodesIn, Usable}
-use Rattle.cells.specs.Pieces.{Outcome, piecesTo}
-use Rattle.cells.specs.Stages.{nodesOf}
-use Rattle.cells.specs.Claims.{Fair, cornersTo}
-use Rattle.demand.specs.Call.{Call}
-use Rattle.demand.specs.Lent.{cellsIn}
+use Rattle.nodes.specs.Flat.{nodesIn}
+use Rattle.pieces.specs.declared.Subdivision.{Subdivision}
+use Rattle.pieces.specs.declared.Subdivision.the-variants as subdivision
+use Rattle.table.specs.declared.Answer as table
+use Rattle.table.specs.declared.Answer.the-variants as answer
+use Rattle.demand.specs.Call.{Lists, cellReserve}
+use Rattle.demand.specs.Divide.{Answer, refusedOr, core, startOf}
+use Rattle.demand.specs.Demand.{Prepared}
+use Rattle.demand.specs.Lent.{pointsIn, allCells, LentRecords, callOfRecords, testsBy}
+use Rattle.divider.specs.declared.CellRoom.{CellRoom}
 
--- 5 "under 3 points after cleaning", 6 "not simple after cleaning", 7 "cleaned doubled area not above 0", or 0
-unfoldable pub ringRefusal : List GridPoint → ℕ
-ringRefusal r = cond (ltb (length r) 3) 5 (cond (not (polygonSimple r)) 6 (cond (not (ltZ (pos 0) (polygonArea r))) 7 0))
+-- the points of a ring or a chain that was lent
+abbrev pub pointsOf : List ℤ → List GridPoint
+pointsOf l = pointsIn l (length l / 2)
 
--- the ring of the first n points, with the marks of its edges; its pieces; and what they come to over the first u nodes of l
-abbrev pub ringIn : List GridPoint → List Edge → ℕ → Part
-ringIn ps es n = record { points = take n ps; edges = marksIn es n }
+-- they fit an array of 60, and are on the sheet
+pub record OnPaper (l : List ℤ) : Type 0 where
+  pub few : length l / 2 ≤ 60
+  pub sheet : AllOnSheet (pointsOf l)
 
-abbrev pub splitIn : Limits → List GridPoint → List Edge → ℕ → Stack
-splitIn L ps es n = splitBadVertices L (ringIn ps es n)
+-- the ring that the first places of the two arrays hold
+abbrev pub partIn : MarkedRing → Part
+partIn m = record { points = take (m .count) (m .points); edges = marksIn (m .edges) (m .count) }
 
-abbrev pub outcomeOf : Limits → Stack → List Float → ℕ → Outcome
-outcomeOf L s l u = piecesTo (L .share) (s .pieces) (nodesIn l u) (length (s .pieces))
+-- the count fits them, and every place of the points, used or not, is on the sheet
+pub record Held (m : MarkedRing) : Type 0 where
+  pub count : m .count ≤ 60
+  pub places : length (m .points) ≡ 60
+  pub marks : length (m .edges) ≡ 60
+  pub points : AllOnSheet (m .points)
 
--- the pieces of s can be laid out over the first u nodes of l, and over a reserve of cell places of q from place k on
-pub record CanLay (L : Limits) (s : Stack) (l : List Float) (u : ℕ) (q : List ℕ) (k reserve : ℕ) : Type 0 where
-  pub usable : Usable l u
-  pub fair : (i : ℕ) → i < length (s .pieces) → Fair (getD (s .pieces) i noPart)
-  pub fits : length (nodesOf (outcomeOf L s l u)) ≤ 65535
-  pub room : length (nodesOf (outcomeOf L s l u)) * 2 ≤ length l
-  pub corners : cornersTo (s .pieces) (length (s .pieces)) ≤ reserve
-  pub places : (k + reserve) * 4 ≤ length q
+-- it is the cleaned ring with the marks that the chain gives it
+pub record Prepares (ring chain : List ℤ) (size : ℕ) (m : MarkedRing) : Type 0 where
+  pub part : partIn m ≡ marked (simplifyChain (pointsOf chain)) (cleanPolygon size (pointsOf ring))
+  pub held : Held m
 
--- the call c lends these lists, u and k of their places used
-pub record Lends (c : Call) (l : List Float) (u : ℕ) (q : List ℕ) (k : ℕ) : Type 0 where
-  pub nodes : c .nodes ≡ nodesIn l (length l / 2)
-  pub node-count : c .nodeCount ≡ u
-  pub cells : c .cells ≡ cellsIn q (length q / 4)
-  pub cell-count : c .cellCount ≡ k
+-- the lists that doubles and numbers hold, u and k of their places used
+abbrev pub listsIn : List Float → ℕ → List ℕ → ℕ → Lists
+listsIn l u q k = record { nodes = nodesIn l (length l / 2); nodeCount = u; cells = allCells q; cellCount = k }
 
--- the call with these points, over these lists
-abbrev pub callIn : List GridPoint → ℕ → List GridPoint → ℕ → ℕ → List Float → ℕ → List ℕ → ℕ → Call
-callIn ring r chain m size l u q k =
-    record { ring = take r ring; chain = take m chain; size = size; nodes = nodesIn l (length l / 2); nodeCount = u; cells = cellsIn q (length q / 4); cellCount = k }
+-- the answer of pieces of which one failed. It is not asked of pieces that are done: these have the number alone
+abbrev pub failedAnswer : Subdivision → ℕ → table.Answer
+failedAnswer (subdivision.Failed n k u) cells = answer.Failed n k u cells
+failedAnswer (subdivision.Done u d) cells = answer.Refused 8 0 cells
+
+-- what the core asks for: a ring of r points that was prepared, whatever its marks came from, and a set of at most 32 cuts
+pub record CanDivide (L : Limits) (r : ℕ) (m : MarkedRing) (l : List Float) (u : ℕ) (q : List ℕ) (k : ℕ) : Type 0 where
+  pub cuts : L .cuts ≤ 32
+  pub held : Held m
+  pub prepared : Prepared L r (partIn m) (listsIn l u q k)
+
+-- a call whose cells go to place k of the numbers q on, which need not be the list that is tested
+abbrev pub divideInto : Limits → LentRecords → List ℕ → ℕ → Answer
+divideInto L l q k =
+    let c = callOfRecords l in
+    let x = listsIn (l .nodes) (l .nodeCount) q k in
+    refusedOr x (testsBy (λ cs. cs) L l) (core L (length (c .ring)) (startOf c) x)
+
+-- where the tested list has room for a ring, the numbers do
+pub record HasRoom (L : Limits) (w : CellRoom) (q : List ℕ) : Type 0 where
+  pub cuts : L .cuts ≤ 32
+  pub reserve : (r : ℕ) → r ≤ 60 → w .used + cellReserve L r ≤ w .places → w .at + cellReserve L r ≤ length q / 4

@@ -1,132 +1,35 @@
 // Divider: the whole call, from a ring to its cells over the lists that a caller lends.
 //
-// It is where the way of a ring comes together: the entry's tests, cleaning, the tests of the cleaned ring, the marks of
-// its edges, the split, and the cells of its pieces. Whatever is handed over, the call ends, returns one row of the table
-// and says of every place of both lists what is left there. specs/Answers has the row of each answer, specs/Promise the
+// It is where the way of a ring comes together. An entry tests, prepares a ring with the marks of its edges, and hands it
+// to the core: the tests of the cleaned ring, the split, and the cells of its pieces. Whatever is handed over, the call
+// ends, returns one row of the table and says of every place of both lists what is left there. specs/Promise has the
 // promise, in which stands what holds of every accepted ring.
 
 ghost use mathlib.Core.Path.{_≡_};
+ghost use mathlib.Core.List.{List};
 ghost use Prim.Native.Nat.{_≤_};
 ghost use lib.ListN.{length, take};
 ghost use Rattle.vector.specs.Size.{AllOnSheet};
-ghost use Rattle.clean.specs.Clean.{cleanPolygon};
-ghost use Rattle.demand.specs.Call as Call;
-ghost use Rattle.demand.specs.Divide as Divide;
-ghost use Rattle.demand.proofs.Tests.{Passed};
-ghost use Rattle.divider.specs.Answers as Answers;
+ghost use Rattle.corner.specs.Limits.{delivered};
+ghost use Rattle.split.specs.Split.{splitBadVertices};
+ghost use Rattle.cells.specs.declared.Cell.{Cell};
+ghost use Rattle.table.specs.Answers as Answers;
+ghost use Rattle.table.specs.Refusals.{firstOf};
+ghost use Rattle.demand.specs.Divide.{ringTests, answered, core};
+ghost use Rattle.demand.proofs.Course.{Whole, outcomeOf};
 ghost use Rattle.divider.specs.Promise.{Leaves, Promise};
-ghost use Rattle.divider.specs.Steps.{ringRefusal, ringIn, splitIn, outcomeOf, CanLay, Lends, callIn};
+ghost use Rattle.divider.specs.Steps.{OnPaper, Prepares, partIn, listsIn, failedAnswer, CanDivide, divideInto, HasRoom};
 use corner::Limits;
-use marks::Edge;
+use marks::MarkedRing;
 use pieces::Subdivision;
+use table::Answer;
+use table::Values;
 use vector::GridPoint;
-
-// A ring that was divided; one that was refused, with its number; or one with a piece that has a failing cell.
-pub enum Answer {
-    Divided {
-        corners: usize,
-        marked: usize,
-        cuts: usize,
-        pieces: usize,
-        turned: u64,
-        area: u64,
-        nodes: usize,
-        cells: usize,
-    },
-    Refused {
-        code: u32,
-        nodes: usize,
-        cells: usize,
-    },
-    Failed {
-        corners: usize,
-        k: usize,
-        nodes: usize,
-        cells: usize,
-    },
-}
-
-// A row of the table: the number, and every value that it may have.
-#[repr(C)]
-pub struct Values {
-    pub code: u64,
-    pub corners: u64,
-    pub k: u64,
-    pub marked: u64,
-    pub cuts: u64,
-    pub pieces: u64,
-    pub turned: u64,
-    pub area: u64,
-    pub nodes: u64,
-    pub cells: u64,
-}
-
-impl Values {
-    // The row of an answer.
-    pub fn new(a: Answer) -> Values
-        ensures { λ r. ⌜ r ≡ Answers.values a ⌝ }
-    {
-        match a {
-            Answer::Divided {
-                corners,
-                marked,
-                cuts,
-                pieces,
-                turned,
-                area,
-                nodes,
-                cells,
-            } => Values {
-                code: 0,
-                corners: corners as u64,
-                k: 0,
-                marked: marked as u64,
-                cuts: cuts as u64,
-                pieces: pieces as u64,
-                turned: turned,
-                area: area,
-                nodes: nodes as u64,
-                cells: cells as u64,
-            },
-            Answer::Refused { code, nodes, cells } => Values::counts(
-                code as u64,
-                0,
-                0,
-                nodes,
-                cells,
-            ),
-            Answer::Failed {
-                corners,
-                k,
-                nodes,
-                cells,
-            } => Values::counts(8, corners, k, nodes, cells),
-        }
-    }
-
-    // The row of a ring that was not divided: zeros for the rest.
-    fn counts(code: u64, corners: usize, k: usize, nodes: usize, cells: usize) -> Values
-        ensures { λ r. ⌜ r ≡ record { code = code; corners = corners; k = k; marked = 0; cuts = 0; pieces = 0; turned = 0; area = 0; nodes = nodes; cells = cells } ⌝ }
-    {
-        Values {
-            code: code,
-            corners: corners as u64,
-            k: k as u64,
-            marked: 0,
-            cuts: 0,
-            pieces: 0,
-            turned: 0,
-            area: 0,
-            nodes: nodes as u64,
-            cells: cells as u64,
-        }
-    }
-}
 
 // Refusals 5 to 7 of the cleaned ring of the first n points, or 0.
 fn ring_refusal(points: [GridPoint; 60], n: usize) -> u32
     requires { ⌜ (n ≤ 60) × AllOnSheet points ⌝ }
-    ensures { λ r. ⌜ r ≡ ringRefusal (take n points) ⌝ }
+    ensures { λ r. ⌜ r ≡ firstOf (ringTests (take n points)) ⌝ }
 {
     if n < 3 {
         return 5;
@@ -140,23 +43,43 @@ fn ring_refusal(points: [GridPoint; 60], n: usize) -> u32
     7
 }
 
-// The pieces of the ring of the first n points, and their cells over the places from cell_count on.
+// The answer of a ring with a piece that failed: 8.
+fn failed(laid: Subdivision, cells: usize) -> Answer
+    ensures { λ r. ⌜ r ≡ failedAnswer laid cells ⌝ }
+{
+    let Subdivision::Failed { corners, k, nodes } = laid else {
+        return Answer::Refused {
+            code: 8,
+            nodes: 0,
+            cells: cells,
+        };
+    };
+    Answer::Failed {
+        corners: corners,
+        k: k,
+        nodes: nodes,
+        cells: cells,
+    }
+}
+
+// The pieces of a ring of `own` points that passed every test, and their cells over the places from cell_count on.
 fn laid_out(
     limits: Limits,
-    points: [GridPoint; 60],
-    n: usize,
-    edges: [Edge; 60],
-    reserve: usize,
+    ring: MarkedRing,
+    own: usize,
     nodes: &mut [f64],
     node_count: usize,
     cells: &mut [u16],
     cell_count: usize,
 ) -> Answer
-    requires { ⌜ (3 ≤ n) × (n ≤ 60) × AllOnSheet points × (limits .cuts ≤ 32) × CanLay limits (splitIn limits points edges n) (now nodes) «node_count» (now cells) «cell_count» reserve ⌝ }
-    ensures { λ r. ⌜ ((c : Call.Call) → Lends c (now (nodes .entry)) «node_count» (now (cells .entry)) «cell_count» → Call.cellReserve limits (length (c .ring)) ≡ reserve
-        → Leaves (Divide.answered limits c (ringIn points edges n) (splitIn limits points edges n) (outcomeOf limits (splitIn limits points edges n) (now (nodes .entry)) «node_count»))
-        (Answers.values r) (now (nodes .entry)) (now (nodes .exit)) (now (cells .entry)) (now (cells .exit))) ⌝ }
+    requires { ⌜ CanDivide limits own ring (now nodes) «node_count» (now cells) «cell_count» × Whole (partIn ring .points) ⌝ }
+    ensures { λ r. ⌜ Leaves (answered limits own (partIn ring) (listsIn (now (nodes .entry)) «node_count» (now (cells .entry)) «cell_count») (splitBadVertices limits (partIn ring)) (outcomeOf limits (partIn ring) (listsIn (now (nodes .entry)) «node_count» (now (cells .entry)) «cell_count»)))
+        (Answers.values r) (now (nodes .entry)) (now (nodes .exit)) (now (cells .entry)) (now (cells .exit)) ⌝ }
 {
+    let n = ring.count;
+    let points = ring.points;
+    let edges = ring.edges;
+    let reserve = entry::cell_reserve(limits, own);
     let s = split::split_bad_vertices(limits, points, n);
     let pieces = s.pieces;
     let count = pieces.count;
@@ -172,46 +95,42 @@ fn laid_out(
         pieces,
         share,
     );
-    match laid {
-        Subdivision::Failed { corners, k, nodes } => Answer::Failed {
-            corners: corners,
-            k: k,
-            nodes: nodes,
-            cells: cell_count,
-        },
-        Subdivision::Done { nodes, cells } => Answer::Divided {
-            corners: n,
-            marked: marks::mark_count(edges, n),
-            cuts: s.cuts,
-            pieces: count,
-            turned: s.turned,
-            area: vector::magnitude(vector::polygon_area(points, n)),
-            nodes: nodes,
-            cells: cell_count + cells,
-        },
+    let Subdivision::Done {
+        nodes: listed,
+        cells: added,
+    } = laid
+    else {
+        return failed(laid, cell_count);
+    };
+    Answer::Divided {
+        corners: n,
+        marked: marks::mark_count(edges, n),
+        cuts: s.cuts,
+        pieces: count,
+        turned: s.turned,
+        area: vector::magnitude(vector::polygon_area(points, n)),
+        nodes: listed,
+        cells: cell_count + added,
     }
 }
 
-// The call from the cleaning on: refusals 5 to 7, or the pieces of the cleaned ring with the marks of its edges.
-pub fn cleaned(
+// The core, which every entry calls: a ring of `own` points, cleaned and with its marks, wherever they came from. Refusals
+// 5 to 7, or its pieces and their cells.
+pub fn divide_core(
     limits: Limits,
-    ring: [GridPoint; 60],
-    r: usize,
-    chain: [GridPoint; 60],
-    m: usize,
-    size: u32,
+    ring: MarkedRing,
+    own: usize,
     nodes: &mut [f64],
     node_count: usize,
     cells: &mut [u16],
     cell_count: usize,
 ) -> Answer
-    requires { ⌜ (r ≤ 60) × (m ≤ 60) × AllOnSheet ring × AllOnSheet chain × (limits .cuts ≤ 32) × Passed limits (callIn ring r chain m size (now nodes) «node_count» (now cells) «cell_count») ⌝ }
-    ensures { λ a. ⌜ Leaves (Divide.cleaned limits (callIn ring r chain m size (now (nodes .entry)) «node_count» (now (cells .entry)) «cell_count») (cleanPolygon size (take r ring)))
-        (Answers.values a) (now (nodes .entry)) (now (nodes .exit)) (now (cells .entry)) (now (cells .exit)) ⌝ }
+    requires { ⌜ CanDivide limits own ring (now nodes) «node_count» (now cells) «cell_count» ⌝ }
+    ensures { λ r. ⌜ Leaves (core limits own (partIn ring) (listsIn (now (nodes .entry)) «node_count» (now (cells .entry)) «cell_count»))
+        (Answers.values r) (now (nodes .entry)) (now (nodes .exit)) (now (cells .entry)) (now (cells .exit)) ⌝ }
 {
-    let clean = clean::clean_polygon(ring, r, size);
-    let n = clean.count;
-    let points = clean.points;
+    let n = ring.count;
+    let points = ring.points;
     let code = ring_refusal(points, n);
     if code != 0 {
         return Answer::Refused {
@@ -220,19 +139,72 @@ pub fn cleaned(
             cells: cell_count,
         };
     }
-    let edges = marks::mark_edges(points, n, chain::simplify_chain(chain, m));
-    let reserve = entry::cell_reserve(limits, r);
-    laid_out(
+    laid_out(limits, ring, own, nodes, node_count, cells, cell_count)
+}
+
+// The ring of a call, cleaned, with the marks that the chain gives its edges.
+fn prepared(ring: &[i32], chain: &[i32], size: u32) -> MarkedRing
+    requires { ⌜ OnPaper (now ring) × OnPaper (now chain) ⌝ }
+    ensures { λ r. ⌜ Prepares (now (ring .entry)) (now (chain .entry)) size r ⌝ }
+{
+    let n = ring.len() / 2;
+    let m = chain.len() / 2;
+    let clean = clean::clean_polygon(entry::points(ring, n), n, size);
+    let count = clean.count;
+    let points = clean.points;
+    let run = chain::simplify_chain(entry::points(chain, m), m);
+    let edges = marks::mark_edges(points, count, run);
+    MarkedRing {
+        points: points,
+        edges: edges,
+        count: count,
+    }
+}
+
+// The caller's cell list, of which the tests look at the number of places and at how many are used; and the place where
+// the ring's cells go in a list of numbers, which is that list or another.
+pub struct CellRoom {
+    pub places: usize,
+    pub used: usize,
+    pub at: usize,
+}
+
+// The divider call with a set of limits, its cells written as numbers.
+pub fn divide_with(
+    limits: Limits,
+    ring: &[i32],
+    chain: &[i32],
+    size: u32,
+    nodes: &mut [f64],
+    node_count: usize,
+    cells: &mut [u16],
+    room: CellRoom,
+) -> Answer
+    requires { ⌜ HasRoom limits room (now cells) ⌝ }
+    ensures { λ a. ⌜ ((cs : List Cell) → length cs ≡ room .places
+        → Leaves (divideInto limits (record { ring = now (ring .entry); chain = now (chain .entry); size = size; nodes = now (nodes .entry); nodeCount = «node_count»; cells = cs; cellCount = room .used }) (now (cells .entry)) (room .at))
+        (Answers.values a) (now (nodes .entry)) (now (nodes .exit)) (now (cells .entry)) (now (cells .exit))) ⌝ }
+{
+    let code = entry::refusal(
         limits,
-        points,
-        n,
-        edges,
-        reserve,
+        ring,
+        chain,
+        size,
         nodes,
         node_count,
-        cells,
-        cell_count,
-    )
+        room.places,
+        room.used,
+    );
+    if code != 0 {
+        return Answer::Refused {
+            code: code,
+            nodes: node_count,
+            cells: room.at,
+        };
+    }
+    let own = ring.len() / 2;
+    let marked = prepared(ring, chain, size);
+    divide_core(limits, marked, own, nodes, node_count, cells, room.at)
 }
 
 // The divider call over the lists that the caller lends.
@@ -245,44 +217,16 @@ pub fn divide(
     cells: &mut [u16],
     cell_count: usize,
 ) -> Answer
-    ensures { λ a. ⌜ Promise (record { ring = now (ring .entry); chain = now (chain .entry); size = size; nodes = now (nodes .entry); nodeCount = «node_count»; cells = now (cells .entry); cellCount = «cell_count» })
+    ensures { λ a. ⌜ Promise delivered (record { ring = now (ring .entry); chain = now (chain .entry); size = size; nodes = now (nodes .entry); nodeCount = «node_count»; cells = now (cells .entry); cellCount = «cell_count» })
         (Answers.values a) (now (nodes .exit)) (now (cells .exit)) ⌝ }
 {
+    let room = CellRoom {
+        places: cells.len() / 4,
+        used: cell_count,
+        at: cell_count,
+    };
     let limits = Limits::new();
-    let places = cells.len() / 4;
-    let code = entry::refusal(
-        limits,
-        ring,
-        chain,
-        size,
-        nodes,
-        node_count,
-        places,
-        cell_count,
-    );
-    if code != 0 {
-        return Answer::Refused {
-            code: code,
-            nodes: node_count,
-            cells: cell_count,
-        };
-    }
-    let r = ring.len() / 2;
-    let m = chain.len() / 2;
-    let points = entry::points(ring, r);
-    let run = entry::points(chain, m);
-    cleaned(
-        limits,
-        points,
-        r,
-        run,
-        m,
-        size,
-        nodes,
-        node_count,
-        cells,
-        cell_count,
-    )
+    divide_with(limits, ring, chain, size, nodes, node_count, cells, room)
 }
 
 // The same for other languages. A slice arrives as its address and its length.
@@ -296,7 +240,7 @@ pub extern "C" fn ring_divide(
     cells: &mut [u16],
     cell_count: usize,
 ) -> Values
-    ensures { λ v. ⌜ Promise (record { ring = now (ring .entry); chain = now (chain .entry); size = size; nodes = now (nodes .entry); nodeCount = «node_count»; cells = now (cells .entry); cellCount = «cell_count» })
+    ensures { λ v. ⌜ Promise delivered (record { ring = now (ring .entry); chain = now (chain .entry); size = size; nodes = now (nodes .entry); nodeCount = «node_count»; cells = now (cells .entry); cellCount = «cell_count» })
         v (now (nodes .exit)) (now (cells .exit)) ⌝ }
 {
     let a = divide(ring, chain, size, nodes, node_count, cells, cell_count);

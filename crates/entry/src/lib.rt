@@ -5,12 +5,15 @@
 // turn, and so are the nodes; a cell is four numbers. Nothing is asked of them: every count and every number is tested.
 
 ghost use mathlib.Core.Path.{_≡_};
-ghost use mathlib.Core.Bool.{_&&_};
-ghost use mathlib.Core.List.{List};
-ghost use Prim.Native.Nat.{ℕ, _*_, _/_, _≤_};
-ghost use lib.ListN.{length, take};
+ghost use mathlib.Core.Bool.{_&&_, _||_, not};
+ghost use mathlib.Core.List.{List, _++_};
+ghost use Prim.Native.Nat.{_-_, _*_, _/_, _%_, _≤_};
+ghost use lib.Dec.{eqb, ltb};
+ghost use lib.ListN.{length, replicate};
+ghost use Rattle.vector.specs.Grid.{origin};
 ghost use Rattle.vector.specs.Size.{AllOnSheet};
 ghost use Rattle.nodes.specs.Flat.{nodesIn};
+ghost use Rattle.cells.specs.declared.Cell.{Cell};
 ghost use Rattle.demand.specs.Call as Call;
 ghost use Rattle.demand.specs.Lent.{pointsIn};
 ghost use Rattle.entry.specs.Refusal as Refusal;
@@ -19,7 +22,7 @@ use vector::GridPoint;
 
 // 1: a count that is odd, or out of limits. Of the ring's numbers and the chain's, two a point.
 fn counts_out(ring: usize, chain: usize) -> bool
-    ensures { λ r. ⌜ r ≡ Refusal.countsOut ring chain ⌝ }
+    ensures { λ r. ⌜ r ≡ (not (eqb (ring % 2) 0) || not (eqb (chain % 2) 0) || Call.countsOut (ring / 2) (chain / 2)) ⌝ }
 {
     if ring % 2 != 0 {
         return true;
@@ -72,7 +75,7 @@ fn any_outside(l: &[i32]) -> bool
 
 // 2: a coordinate or the sheet size.
 fn units_out(ring: &[i32], chain: &[i32], size: u32) -> bool
-    ensures { λ r. ⌜ r ≡ Refusal.unitsOut (pointsIn (now (ring .entry)) (length (now (ring .entry)) / 2)) (pointsIn (now (chain .entry)) (length (now (chain .entry)) / 2)) size ⌝ }
+    ensures { λ r. ⌜ r ≡ Call.unitsOut (pointsIn (now (ring .entry)) (length (now (ring .entry)) / 2)) (pointsIn (now (chain .entry)) (length (now (chain .entry)) / 2)) size ⌝ }
 {
     if any_outside(ring) {
         return true;
@@ -119,7 +122,7 @@ fn usable(nodes: &[f64], used: usize) -> bool
 
 // 3: a used count, the number of places, or a used node. The nodes are looked at last, when all of them are there.
 fn lists_out(nodes: &[f64], node_count: usize, cell_places: usize, cell_count: usize) -> bool
-    ensures { λ r. ⌜ r ≡ Refusal.listsOut (length (now (nodes .entry)) / 2) «node_count» «cell_places» «cell_count» (take «node_count» (nodesIn (now (nodes .entry)) (length (now (nodes .entry)) / 2))) ⌝ }
+    ensures { λ r. ⌜ ((cells : List Cell) → length cells ≡ «cell_places» → r ≡ Call.listsOut (record { nodes = nodesIn (now (nodes .entry)) (length (now (nodes .entry)) / 2); nodeCount = «node_count»; cells = cells; cellCount = «cell_count» })) ⌝ }
 {
     let places = nodes.len() / 2;
     if places < node_count {
@@ -163,7 +166,7 @@ pub fn cell_reserve(limits: Limits, r: usize) -> usize
 // 4: too few free places.
 fn room_out(limits: Limits, r: usize, nodes: usize, cells: usize) -> bool
     requires { ⌜ (3 ≤ r) × (r ≤ 60) ⌝ }
-    ensures { λ b. ⌜ b ≡ Refusal.roomOut limits r nodes cells ⌝ }
+    ensures { λ b. ⌜ b ≡ Call.roomOut limits r nodes cells ⌝ }
 {
     if nodes < node_reserve(limits, r) {
         return true;
@@ -182,7 +185,7 @@ pub fn refusal(
     cell_places: usize,
     cell_count: usize,
 ) -> u32
-    ensures { λ r. ⌜ ((cells : List ℕ) → length cells / 4 ≡ «cell_places» → r ≡ Refusal.refusal limits (record { ring = now (ring .entry); chain = now (chain .entry); size = size; nodes = now (nodes .entry); nodeCount = «node_count»; cells = cells; cellCount = «cell_count» })) ⌝ }
+    ensures { λ r. ⌜ ((cells : List Cell) → length cells ≡ «cell_places» → r ≡ Refusal.refusal limits (record { ring = now (ring .entry); chain = now (chain .entry); size = size; nodes = now (nodes .entry); nodeCount = «node_count»; cells = cells; cellCount = «cell_count» })) ⌝ }
 {
     if counts_out(ring.len(), chain.len()) {
         return 1;
@@ -204,10 +207,10 @@ pub fn refusal(
     0
 }
 
-// The first n points of a ring or a chain, in the first places; the rest are zero.
+// The first n points of a ring or a chain, in the first places; the rest are the origin.
 pub fn points(l: &[i32], n: usize) -> [GridPoint; 60]
     requires { ⌜ (n ≤ 60) × (n * 2 ≤ length (now l)) × AllOnSheet (pointsIn (now l) n) ⌝ }
-    ensures { λ r. ⌜ (take n r ≡ pointsIn (now (l .entry)) n) × AllOnSheet r ⌝ }
+    ensures { λ r. ⌜ (r ≡ pointsIn (now (l .entry)) n ++ replicate (60 - n) origin) × AllOnSheet r ⌝ }
 {
     let mut out = [GridPoint::ORIGIN; 60];
     for i in 0..n {

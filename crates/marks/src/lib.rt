@@ -30,6 +30,13 @@ pub struct Edge {
     pub mark: EdgeMark,
 }
 
+// A ring with the marks of its edges, in the first count places: what is split and laid out, wherever the marks came from.
+pub struct MarkedRing {
+    pub points: [GridPoint; 60],
+    pub edges: [Edge; 60],
+    pub count: usize,
+}
+
 // The stretch from p to q runs from a to b.
 fn runs(p: GridPoint, q: GridPoint, a: GridPoint, b: GridPoint) -> bool
     ensures { λ r. ⌜ r ≡ (same p a && same q b) ⌝ }

@@ -130,6 +130,16 @@ module _ (l : List Float) (w : Window) (n count : ℕ) (numbers : List ℕ) (xs 
   pub lists : Lists l n numbers xs count
   lists = record { places = c .places; places-x = c .places-x; few = c .few; low = listed-low; same = listed-x }
 
+-- what is tested of the j-th of them
+pub listed-is : (l : List Float) (n count : ℕ) (numbers : List ℕ) (xs : List Float) (kx ky : ℤ) (j : ℕ) → Lists l n numbers xs count → j < count
+    → hasListed l numbers kx ky j ≡ (eqZ kx (key (getD xs j nan)) && eqZ ky (key (getD l (getD numbers j 0 * 2 + 1) nan)))
+listed-is l n count numbers xs kx ky j c h =
+    let k = getD numbers j 0 in
+    has-is l kx ky k ∙ ap (λ (x : Float). eqZ kx (key x) && eqZ ky (key (getD l (k * 2 + 1) nan))) (sym (c .same j h))
+
+pub not-close : (l : List Float) (n count : ℕ) (numbers : List ℕ) (xs : List Float) (kx : SoughtKey) (ky : ℤ) (j : ℕ) → Lists l n numbers xs count → Sought kx → Usable l n → j < count → near (kx .value) (getD xs j nan) ≡ false → hasListed l numbers (kx .key) ky j ≡ false
+not-close l n count numbers xs kx ky j c so u h e = not-near l kx ky (getD numbers j 0) so (u .ranged (getD numbers j 0) (c .low j h) .0) (ap (near (kx .value)) (sym (c .same j h)) ∙ e)
+
 -- fewer of them
 pub lists-fewer : (l : List Float) (n count m : ℕ) (numbers : List ℕ) (xs : List Float) → m ≤ count → Lists l n numbers xs count → Lists l n numbers xs m
 lists-fewer l n count m numbers xs h c =
@@ -144,8 +154,7 @@ none-close l n count numbers xs kx ky i d m c so u g h e = first-none (hasListed
     clear k x y =
         let f : i + (k - i) ≡ k = omega arith in
         let v = any-none (λ j. near (kx .value) (getD xs (i + j) nan)) m (subst (λ (b : Bool). T (not b)) (sym e) tt) (k - i) (omega arith) in
-        not-near l kx ky (getD numbers k 0) so (u .ranged (getD numbers k 0) (c .low k (omega arith)) .0)
-        (ap (near (kx .value)) (sym (c .same k (omega arith))) ∙ is-false _ (subst (λ (m : ℕ). T (not (near (kx .value) (getD xs m nan)))) f v))
+        not-close l n count numbers xs kx ky k c so u (omega arith) (is-false _ (subst (λ (m : ℕ). T (not (near (kx .value) (getD xs m nan)))) f v))
 
 -- ---- what it decides
 -- a node with keys strictly inside is in the window

@@ -41,8 +41,11 @@ fn find_in(nodes: &[f64], from: usize, to: usize, kx: SoughtKey, ky: SoughtKey) 
     ensures { λ r. ⌜ r ≡ first (hasAt (now (nodes .entry)) (kx .key) (ky .key)) (to - from) from ⌝ }
 {
     for i in from..to {
-        if keys::has_key(kx, ky, nodes[i * 2], nodes[i * 2 + 1]) {
-            return i;
+        let x = nodes[i * 2];
+        if kx.is_near(x) {
+            if keys::has_key(kx, ky, x, nodes[i * 2 + 1]) {
+                return i;
+            }
         }
     }
     to
@@ -71,8 +74,22 @@ fn find_block(nodes: &[f64], i: usize, kx: SoughtKey, ky: SoughtKey) -> usize
     i + 16
 }
 
-// The first place with the two keys among those from `from` on, or `used`. What is left after the last 16 is looked at one
-// by one.
+// The same of what is left, at most 16 places. The 16 before `to` are judged: one that stands before `from` may be near and
+// does no harm.
+fn find_last(nodes: &[f64], from: usize, to: usize, kx: SoughtKey, ky: SoughtKey) -> usize
+    requires { ⌜ Usable (now nodes) to × (from ≤ to) × (to ≤ from + 16) × Sought kx × Sought ky ⌝ }
+    ensures { λ r. ⌜ r ≡ first (hasAt (now (nodes .entry)) (kx .key) (ky .key)) (to - from) from ⌝ }
+{
+    if to < 16 {
+        return find_in(nodes, from, to, kx, ky);
+    }
+    if any_near(nodes, to - 16, kx) {
+        return find_in(nodes, from, to, kx, ky);
+    }
+    to
+}
+
+// The first place with the two keys among those from `from` on, or `used`.
 fn find_from(nodes: &[f64], from: usize, used: usize, kx: SoughtKey, ky: SoughtKey) -> usize
     requires { ⌜ Usable (now nodes) used × (from ≤ used) × Sought kx × Sought ky ⌝ }
     ensures { λ r. ⌜ r ≡ first (hasAt (now (nodes .entry)) (kx .key) (ky .key)) (used - from) from ⌝ }
@@ -85,7 +102,7 @@ fn find_from(nodes: &[f64], from: usize, used: usize, kx: SoughtKey, ky: SoughtK
         }
         i += 16;
     }
-    find_in(nodes, i, used, kx, ky)
+    find_last(nodes, i, used, kx, ky)
 }
 
 // The first used place with p's key, or `used`. Where the collected nodes decide, only these and the nodes after the first

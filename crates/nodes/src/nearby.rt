@@ -245,9 +245,12 @@ fn find_listed_in(
     ensures { λ r. ⌜ r ≡ first (hasListed (now (nodes .entry)) (now (numbers .entry)) (kx .key) (ky .key)) (to - from) from ⌝ }
 {
     for j in from..to {
-        let k = numbers[j] as usize;
-        if keys::has_key(kx, ky, nodes[k * 2], nodes[k * 2 + 1]) {
-            return j;
+        let x = xs[j];
+        if kx.is_near(x) {
+            let k = numbers[j] as usize;
+            if keys::has_key(kx, ky, x, nodes[k * 2 + 1]) {
+                return j;
+            }
         }
     }
     to

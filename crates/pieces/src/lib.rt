@@ -74,7 +74,16 @@ pub fn subdivide_all(
         let es = split::piece_marks(marks, pieces, i);
         let start = at * 4;
         let t = cells::subdivide(
-            nodes, u, &mut cells[start..], ps, es, n, share, near, &numbers, &xs,
+            nodes,
+            u,
+            &mut cells[start..],
+            ps,
+            es,
+            n,
+            share,
+            near,
+            &numbers,
+            &xs,
         );
         if t.fails != n {
             let window = first * 4;

@@ -1,38 +1,39 @@
--- Cells written one after the other are cells put over the list (`written-is`); and the promise of a call from the numbers of its cells.
+-- Cells written one after the other are cells put over the list (`written-is`); and the promise of a call from the numbers of its cells. As a call of a list of calls it
+-- leaves what demand's specs/LentCalls says (`as-called`).
 use Prim.Native.Nat.{ℕ, zero, suc, _+_, _*_, _≤_, _<_}
 use native.Mathlib.Nat.{add-zero, not-suc-le-zero}
 use native.Mathlib.Omega.{arith}
 use mathlib.Core.Path.{_≡_, refl, sym, ap, _∙_}
-use mathlib.Core.Bool.{Bool, true, false, _||_, cond}
 use mathlib.Core.List.{List, [], _∷_, _++_, append-assoc, append-nil}
 use lib.ListN.{length, getD, set, take, drop, length-append, take-append-drop}
 use lib.Seq.{length-take-le, drop-cons, set-at}
 use lib.Ieee.{Float}
 use Rattle.laws.specs.Table.{tab}
 use Rattle.laws.proofs.Table.{length-tab, is-tab}
-use Rattle.corner.specs.Limits.{delivered}
+use Rattle.corner.specs.declared.Limits.{Limits}
 use Rattle.cells.specs.declared.Cell.{Cell}
 use Rattle.cells.specs.Cells.{noCell}
 use Rattle.cells.specs.Flat.{flatCells, overCells}
-use Rattle.demand.specs.Divide.{put, refused, divide}
-use Rattle.demand.specs.Demand.{Demand3}
-use Rattle.demand.specs.Lent.{cellIn, cellsIn, odd}
-use Rattle.demand.proofs.Demand.{demand3}
-use Rattle.divider.specs.declared.Values.{Values}
+use Rattle.table.specs.declared.Values.{Values}
+use Rattle.demand.specs.Divide.{put}
+use Rattle.demand.specs.Lent.{cellIn, cellsIn, LentRecords}
+use Rattle.demand.specs.LentCalls.{Given, records, Pool, lend, answerOf, leaves}
+use Rattle.demand.proofs.Demand.{demand3-records}
 use Rattle.records.specs.declared.Laid.{Laid}
-use Rattle.records.specs.Records.{Lent, callOf, divideRecords, Promise, written, Numbers}
+use Rattle.records.specs.Records.{Promise, written, Numbers}
 
-pub written-is : (l : List Cell) (i : ℕ) (x : List ℕ) (k : ℕ) → i + k ≤ length l → written l i x k ≡ put l i (cellsIn x k)
+pub written-is : (l : List Cell) (i : ℕ) (x : List ℕ) (k : ℕ) → (0 < k → i + k ≤ length l) → written l i x k ≡ put l i (cellsIn x k)
 unfolding tab
 written-is l i x zero h = sym ((λ j. append-nil (take i l) j ++ drop (add-zero i j) l) ∙ take-append-drop i l)
-written-is l i x (suc k) h =
+written-is l i x (suc k) f =
+    let h : i + suc k ≤ length l = f (omega arith) in
     let cs = cellsIn x k in
     let c = cellIn x k in
     let n : length cs ≡ k = length-tab (cellIn x) k in
     let a : length (take i l ++ cs) ≡ i + k = length-append (take i l) cs ∙ omega (arith, length-take-le i l (omega arith), n) in
     let d = drop-cons l (i + length cs) noCell (omega (arith, h, n)) in
     let e : suc (i + length cs) ≡ i + length (cs ++ (c ∷ [])) = omega (arith, length-append cs (c ∷ [])) in
-    ap (λ (z : List Cell). set z (i + k) c) (written-is l i x k (omega arith))
+    ap (λ (z : List Cell). set z (i + k) c) (written-is l i x k (λ u. omega arith))
     ∙ ap (λ (z : List Cell). set ((take i l ++ cs) ++ z) (i + k) c) d
     ∙ set-at (take i l ++ cs) (getD l (i + length cs) noCell) (drop (suc (i + length cs)) l) c (i + k) a
     ∙ ap (λ (m : ℕ). (take i l ++ cs) ++ (c ∷ drop m l)) e
@@ -55,19 +56,16 @@ unfolding overCells
 cells-read q cs = sym (is-tab cs (cellIn (flatCells cs ++ drop (length cs * 4) q)) (length cs) noCell refl (λ i h. sym (cell-at cs (drop (length cs * 4) q) i h)))
 
 -- ---- the promise
-demand3-records : (l : Lent) → divideRecords delivered l .code ≡ 0 → Demand3 delivered (callOf l) (divideRecords delivered l)
-unfolding divideRecords refused
-demand3-records l z = go (odd (l .ring) || odd (l .chain)) z
-  where
-    go : (o : Bool) → cond o (refused (callOf l) 1) (divide delivered (callOf l)) .code ≡ 0 → Demand3 delivered (callOf l) (cond o (refused (callOf l) 1) (divide delivered (callOf l)))
-    go true z = absurd (omega arith)
-    go false z = demand3 delivered (callOf l) z
-
-pub promised : (l : Lent) (r : Laid) (us : List Cell) (zs : List Float) → Numbers l r zs → r .at + r .count ≤ length (l .cells) → us ≡ written (l .cells) (r .at) (r .numbers) (r .count) → Promise l (r .values) zs us
-promised l r us zs n h e =
+pub promised : (L : Limits) (l : LentRecords) (r : Laid) (us : List Cell) (zs : List Float) → Numbers L l r zs → (0 < r .count → r .at + r .count ≤ length (l .cells)) → us ≡ written (l .cells) (r .at) (r .numbers) (r .count)
+    → Promise L l (r .values) zs us
+promised L l r us zs n h e =
     record {
       values = n .values;
       nodes = n .nodes;
       cells = e ∙ written-is (l .cells) (r .at) (r .numbers) (r .count) h ∙ n .cells;
-      accepted = λ z. demand3-records l (sym (ap (λ (v : Values). v .code) (n .values)) ∙ z);
+      accepted = λ z. demand3-records L l (sym (ap (λ (v : Values). v .code) (n .values)) ∙ z);
     }
+
+-- the node list that it leaves is that of a list of calls
+pub as-called : (s : Pool) (g : Given Cell) (v : Values) (m : List Float) (p : List Cell) → Promise (g .limits) (lend s g) v m p → _≡_ {A = Pool} (record { doubles = m; count = v .nodes }) (leaves s (answerOf s (records g)))
+as-called s g v m p h = λ j. record { doubles = h .nodes j; count = h .values j .nodes }

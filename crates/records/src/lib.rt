@@ -7,14 +7,17 @@ ghost use mathlib.Core.Path.{_≡_};
 ghost use mathlib.Core.List.{List};
 ghost use Prim.Native.Nat.{_+_, _^_, _≤_, _<_};
 ghost use lib.ListN.{length};
+ghost use Rattle.corner.specs.Limits.{delivered};
 ghost use Rattle.cells.specs.declared.Cell.{Cell};
+ghost use Rattle.table.specs.Answers as Answers;
+ghost use Rattle.demand.specs.Call.{cellReserve};
 ghost use Rattle.demand.specs.Lent.{cellIn};
-ghost use Rattle.divider.specs.Answers as Answers;
-ghost use Rattle.records.specs.Records.{Numbers, Promise, written, laidOf, laidNowhere};
+ghost use Rattle.records.specs.Records.{Numbers, Promise, written, laidOf};
 use cells::Cell;
 use corner::Limits;
-use divider::Answer;
-use divider::Values;
+use divider::CellRoom;
+use table::Answer;
+use table::Values;
 
 // What a call comes to before its cells are in the list: their numbers, four a cell, the place that the first goes to,
 // how many there are, and the row of the table.
@@ -40,7 +43,7 @@ fn cell_at(laid: Laid, k: usize) -> Cell
 
 // The first n cells of the numbers go into the list, from place `at` on.
 fn write(cells: &mut [Cell], at: usize, laid: Laid, n: usize)
-    requires { ⌜ (n ≤ 124) × (at + n ≤ length (now cells)) ⌝ }
+    requires { ⌜ (n ≤ 124) × (0 < n → at + n ≤ length (now cells)) ⌝ }
     ensures { λ _. ⌜ now (cells .exit) ≡ written (now (cells .entry)) at (laid .numbers) n ⌝ }
 {
     let mut k: usize = 0;
@@ -51,16 +54,16 @@ fn write(cells: &mut [Cell], at: usize, laid: Laid, n: usize)
     }
 }
 
-// An answer over numbers that hold its cells from their first place on, for a list in which they go to place `at`. After a
-// failure the places of the reserve are written too, with zeros.
-fn placed(a: Answer, numbers: [u16; 496], at: usize, reserve: usize) -> Laid
-    requires { ⌜ at + Answers.values a .cells < 2 ^ 64 ⌝ }
-    ensures { λ r. ⌜ r ≡ laidOf (Answers.values a) numbers at reserve ⌝ }
+// The answer for a ring of `own` points, over numbers that hold its cells from their first place on, for a list in which
+// they go to place `at`. After a failure the places of the reserve are written too, with zeros.
+fn placed(limits: Limits, own: usize, a: Answer, numbers: [u16; 496], at: usize) -> Laid
+    requires { ⌜ (at + Answers.values a .cells < 2 ^ 64) × (Answers.values a .code ≡ 8 → (3 ≤ own) × (own ≤ 60)) ⌝ }
+    ensures { λ r. ⌜ r ≡ laidOf (Answers.values a) numbers at (cellReserve limits own) ⌝ }
 {
     let mut v = Values::new(a);
     let mut count = v.cells as usize;
     if v.code == 8 {
-        count = reserve;
+        count = entry::cell_reserve(limits, own);
     }
     v.cells = at as u64 + v.cells;
     Laid {
@@ -68,23 +71,6 @@ fn placed(a: Answer, numbers: [u16; 496], at: usize, reserve: usize) -> Laid
         at: at,
         count: count,
         values: v,
-    }
-}
-
-// A ring that is refused at the entry has no cells.
-fn refused(code: u32, nodes: usize, cells: usize) -> Laid
-    ensures { λ r. ⌜ r ≡ laidNowhere (Answers.values (Answer.Refused code nodes cells)) ⌝ }
-{
-    let numbers = [0; 496];
-    Laid {
-        numbers: numbers,
-        at: 0,
-        count: 0,
-        values: Values::new(Answer::Refused {
-            code: code,
-            nodes: nodes,
-            cells: cells,
-        }),
     }
 }
 
@@ -99,42 +85,27 @@ fn flat_divide(
     cell_count: usize,
 ) -> Laid
     ensures { λ r. ⌜ ((cells : List Cell) → length cells ≡ «cell_places»
-        → Numbers (record { ring = now (ring .entry); chain = now (chain .entry); size = size; nodes = now (nodes .entry); nodeCount = «node_count»; cells = cells; cellCount = «cell_count» }) r (now (nodes .exit)))
-        × (r .count ≤ 124) × (r .at + r .count ≤ «cell_places») ⌝ }
+        → Numbers delivered (record { ring = now (ring .entry); chain = now (chain .entry); size = size; nodes = now (nodes .entry); nodeCount = «node_count»; cells = cells; cellCount = «cell_count» }) r (now (nodes .exit)))
+        × (r .count ≤ 124) × (0 < r .count → r .at + r .count ≤ «cell_places») ⌝ }
 {
     let limits = Limits::new();
     let mut numbers = [0; 496];
-    let code = entry::refusal(
+    let room = CellRoom {
+        places: cell_places,
+        used: cell_count,
+        at: 0,
+    };
+    let a = divider::divide_with(
         limits,
         ring,
         chain,
         size,
         nodes,
         node_count,
-        cell_places,
-        cell_count,
-    );
-    if code != 0 {
-        return refused(code, node_count, cell_count);
-    }
-    let r = ring.len() / 2;
-    let m = chain.len() / 2;
-    let points = entry::points(ring, r);
-    let run = entry::points(chain, m);
-    let reserve = entry::cell_reserve(limits, r);
-    let a = divider::cleaned(
-        limits,
-        points,
-        r,
-        run,
-        m,
-        size,
-        nodes,
-        node_count,
         &mut numbers,
-        0,
+        room,
     );
-    placed(a, numbers, cell_count, reserve)
+    placed(limits, ring.len() / 2, a, numbers, cell_count)
 }
 
 // The divider call over a list of cell records.
@@ -147,7 +118,7 @@ pub fn divide_cells<'a, 'b, 'c, 'd>(
     cells: &'d mut [Cell],
     cell_count: usize,
 ) -> Values
-    ensures { λ v. ⌜ Promise (record { ring = now (ring .entry); chain = now (chain .entry); size = size; nodes = now (nodes .entry); nodeCount = «node_count»; cells = now (cells .entry); cellCount = «cell_count» })
+    ensures { λ v. ⌜ Promise delivered (record { ring = now (ring .entry); chain = now (chain .entry); size = size; nodes = now (nodes .entry); nodeCount = «node_count»; cells = now (cells .entry); cellCount = «cell_count» })
         v (now (nodes .exit)) (now (cells .exit)) ⌝ }
 {
     let laid = flat_divide(

@@ -3,7 +3,7 @@
 use crate::words;
 use blocks::Block;
 use blocks::Reading;
-use divider::Values;
+use table::Values;
 
 pub fn same_row(fd: i32, v: Values) -> bool {
     let mut same = v.code == words::word(fd) as u64;

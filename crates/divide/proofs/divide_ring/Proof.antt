@@ -3,7 +3,7 @@ use mathlib.Core.Path.{sym, subst}
 use native.Mathlib.Omega.{arith}
 use borrow.Author.Needs.{needs}
 use Rattle.divide.specs.Row.{Shown}
-use Rattle.divider.specs.declared.Values.{Values}
+use Rattle.table.specs.declared.Values.{Values}
 use Rattle.divide.proofs.Rows.{part-length, shown}
 use Rattle.divide.proofs.divide_ring.Statement.{statement}
 use Rattle.divide.proofs.divide_ring.Tie as tie

@@ -9,28 +9,23 @@ use borrow.Author.Needs.{needs}
 use Rattle.divider.proofs.ring_refusal.Statement.{statement}
 use Rattle.divider.proofs.ring_refusal.Tie as tie
 
--- src/lib.rt:61:9
 returns : tie.Need-returns
 returns c =
     let s = c .before in
     let a = s .args in
     under-three (take (a .n) (a .points)) (rw (length-take-le (a .n) (a .points) (search needs)) (c .if1 .taken))
 
--- src/lib.rt:63:9
 polygon-simple-requires : tie.Need-polygon-simple-requires
 polygon-simple-requires c κs = search needs
 
--- src/lib.rt:64:9
 returns-2 : tie.Need-returns-2
 returns-2 c =
     let a = c .before .before .before .args in
     not-simple (take (a .n) (a .points)) (rw (length-take-le (a .n) (a .points) (search needs)) (c .before .before .if1 .left)) (sym (c .before .polygon-simple .ensures) ∙ no (c .before .polygon-simple .result) (c .if2 .taken))
 
--- src/lib.rt:66:12
 polygon-area-requires : tie.Need-polygon-area-requires
 polygon-area-requires c κs = search needs
 
--- src/lib.rt:67:9
 returns-3 : tie.Need-returns-3
 returns-3 c =
     let a = c .before .before .before .before .before .args in
@@ -38,7 +33,6 @@ returns-3 c =
     (sym (c .before .before .before .polygon-simple .ensures) ∙ is-true (c .before .before .before .polygon-simple .result) (c .before .before .if2 .left))
     true (area-read (c .before .polygon-area .result) _ true (c .before .polygon-area .ensures .0) (c .before .polygon-area .ensures .1) (c .if3 .taken))
 
--- src/lib.rt:56:1
 returns-4 : tie.Need-returns-4
 returns-4 c =
     let a = c .before .before .before .before .before .args in

@@ -40,10 +40,12 @@ use denote.Exit.{yes}
 use denote.Signature.{plain, shrSliceOf}
 use Rattle.cells.specs.declared.Cell.{Cell}
 use Rattle.cells.proofs.Cell as T
-use Rattle.divider.proofs.Values as R
-use Rattle.divider.proofs.Values.Laws as R′
+use Rattle.table.proofs.Values as R
+use Rattle.table.proofs.Values.Laws as R′
 use Rattle.records.specs.declared.Laid.{Laid}
-use Rattle.records.specs.Records.{Lent, Numbers, written}
+use Rattle.corner.specs.Limits.{delivered}
+use Rattle.demand.specs.Lent.{LentRecords}
+use Rattle.records.specs.Records.{Numbers, written}
 use Rattle.records.proofs.Recorded.{promised}
 use Rattle.records.proofs.Laid as K
 use Rattle.records.proofs.Laid.Laws as K′
@@ -105,7 +107,7 @@ module _ {M : Type 1} (𝓤 : URA M) (H : Heap 𝓤) (A : Atoms 𝓤) (W : Given
   abbrev p : ℕ
   p = length (cells .now)
 
-  abbrev lent : List Cell → Lent
+  abbrev lent : List Cell → LentRecords
   lent cs = record { ring = ring .now; chain = chain .now; size = size; nodes = nodes .now; nodeCount = u; cells = cs; cellCount = k }
 
   abbrev a : Arg
@@ -126,7 +128,7 @@ module _ {M : Type 1} (𝓤 : URA M) (H : Heap 𝓤) (A : Atoms 𝓤) (W : Given
 
   -- what the core ensures of its answer r and of the last nodes zs
   abbrev Told : Laid → List Float → Type 0
-  Told r zs = ((cs : List Cell) → length cs ≡ p → Numbers (lent cs) r zs) × (r .count ≤ 124) × (r .at + r .count ≤ p)
+  Told r zs = ((cs : List Cell) → length cs ≡ p → Numbers delivered (lent cs) r zs) × (r .count ≤ 124) × (0 < r .count → r .at + r .count ≤ p)
 
   abbrev wr : Laid → Val
   wr r = only (LL.vals K.the-type K′.the-laws r)
@@ -139,7 +141,7 @@ module _ {M : Type 1} (𝓤 : URA M) (H : Heap 𝓤) (A : Atoms 𝓤) (W : Given
   exits r us zs e t l l′ is =
       qed W ((‵ (flft κ₃ q₃) ⊛ ‵ ftrue) ∷ Three ∷ ‵ (finally T.the-row (cells .name) us) ∷ ‵ (finally f64 (nodes .name) zs) ∷ []) ∵
       suffices ! _ (ends-at 𝓤 H A f.ended stayed (f.clauses 𝓤 H A mem run) W (((κ₀, (κ₁, (κ₂, (κ₃, tt)))), (q₀, (q₁, (q₂, (q₃, tt)))), tt, a, vals), tt) (wv r) (r .values) (tt, (tt, (tt, (zs, (tt, (us, (tt, tt))))))) (tt, (tt, (tt, (l′, (tt, (l, (tt, tt)))))))) $
-      says ! (promised (lent (cells .now)) r us zs (t .0 (cells .now) refl) (t .2) e) $
+      says ! (promised delivered (lent (cells .now)) r us zs (t .0 (cells .now) refl) (t .2) e) $
       move ! (1 ∷ []) $ split ! $ move ! (1 ∷ []) $ split ! $ move ! (1 ∷ []) $ split ! $ move ! (1 ∷ []) $ drop ! $
       move ! (0 ∷ 3 ∷ []) $ join ! $ move ! (1 ∷ 0 ∷ []) $ join ! $ move ! (1 ∷ 0 ∷ []) $ join ! $ frame ! $
       nothing ! $ owned ! usize (Is usize) (uint-makes 𝓤 H A W w64) k _ (refl, k-fits) $ fjoin ! $ move ! (1 ∷ 0 ∷ []) $ fjoin ! $
@@ -180,7 +182,7 @@ module _ {M : Type 1} (𝓤 : URA M) (H : Heap 𝓤) (A : Atoms 𝓤) (W : Given
   abbrev to-write : Laid → Write 𝓤 H A mem run .Ghost
   to-write r = (((κ₃, tt), (q₃, tt), tt, write-args r, (s ∷ [], (vint w64 (r .at) ∷ [], (wr r ∷ [], (vint w64 (r .count) ∷ [], tt))))), tt)
 
-  goes-write : (r : Laid) → (r .count ≤ 124) × (r .at + r .count ≤ p) → Is K.the-row r (wr r ∷ []) → ent 𝓤 (sep 𝓤 (A .lft κ₃ q₃) (sem 𝓤 H A (MutSlice (named 3) κ₃ T.the-row .own cells (s ∷ [])))) (Write 𝓤 H A mem run .pre (to-write r))
+  goes-write : (r : Laid) → (r .count ≤ 124) × (0 < r .count → r .at + r .count ≤ p) → Is K.the-row r (wr r ∷ []) → ent 𝓤 (sep 𝓤 (A .lft κ₃ q₃) (sem 𝓤 H A (MutSlice (named 3) κ₃ T.the-row .own cells (s ∷ [])))) (Write 𝓤 H A mem run .pre (to-write r))
   goes-write r fit is =
       let fields = LL.owed K.the-type K′.the-laws r _ is in
       qed W (‵ (flft κ₃ q₃) ∷ ‵ (MutSlice (named 3) κ₃ T.the-row .own cells (s ∷ [])) ∷ []) ∵ says ! fit $

@@ -93,7 +93,7 @@ module _ {M : Type 1} (𝓤 : URA M) (H : Heap 𝓤) (A : Atoms 𝓤) (at-mem : 
   cell-of x k r = exE 𝓤 _ (λ ws. snd∗ 𝓤 (sem 𝓤 H A (lasts g.ended tt (x, (k, tt)) ws)) (fact 𝓤 (r ≡ cellIn (x .numbers) k)))
 
 module _ {M : Type 1} (𝓤 : URA M) (H : Heap 𝓤) (A : Atoms 𝓤) (W : Given 𝓤 H A) (at-mem : Memory → SProp 𝓤) (run : Routine → Fun 𝓤) (κ : Lft) (q : Share) (b o : ℕ) (γ : GName) (ys : List Cell) (i : ℕ) (x : Laid) (w : Val) (n : ℕ)
-    (is-x : Is F.the-row x (w ∷ [])) (room : Room T.the-row (length ys)) (i-fits : i < 2 ^ 64) (n-fits : n < 2 ^ 64) (n-le : n ≤ 124) (within : i + n ≤ length ys) where
+    (is-x : Is F.the-row x (w ∷ [])) (room : Room T.the-row (length ys)) (i-fits : i < 2 ^ 64) (n-fits : n < 2 ^ 64) (n-le : n ≤ 124) (within : 0 < n → i + n ≤ length ys) where
   abbrev zs : ℕ → List Cell
   zs k = written ys i (x .numbers) k
 
@@ -164,6 +164,7 @@ module _ {M : Type 1} (𝓤 : URA M) (H : Heap 𝓤) (A : Atoms 𝓤) (W : Given
     more : (k : ℕ) (X : SProp 𝓤) → k < n → ent 𝓤 (⋆ 𝓤 H A (At (suc k))) X → ent 𝓤 (⋆ 𝓤 H A (At k)) (Wp 𝓤 H C Λ En mirs.turn-1 (afterTurn 𝓤 H X Left))
     unfolding afterTurn
     more k X small next =
+        let inside : i + n ≤ length ys = within (omega arith) in
         let place-fits : i + k < 2 ^ 64 = omega (arith, room .0) in
         let lz : length (zs k) ≡ length ys = length-written ys i (x .numbers) k in
         let in-row : i + k < length (zs k) = omega arith in
@@ -259,7 +260,7 @@ module _ {M : Type 1} (𝓤 : URA M) (H : Heap 𝓤) (A : Atoms 𝓤) (W : Given
   write-walks : Walks 𝓤 H A f.ended stayed (WpFn 𝓤 H (𝓣 .C) (𝓣 .Λ) code.function) (f.clauses 𝓤 H A at-mem run)
   write-walks = walked 𝓤 H A f.ended stayed (f.clauses 𝓤 H A at-mem run) (WpFn 𝓤 H (𝓣 .C) (𝓣 .Λ) code.function)
       (λ κs. (slice-vals, (uint-vals w64, (LL.vals F.the-type F′.the-laws, (uint-vals w64, tt))))) (λ κs. (mut-slice-tells (named 0) (κs .0) T.the-row, (uint-tells w64, (LL.tells F.the-type F′.the-laws, (uint-tells w64, tt)))))
-      (λ κs qs bounds a g are. needs 𝓤 ((a .1 .1 .1 .0 ≤ 124) × (a .1 .0 + a .1 .1 .1 .0 ≤ length (a .0 .now))) _ (λ pre.
+      (λ κs qs bounds a g are. needs 𝓤 ((a .1 .1 .1 .0 ≤ 124) × (0 < a .1 .1 .1 .0 → a .1 .0 + a .1 .1 .1 .0 ≤ length (a .0 .now))) _ (λ pre.
       walk 𝓤 H A W at-mem run (κs .0) (qs .0) (a .0 .ptr .0) (a .0 .ptr .1) (a .0 .name) (a .0 .now) (a .1 .0) (a .1 .1 .0) (only (LL.vals F.the-type F′.the-laws (a .1 .1 .0))) (a .1 .1 .1 .0)
       (are .1 .1 .0) (are .0 .0 .1) (are .1 .0 .1) (are .1 .1 .1 .0 .1) (pre .0) (pre .1) 𝓣 (fmOf 𝓤 H (W .laws) 𝓣) known))
 

@@ -1,0 +1,2 @@
+-- The laws of a list of refusals.
+pub mod Refusals

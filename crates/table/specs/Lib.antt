@@ -1,0 +1,3 @@
+-- The row that a call returns, and how it comes to its number.
+pub mod Answers
+pub mod Refusals
