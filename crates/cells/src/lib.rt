@@ -24,6 +24,7 @@ use vector::GridPoint;
 use vector::Point;
 
 // Four node numbers.
+#[repr(C)]
 pub struct Cell {
     pub a: NodeNumber,
     pub b: NodeNumber,
@@ -261,12 +262,12 @@ fn put_cells(
 {
     let mut at = 0;
     for k in 0..n {
-        let j = vector::next(k, n);
+        let e = vector::next(k, n);
         let c = Cell {
             a: centre,
             b: ms[k],
-            c: vs[j],
-            d: ms[j],
+            c: vs[e],
+            d: ms[e],
         };
         put_cell(&mut cells[at..], c);
         at += 4;

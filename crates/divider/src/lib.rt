@@ -21,6 +21,7 @@ ghost use Rattle.divider.specs.Promise.{Leaves, Promise};
 ghost use Rattle.divider.specs.Steps.{OnPaper, Prepares, partIn, listsIn, failedAnswer, CanDivide, divideInto, HasRoom};
 use corner::Limits;
 use marks::MarkedRing;
+use nodes::NodeNumber;
 use pieces::Subdivision;
 use table::Answer;
 use table::Values;
@@ -69,7 +70,7 @@ fn laid_out(
     own: usize,
     nodes: &mut [f64],
     node_count: usize,
-    cells: &mut [u16],
+    cells: &mut [NodeNumber],
     cell_count: usize,
 ) -> Answer
     requires { ⌜ CanDivide limits own ring (now nodes) «node_count» (now cells) «cell_count» × Whole (partIn ring .points) ⌝ }
@@ -122,7 +123,7 @@ pub fn divide_core(
     own: usize,
     nodes: &mut [f64],
     node_count: usize,
-    cells: &mut [u16],
+    cells: &mut [NodeNumber],
     cell_count: usize,
 ) -> Answer
     requires { ⌜ CanDivide limits own ring (now nodes) «node_count» (now cells) «cell_count» ⌝ }
@@ -177,7 +178,7 @@ pub fn divide_with(
     size: u32,
     nodes: &mut [f64],
     node_count: usize,
-    cells: &mut [u16],
+    cells: &mut [NodeNumber],
     room: CellRoom,
 ) -> Answer
     requires { ⌜ HasRoom limits room (now cells) ⌝ }
@@ -214,7 +215,7 @@ pub fn divide(
     size: u32,
     nodes: &mut [f64],
     node_count: usize,
-    cells: &mut [u16],
+    cells: &mut [NodeNumber],
     cell_count: usize,
 ) -> Answer
     ensures { λ a. ⌜ Promise delivered (record { ring = now (ring .entry); chain = now (chain .entry); size = size; nodes = now (nodes .entry); nodeCount = «node_count»; cells = now (cells .entry); cellCount = «cell_count» })
@@ -237,7 +238,7 @@ pub extern "C" fn ring_divide(
     size: u32,
     nodes: &mut [f64],
     node_count: usize,
-    cells: &mut [u16],
+    cells: &mut [NodeNumber],
     cell_count: usize,
 ) -> Values
     ensures { λ v. ⌜ Promise delivered (record { ring = now (ring .entry); chain = now (chain .entry); size = size; nodes = now (nodes .entry); nodeCount = «node_count»; cells = now (cells .entry); cellCount = «cell_count» })

@@ -5,7 +5,7 @@
 // turn, and so are the nodes; a cell is four numbers. Nothing is asked of them: every count and every number is tested.
 
 ghost use mathlib.Core.Path.{_≡_};
-ghost use mathlib.Core.Bool.{_&&_, _||_, not};
+ghost use mathlib.Core.Bool.{_||_, not};
 ghost use mathlib.Core.List.{List, _++_};
 ghost use Prim.Native.Nat.{_-_, _*_, _/_, _%_, _≤_};
 ghost use lib.Dec.{eqb, ltb};
@@ -18,6 +18,7 @@ ghost use Rattle.demand.specs.Call as Call;
 ghost use Rattle.demand.specs.Lent.{pointsIn};
 ghost use Rattle.entry.specs.Refusal as Refusal;
 use corner::Limits;
+use nodes::MOST_PLACES;
 use vector::GridPoint;
 
 // 1: a count that is odd, or out of limits. Of the ring's numbers and the chain's, two a point.
@@ -89,35 +90,12 @@ fn units_out(ring: &[i32], chain: &[i32], size: u32) -> bool
     2048 < size
 }
 
-// A coordinate of a used node is finite and within 1,024 mm.
-fn held(x: f64) -> bool
-    ensures { λ r. ⌜ r ≡ Call.held x ⌝ }
-{
-    if -1024.0 <= x {
-        return x <= 1024.0;
-    }
-    false
-}
-
-fn both_held(x: f64, y: f64) -> bool
-    ensures { λ r. ⌜ r ≡ (Call.held x && Call.held y) ⌝ }
-{
-    if held(x) {
-        return held(y);
-    }
-    false
-}
-
+// Every used node is finite and within 1,024 mm.
 fn usable(nodes: &[f64], used: usize) -> bool
     requires { ⌜ used * 2 ≤ length (now nodes) ⌝ }
     ensures { λ r. ⌜ r ≡ Call.usable (nodesIn (now (nodes .entry)) used) ⌝ }
 {
-    for i in 0..used {
-        if !both_held(nodes[i * 2], nodes[i * 2 + 1]) {
-            return false;
-        }
-    }
-    true
+    nodes::all_held(nodes, used * 2)
 }
 
 // 3: a used count, the number of places, or a used node. The nodes are looked at last, when all of them are there.
@@ -131,7 +109,7 @@ fn lists_out(nodes: &[f64], node_count: usize, cell_places: usize, cell_count: u
     if cell_places < cell_count {
         return true;
     }
-    if 65535 < places {
+    if MOST_PLACES < places {
         return true;
     }
     !usable(nodes, node_count)

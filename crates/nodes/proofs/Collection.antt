@@ -1,13 +1,13 @@
--- The collected nodes: how a collection goes on, and that what it decides is what the whole scan finds.
+-- The collected nodes: they stay the same while the list grows, and what they decide is what the whole scan finds.
 use mathlib.Core.Path.{_≡_, refl, sym, ap, _∙_, subst}
-use mathlib.Core.List.{List}
-use Prim.Native.Nat.{ℕ, _+_, _-_, _*_, _≤_, _<_, zero-le}
-use native.Mathlib.Nat.{zero-add}
+use mathlib.Core.List.{List, [], _∷_, map}
+use Prim.Native.Nat.{ℕ, zero, suc, _+_, _-_, _*_, _≤_, _<_}
+use native.Mathlib.Nat.{zero-add, not-suc-le-zero, le-of-suc-le-suc}
 use native.Mathlib.Omega.{arith}
 use mathlib.Core.Bool.{Bool, true, false, not, _&&_}
 use lib.IntN.{ℤ}
 use lib.Dec.{T, leb, leb→le}
-use lib.ListN.{length, getD, set, length-set}
+use lib.ListN.{length, getD}
 use lib.Seq.{getD-take, length-take-le}
 use lib.Ieee.{Float, nan}
 use lib.Ieee.Fits.{and-i, and-l, and-r}
@@ -22,77 +22,42 @@ use Rattle.nodes.specs.Growth.{InRange, Grown}
 use Rattle.nodes.specs.declared.keys.SoughtKey.{SoughtKey}
 use Rattle.nodes.specs.Flat.{pointAt, nodesIn, over, Usable, soughtKey, Sought, near, hasAt}
 use Rattle.nodes.proofs.Flat.{length-in, node-in, at-over}
-use Rattle.nodes.specs.declared.nearby.Span.{Span}
 use Rattle.nodes.specs.declared.nearby.Window.{Window}
 use Rattle.nodes.specs.declared.nearby.Nearby.{Nearby}
-use Rattle.nodes.specs.Nearby.{mostNearby, Framed, chosen, insideAt, surrounds, Collected, Held, Lists, hasListed, strictly, inSpan}
+use Rattle.nodes.specs.Nearby.{mostNearby, Framed, insideAt, inside, xsOf, surrounds, Collected, Held, Lists, hasListed, strictly, inSpan}
 use Rattle.nodes.proofs.Scan.{has-is, not-near, fewer, found-is}
 use Rattle.nodes.proofs.Rounding.{wider}
 use Rattle.nodes.proofs.Monotone.{in-span}
-use Rattle.nodes.proofs.Chosen.{pass, hit, skip, none, chosen-ext, numbers-below, values-at, listed, unlisted}
+use Rattle.nodes.proofs.Chosen.{chosen-ext, below, listed, unlisted}
 
 T→true : (b : Bool) → T b → b ≡ true
 T→true b t = bool-ext b true (λ z. tt) (λ z. t)
 
-and-false : (b : Bool) → (b && false) ≡ false
-and-false true = refl
-and-false false = refl
+-- ---- what is read of each
+map-at : (f : ℕ → Float) (e : Float) (l : List ℕ) (j : ℕ) → j < length l → getD (map f l) j e ≡ f (getD l j 0)
+map-at f e [] j h = absurd (not-suc-le-zero h)
+map-at f e (x ∷ l) zero h = refl
+map-at f e (x ∷ l) (suc j) h = map-at f e l j (le-of-suc-le-suc h)
 
--- ---- how it goes on
-module _ (l : List Float) (w : Window) where
-  pub at-start : (numbers : List ℕ) (xs : List Float) → length numbers ≡ mostNearby → length xs ≡ mostNearby → Collected l w 0 numbers xs 0
-  at-start numbers xs a b =
-      record { places = a; places-x = b; few = zero-le; are = sym (none (λ i. i) (insideAt w l)); are-x = sym (none (λ i. pointAt l i .x) (insideAt w l)) }
-
-  pub past : (i n : ℕ) (numbers : List ℕ) (xs : List Float) → insideAt w l i ≡ false → Collected l w i numbers xs n → Collected l w (i + 1) numbers xs n
-  past i n numbers xs h c =
-      record { places = c .places; places-x = c .places-x; few = c .few; are = c .are ∙ sym (pass (λ i. i) (insideAt w l) i h); are-x = c .are-x ∙ sym (pass (λ i. pointAt l i .x) (insideAt w l) i h) }
-
-  pub put : (i n : ℕ) (numbers : List ℕ) (xs : List Float) → insideAt w l i ≡ true → n < mostNearby → Collected l w i numbers xs n → Collected l w (i + 1) (set numbers n i) (set xs n (pointAt l i .x)) (n + 1)
-  put i n numbers xs h k c =
-      record {
-        places = length-set numbers n i ∙ c .places;
-        places-x = length-set xs n (pointAt l i .x) ∙ c .places-x;
-        few = omega arith;
-        are = hit (λ i. i) (insideAt w l) numbers i n i (omega (arith, c .places)) (c .are) h refl;
-        are-x = hit (λ i. pointAt l i .x) (insideAt w l) xs i n (pointAt l i .x) (omega (arith, c .places-x)) (c .are-x) h refl;
-      }
-
-  pub carried : (i n n' : ℕ) (numbers numbers' : List ℕ) (xs xs' : List Float) → numbers' ≡ numbers → xs' ≡ xs → n' ≡ n → Collected l w i numbers xs n → Collected l w i numbers' xs' n'
-  carried i n n' numbers numbers' xs xs' a b d c =
-      subst (λ (z : List ℕ). Collected l w i z xs' n') (sym a) (subst (λ (z : List Float). Collected l w i numbers z n') (sym b) (subst (λ (z : ℕ). Collected l w i numbers xs z) (sym d) c))
-
-  -- d nodes of which none is in the window
-  pub past-block : (i d n : ℕ) (numbers : List ℕ) (xs : List Float) → ((j : ℕ) → j < d → insideAt w l (i + j) ≡ false) → Collected l w i numbers xs n → Collected l w (i + d) numbers xs n
-  past-block i d n numbers xs clear c =
-      record { places = c .places; places-x = c .places-x; few = c .few; are = c .are ∙ sym (skip (λ i. i) (insideAt w l) d i clear); are-x = c .are-x ∙ sym (skip (λ i. pointAt l i .x) (insideAt w l) d i clear) }
-
-  -- for none has its x there, or none its y
-  clear-of : (t : Span) (at d : ℕ) → any (λ j. inSpan t (getD l (at + j * 2) nan)) d ≡ false → (j k : ℕ) → j < d → at + j * 2 ≡ k → inSpan t (getD l k nan) ≡ false
-  clear-of t at d h j k b e = subst (λ (m : ℕ). inSpan t (getD l m nan) ≡ false) e (is-false _ (any-none (λ j. inSpan t (getD l (at + j * 2) nan)) d (subst (λ (b : Bool). T (not b)) (sym h) tt) j b))
-
-  pub none-across : (i d : ℕ) → any (λ j. inSpan (w .x) (getD l (i * 2 + j * 2) nan)) d ≡ false → (j : ℕ) → j < d → insideAt w l (i + j) ≡ false
-  unfolding insideAt
-  none-across i d h j k = ap (λ (b : Bool). b && inSpan (w .y) (pointAt l (i + j) .y)) (clear-of (w .x) (i * 2) d h j ((i + j) * 2) k (omega arith))
-
-  pub none-along : (i d : ℕ) → any (λ j. inSpan (w .y) (getD l (i * 2 + 1 + j * 2) nan)) d ≡ false → (j : ℕ) → j < d → insideAt w l (i + j) ≡ false
-  unfolding insideAt
-  none-along i d h j k = ap (λ (b : Bool). inSpan (w .x) (pointAt l (i + j) .x) && b) (clear-of (w .y) (i * 2 + 1) d h j ((i + j) * 2 + 1) k (omega arith)) ∙ and-false (inSpan (w .x) (pointAt l (i + j) .x))
+map-ext : (f g : ℕ → Float) (l : List ℕ) → ((j : ℕ) → j < length l → f (getD l j 0) ≡ g (getD l j 0)) → map f l ≡ map g l
+map-ext f g [] h = refl
+map-ext f g (x ∷ l) h = λ i. h 0 (omega arith) i ∷ map-ext f g l (λ j k. h (suc j) (omega arith)) i
 
 -- ---- it stays true while the first places keep their nodes
 same-inside : (l m : List Float) (w : Window) (i : ℕ) → pointAt l i ≡ pointAt m i → insideAt w l i ≡ insideAt w m i
 unfolding insideAt
 same-inside l m w i e = ap (λ (p : Point). inSpan (w .x) (p .x) && inSpan (w .y) (p .y)) e
 
-pub later : (l m : List Float) (w : Window) (n count : ℕ) (numbers : List ℕ) (xs : List Float) → ((i : ℕ) → i < n → pointAt m i ≡ pointAt l i) → Collected l w n numbers xs count → Collected m w n numbers xs count
+later : (l m : List Float) (w : Window) (n count : ℕ) (numbers : List ℕ) (xs : List Float) → ((i : ℕ) → i < n → pointAt m i ≡ pointAt l i) → Collected l w n numbers xs count → Collected m w n numbers xs count
 later l m w n count numbers xs h c =
-    let k : (i : ℕ) → i < 0 + n → pointAt l i ≡ pointAt m i = (λ i u. sym (h i (omega (arith, u)))) in
+    let k : (i : ℕ) → i < n → pointAt l i ≡ pointAt m i = (λ i u. sym (h i u)) in
+    let e : inside w l n ≡ inside w m n = chosen-ext (insideAt w l) (insideAt w m) n 0 (λ i u. same-inside l m w i (k i (omega (arith, u)))) in
     record {
       places = c .places;
       places-x = c .places-x;
       few = c .few;
-      are = c .are ∙ chosen-ext (λ i. i) (λ i. i) (insideAt w l) (insideAt w m) n 0 (λ i u. (refl, same-inside l m w i (k i u)));
-      are-x = c .are-x ∙ chosen-ext (λ i. pointAt l i .x) (λ i. pointAt m i .x) (insideAt w l) (insideAt w m) n 0 (λ i u. (ap (λ (p : Point). p .x) (k i u), same-inside l m w i (k i u)));
+      are = c .are ∙ e;
+      are-x = c .are-x ∙ map-ext (λ i. pointAt l i .x) (λ i. pointAt m i .x) (inside w l n) (λ j u. ap (λ (p : Point). p .x) (k (getD (inside w l n) j 0) (omega (arith, below (insideAt w l) n 0 j u)))) ∙ ap (xsOf m) e;
     }
 
 -- so while the list grows
@@ -112,19 +77,19 @@ held-over l m used v ns c numbers xs e f g k = subst (λ (z : ℕ). Held m z c n
 
 -- ---- what it holds
 module _ (l : List Float) (w : Window) (n count : ℕ) (numbers : List ℕ) (xs : List Float) (c : Collected l w n numbers xs count) where
-  size : length (chosen (λ i. i) (insideAt w l) n 0) ≡ count
+  size : length (inside w l n) ≡ count
   size = ap length (sym (c .are)) ∙ length-take-le count numbers (omega (arith, c .places, c .few))
 
-  pub listed-at : (j : ℕ) → j < count → getD numbers j 0 ≡ getD (chosen (λ i. i) (insideAt w l) n 0) j 0
+  listed-at : (j : ℕ) → j < count → getD numbers j 0 ≡ getD (inside w l n) j 0
   listed-at j h = sym (getD-take count numbers j 0 h) ∙ ap (λ (z : List ℕ). getD z j 0) (c .are)
 
-  pub listed-low : (j : ℕ) → j < count → getD numbers j 0 < n
-  listed-low j h = omega (arith, listed-at j h, numbers-below (insideAt w l) n 0 j (omega (arith, size)))
+  listed-low : (j : ℕ) → j < count → getD numbers j 0 < n
+  listed-low j h = omega (arith, listed-at j h, below (insideAt w l) n 0 j (omega (arith, size)))
 
-  pub listed-x : (j : ℕ) → j < count → getD xs j nan ≡ pointAt l (getD numbers j 0) .x
+  listed-x : (j : ℕ) → j < count → getD xs j nan ≡ pointAt l (getD numbers j 0) .x
   listed-x j h =
       sym (getD-take count xs j nan h) ∙ ap (λ (z : List Float). getD z j nan) (c .are-x)
-      ∙ values-at (insideAt w l) (λ i. pointAt l i .x) nan n 0 j (omega (arith, size))
+      ∙ map-at (λ i. pointAt l i .x) nan (inside w l n) j (omega (arith, size, h))
       ∙ ap (λ (i : ℕ). pointAt l i .x) (sym (listed-at j h))
 
   pub lists : Lists l n numbers xs count
@@ -195,7 +160,7 @@ module _ (l : List Float) (w : Window) (n used count : ℕ) (numbers : List ℕ)
       sym (ap (λ (m : ℕ). first (hasAt l kx ky) m 0) (sym rest) ∙ first-beyond (hasAt l kx ky) n (used - n) 0 (omega (arith, a)) ∙ ap (first (hasAt l kx ky) (used - n)) (zero-add n))
 
 -- ---- the search of a point p, whose keys are those of a and b, where the collection decides
-module _ (l : List Float) (used : ℕ) (c : Nearby) (numbers : List ℕ) (xs : List Float) (p : Point) (a b : SoughtKey) (h : Held l used c numbers xs) (u : Usable l used) (e : a ≡ soughtKey (key (p .x))) (f : b ≡ soughtKey (key (p .y)))
+module _ (l : List Float) (used : ℕ) (c : Nearby) (numbers : List ℕ) (xs : List Float) (p : Point) (a b : SoughtKey) (h : Held l used c numbers xs) (u : Usable l used) (e : a ≡ soughtKey (p .x)) (f : b ≡ soughtKey (p .y))
     (d : (leb (c .count) mostNearby && surrounds (c .window) (a .key) (b .key)) ≡ true) where
   both : T (leb (c .count) mostNearby && surrounds (c .window) (a .key) (b .key))
   both = subst T (sym d) tt

@@ -8,13 +8,13 @@ use mathlib.Core.Bool.{true, false}
 use lib.IntN.{ℤ, pos, negsuc, negℤ}
 use lib.Signed.{ltZ, leZ}
 use lib.Dec.{T, leb→le, le→leb, ltb→lt}
-use lib.Ieee.{Float, fin, binary64, up, down, mul, le}
+use lib.Ieee.{Float, fin, binary64, up, down, mul, le, eq}
 use lib.Ieee.Fits.{down-pos, and-i, and-l, and-r}
 use lib.Ieee.Scale.{finite}
 use lib.Ieee.Positive.{den, den-pos}
 use Rattle.laws.specs.Within.{Within}
 use Rattle.laws.proofs.Fractions.{plus, less, Le, le→Le}
-use Rattle.laws.proofs.Order.{le-or-lt, lt→le}
+use Rattle.laws.proofs.Order.{le-or-lt, lt→le, eq→le, eq-sym}
 use Rattle.laws.proofs.Between.{within-real}
 use Rattle.laws.proofs.Round.{rounds-mono}
 use Rattle.laws.proofs.Results.{mul-rounds}
@@ -91,6 +91,16 @@ both (pos a) (pos b) h k = omega (arith, leb→le a b h, ltb→lt b a k)
 both (pos a) (negsuc b) h k = absurd h
 both (negsuc a) (pos b) h k = absurd k
 both (negsuc a) (negsuc b) h k = omega (arith, leb→le b a h, ltb→lt a b k)
+
+-- equal coordinates have one key
+one : (a b : ℤ) → T (leZ a b) → T (leZ b a) → a ≡ b
+one (pos a) (pos b) h k = ap pos (omega (arith, leb→le a b h, leb→le b a k))
+one (pos a) (negsuc b) h k = absurd h
+one (negsuc a) (pos b) h k = absurd k
+one (negsuc a) (negsuc b) h k = ap negsuc (omega (arith, leb→le b a h, leb→le a b k))
+
+pub key-eq : (x y : Float) → Within 1025 x → Within 1025 y → T (eq x y) → key x ≡ key y
+key-eq x y u v e = one (key x) (key y) (key-mono x y u v (eq→le x y e)) (key-mono y x v u (eq→le y x (eq-sym x y e)))
 
 -- ---- a key strictly between those of the ends is that of a coordinate between them
 module _ (s : Span) (x : Float) (r : Spans s) (w : Within 1025 x) where

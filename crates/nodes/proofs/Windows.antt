@@ -15,6 +15,7 @@ use Rattle.nodes.specs.Flat.{Sought}
 use Rattle.nodes.specs.declared.nearby.Span.{Span}
 use Rattle.nodes.specs.Nearby.{span, Spans, strictly}
 use Rattle.nodes.proofs.Rounding.{key-small}
+use Rattle.nodes.proofs.Skip.{small}
 
 read-key : (k : ℤ) → natAbs k ≤ 102500000000 → r64 k ≡ k
 read-key k h = back k (lt-of-le-of-lt h (lit< tt))
@@ -35,7 +36,7 @@ module _ (s : Span) (k : SoughtKey) (r : Spans s) (t : Sought k) where
   most-back = read-key (s .most) (subst (λ (z : ℤ). natAbs z ≤ 102500000000) (sym (ap (λ (u : Span). u .most) (r .same))) (key-small (s .hi) (r .high)))
 
   key-back : r64 (k .key) ≡ k .key
-  key-back = read-key (k .key) (t .small)
+  key-back = read-key (k .key) (small k t)
 
   pub strict-yes : ltZ (r64 (s .least)) (r64 (k .key)) ≡ true → ltZ (r64 (k .key)) (r64 (s .most)) ≡ strictly s (k .key)
   strict-yes h = (λ j. sym h j && ltZ (key-back j) (most-back j)) ∙ (λ j. ltZ (least-back j) (key-back j) && ltZ (k .key) (s .most))

@@ -3,10 +3,11 @@
 use Prim.Native.Nat.{ℕ, zero, suc, _≤_, _<_}
 use mathlib.Core.Path.{_≡_}
 use mathlib.Core.Bool.{Bool, _&&_, cond}
-use mathlib.Core.List.{List, [], _∷_}
+use mathlib.Core.List.{List, [], _∷_, _++_, map}
 use lib.IntN.{ℤ}
 use lib.Signed.{ltZ}
-use lib.ListN.{length, getD, take}
+use lib.ListN.{length, getD, take, drop}
+use lib.Dec.{leb}
 use lib.Ieee.{Float, nan}
 use Rattle.laws.specs.Double.{_≤f_}
 use Rattle.laws.specs.Within.{Within}
@@ -20,12 +21,12 @@ use Rattle.nodes.specs.declared.nearby.Nearby.{Nearby}
 abbrev pub mostNearby : ℕ
 mostNearby = 256
 
--- f at each of i, i + 1 .. i + d - 1 at which q holds, in rising order
-unfoldable pub chosen {ℓ} : {A : Type ℓ} → (ℕ → A) → (ℕ → Bool) → ℕ → ℕ → List A
-chosen f q zero i = []
-chosen f q (suc d) i =
-    let r = chosen f q d (suc i) in
-    cond (q i) (f i ∷ r) r
+-- those of i, i + 1 .. i + d - 1 at which q holds
+unfoldable pub chosen : (ℕ → Bool) → ℕ → ℕ → List ℕ
+chosen q zero i = []
+chosen q (suc d) i =
+    let r = chosen q d (suc i) in
+    cond (q i) (i ∷ r) r
 
 -- ---- windows
 abbrev pub span : Float → Float → Span
@@ -58,15 +59,46 @@ abbrev pub surrounds : Window → ℤ → ℤ → Bool
 surrounds w kx ky = strictly (w .x) kx && strictly (w .y) ky
 
 -- ---- collections
--- the first `count` of the numbers, and of the xs, are those of the nodes of the first n places in the window
+-- the numbers of the nodes of the first n places that are in the window; and the x of such nodes
+abbrev pub inside : Window → List Float → ℕ → List ℕ
+inside w l n = chosen (insideAt w l) n 0
+
+abbrev pub xsOf : List Float → List ℕ → List Float
+xsOf l ks = map (λ k. pointAt l k .x) ks
+
+-- so many are said to be held where there are n: one above the most where there are more
+unfoldable pub counted : ℕ → ℕ
+counted n = cond (leb n mostNearby) n (suc mostNearby)
+
+-- l with the list u over its first places, as far as it is held
+unfoldable pub laid {ℓ} : {A : Type ℓ} → List A → List A → List A
+laid u l = take mostNearby u ++ drop (length (take mostNearby u)) l
+
+-- what `collect` answers
+abbrev pub nearby : Window → List Float → ℕ → Nearby
+nearby w l old = record { window = w; old = old; count = counted (length (inside w l old)) }
+
+-- the nodes of the first n places are collected over the lists a and b, which are now numbers and xs: r are held
+pub record Gathered (l : List Float) (w : Window) (n : ℕ) (a : List ℕ) (b : List Float) (numbers : List ℕ) (xs : List Float) (r : ℕ) : Type 0 where
+  pub count : r ≡ counted (length (inside w l n))
+  pub are : numbers ≡ laid (inside w l n) a
+  pub are-x : xs ≡ laid (xsOf l (inside w l n)) b
+
+-- the same goes on: from place m, where the lists are c and d and k are held, to place n
+abbrev pub GoesOn : List Float → Window → ℕ → List ℕ → List Float → ℕ → ℕ → List ℕ → List Float → ℕ → Type 0
+GoesOn l w m c d k n numbers xs r =
+    (a : List ℕ) (b : List Float) → length a ≡ mostNearby → length b ≡ mostNearby → Gathered l w m a b c d k → Gathered l w n a b numbers xs r
+
+-- what the search asks of them: the first `count` of the numbers, and of the xs, are those of the nodes of the first n
+-- places that are in the window
 pub record Collected (l : List Float) (w : Window) (n : ℕ) (numbers : List ℕ) (xs : List Float) (count : ℕ) : Type 0 where
   pub places : length numbers ≡ mostNearby
   pub places-x : length xs ≡ mostNearby
   pub few : count ≤ mostNearby
-  pub are : take count numbers ≡ chosen (λ i. i) (insideAt w l) n 0
-  pub are-x : take count xs ≡ chosen (λ i. pointAt l i .x) (insideAt w l) n 0
+  pub are : take count numbers ≡ inside w l n
+  pub are-x : take count xs ≡ xsOf l (inside w l n)
 
--- of the first places among the used, so of all that are in the window, unless there are too many
+-- so it is of the first places among the used, unless too many are in the window
 pub record Held (l : List Float) (used : ℕ) (c : Nearby) (numbers : List ℕ) (xs : List Float) : Type 0 where
   pub old : c .old ≤ used
   pub framed : Framed (c .window)

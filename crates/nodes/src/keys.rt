@@ -9,10 +9,11 @@ ghost use Rattle.laws.specs.Integer.{eqZ};
 ghost use Rattle.nodes.specs.Nodes as Nodes;
 ghost use Rattle.nodes.specs.Flat.{soughtKey, Sought, near};
 
-// A coordinate's key to look for, and the same as a double.
+// A coordinate to look for: its key, the same as a double, and itself.
 pub struct SoughtKey {
     pub key: i64,
     pub value: f64,
+    pub own: f64,
 }
 
 // A coordinate's key; also that of a side of a ring's box, which may lie a unit beyond the sheet. What truncation leaves is
@@ -36,12 +37,13 @@ pub fn key(x: f64) -> i64
 impl SoughtKey {
     pub fn new(x: f64) -> SoughtKey
         requires { ⌜ Within 1024 x ⌝ }
-        ensures { λ r. ⌜ (r ≡ soughtKey (Nodes.key x)) × Sought r ⌝ }
+        ensures { λ r. ⌜ (r ≡ soughtKey x) × Sought r ⌝ }
     {
         let k = key(x);
         SoughtKey {
             key: k,
             value: k as f64,
+            own: x,
         }
     }
 
@@ -53,10 +55,14 @@ impl SoughtKey {
         !(d * d >= 2.0)
     }
 
+    // Where the two are equal, as nearly always when their keys are, no key is worked out.
     pub fn is_key_of(self, x: f64) -> bool
         requires { ⌜ Within 1024 x × Sought self ⌝ }
         ensures { λ r. ⌜ r ≡ eqZ (self .key) (Nodes.key x) ⌝ }
     {
+        if x == self.own {
+            return true;
+        }
         if self.is_near(x) {
             let k = key(x);
             return k == self.key;

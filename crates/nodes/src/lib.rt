@@ -5,6 +5,7 @@
 // hold nodes; specs/Flat has the words for that. A ring's box is known before its first point is sought: one pass collects
 // the nodes in it (`nearby`), and a point is then looked for among these and the nodes that were added since.
 
+mod held;
 mod keys;
 mod nearby;
 
@@ -16,6 +17,7 @@ ghost use Rattle.nodes.specs.Nodes.{number, addNode};
 ghost use Rattle.nodes.specs.Growth.{InRange};
 ghost use Rattle.nodes.specs.Flat.{pointAt, nodesIn, over, Usable, placed, Sought, near, hasAt};
 ghost use Rattle.nodes.specs.Nearby.{Held};
+pub use held::all_held;
 use keys::SoughtKey;
 pub use nearby::MOST_NEARBY;
 pub use nearby::Nearby;
@@ -63,26 +65,12 @@ fn any_near(nodes: &[f64], i: usize, kx: SoughtKey) -> bool
     found
 }
 
-// The first of these 16 places with the two keys, or the place after them.
-fn find_block(nodes: &[f64], i: usize, kx: SoughtKey, ky: SoughtKey) -> usize
-    requires { ⌜ Usable (now nodes) (i + 16) × Sought kx × Sought ky ⌝ }
-    ensures { λ r. ⌜ r ≡ first (hasAt (now (nodes .entry)) (kx .key) (ky .key)) 16 i ⌝ }
-{
-    if any_near(nodes, i, kx) {
-        return find_in(nodes, i, i + 16, kx, ky);
-    }
-    i + 16
-}
-
-// The same of what is left, at most 16 places. The 16 before `to` are judged: one that stands before `from` may be near and
-// does no harm.
-fn find_last(nodes: &[f64], from: usize, to: usize, kx: SoughtKey, ky: SoughtKey) -> usize
-    requires { ⌜ Usable (now nodes) to × (from ≤ to) × (to ≤ from + 16) × Sought kx × Sought ky ⌝ }
+// The same as find_in of at most 16 places. The 16 before `to` are judged first: one that stands before `from` may be near
+// and does no harm.
+fn find_block(nodes: &[f64], from: usize, to: usize, kx: SoughtKey, ky: SoughtKey) -> usize
+    requires { ⌜ Usable (now nodes) to × (from ≤ to) × (to ≤ from + 16) × (16 ≤ to) × Sought kx × Sought ky ⌝ }
     ensures { λ r. ⌜ r ≡ first (hasAt (now (nodes .entry)) (kx .key) (ky .key)) (to - from) from ⌝ }
 {
-    if to < 16 {
-        return find_in(nodes, from, to, kx, ky);
-    }
     if any_near(nodes, to - 16, kx) {
         return find_in(nodes, from, to, kx, ky);
     }
@@ -94,15 +82,19 @@ fn find_from(nodes: &[f64], from: usize, used: usize, kx: SoughtKey, ky: SoughtK
     requires { ⌜ Usable (now nodes) used × (from ≤ used) × Sought kx × Sought ky ⌝ }
     ensures { λ r. ⌜ r ≡ first (hasAt (now (nodes .entry)) (kx .key) (ky .key)) (used - from) from ⌝ }
 {
+    if used < 16 {
+        return find_in(nodes, from, used, kx, ky);
+    }
     let mut i = from;
-    while i + 16 <= used {
-        let k = find_block(nodes, i, kx, ky);
-        if k < i + 16 {
+    while i < used {
+        let to = nearby::block_end(i, 16, used);
+        let k = find_block(nodes, i, to, kx, ky);
+        if k < to {
             return k;
         }
-        i += 16;
+        i = to;
     }
-    find_last(nodes, i, used, kx, ky)
+    used
 }
 
 // The first used place with p's key, or `used`. Where the collected nodes decide, only these and the nodes after the first

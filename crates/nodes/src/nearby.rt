@@ -5,14 +5,14 @@
 
 ghost use mathlib.Core.Path.{_≡_};
 ghost use mathlib.Core.Bool.{_&&_};
-ghost use Prim.Native.Nat.{_+_, _-_, _*_, _≤_};
+ghost use Prim.Native.Nat.{_+_, _-_, _*_, _≤_, _<_};
 ghost use lib.ListN.{length, getD};
 ghost use lib.Dec.{leb};
 ghost use lib.Ieee.{nan};
 ghost use Rattle.laws.specs.Within.{Within};
 ghost use Rattle.laws.specs.Bounded.{any, first};
 ghost use Rattle.nodes.specs.Flat.{Usable, Sought, near};
-ghost use Rattle.nodes.specs.Nearby.{mostNearby, span, Spans, inSpan, Framed, inWindow, Collected, Held, strictly, surrounds, Lists, hasListed};
+ghost use Rattle.nodes.specs.Nearby.{mostNearby, span, Spans, inSpan, Framed, inWindow, insideAt, strictly, surrounds, inside, xsOf, laid, nearby, Gathered, GoesOn, Lists, hasListed};
 use super::NodeNumber;
 use super::keys;
 use super::keys::SoughtKey;
@@ -121,6 +121,17 @@ impl Nearby {
     }
 }
 
+// Where a block that starts at place i ends: `size` places on, or at the last.
+pub fn block_end(i: usize, size: usize, last: usize) -> usize
+    requires { ⌜ (0 < size) × (i < last) ⌝ }
+    ensures { λ r. ⌜ (i < r) × (r ≤ last) × (r ≤ i + size) × (size ≤ last → size ≤ r) × (r < last → r ≡ i + size) ⌝ }
+{
+    if last - i < size {
+        return last;
+    }
+    i + size
+}
+
 // Whether one of 64 coordinates, every other from place `at` on, is in the span. Nothing ends the loop, so that several are
 // judged at once.
 fn any_in(nodes: &[f64], at: usize, s: Span) -> bool
@@ -144,8 +155,8 @@ fn collect_in(
     xs: &mut [f64],
     n: usize,
 ) -> usize
-    requires { ⌜ Usable (now nodes) to × (from ≤ to) × Collected (now nodes) w from (now numbers) (now xs) n ⌝ }
-    ensures { λ r. ⌜ (r ≤ mostNearby → Collected (now (nodes .entry)) w to (now (numbers .exit)) (now (xs .exit)) r) ⌝ }
+    requires { ⌜ Usable (now nodes) to × (from ≤ to) × (length (now numbers) ≡ mostNearby) × (length (now xs) ≡ mostNearby) × (n ≤ mostNearby) ⌝ }
+    ensures { λ r. ⌜ GoesOn (now (nodes .entry)) w from (now (numbers .entry)) (now (xs .entry)) n to (now (numbers .exit)) (now (xs .exit)) r ⌝ }
 {
     let mut k = n;
     for i in from..to {
@@ -163,27 +174,133 @@ fn collect_in(
     k
 }
 
-// The same of 64 nodes. Nearly always none of them has its x in the window, or else none its y.
-fn collect_block(
+// Whether one of the 16 nodes from place i on is in the window.
+fn any_inside(nodes: &[f64], i: usize, w: Window) -> bool
+    requires { ⌜ (i + 16) * 2 ≤ length (now nodes) ⌝ }
+    ensures { λ r. ⌜ r ≡ any (λ j. insideAt w (now (nodes .entry)) (i + j)) 16 ⌝ }
+{
+    let mut found = false;
+    for j in 0..16 {
+        let at = (i + j) * 2;
+        found = found | w.holds(nodes[at], nodes[at + 1]);
+    }
+    found
+}
+
+// The same as collect_in of at most 16 nodes. The 16 before `to` are judged first: one that stands before `from` may be in
+// the window and does no harm.
+fn collect_few(
     nodes: &[f64],
-    i: usize,
+    from: usize,
+    to: usize,
     w: Window,
     numbers: &mut [NodeNumber],
     xs: &mut [f64],
     n: usize,
 ) -> usize
-    requires { ⌜ Usable (now nodes) (i + 64) × Collected (now nodes) w i (now numbers) (now xs) n ⌝ }
-    ensures { λ r. ⌜ (r ≤ mostNearby → Collected (now (nodes .entry)) w (i + 64) (now (numbers .exit)) (now (xs .exit)) r) ⌝ }
+    requires { ⌜ Usable (now nodes) to × (from ≤ to) × (to ≤ from + 16) × (16 ≤ to) × (length (now numbers) ≡ mostNearby) × (length (now xs) ≡ mostNearby) × (n ≤ mostNearby) ⌝ }
+    ensures { λ r. ⌜ GoesOn (now (nodes .entry)) w from (now (numbers .entry)) (now (xs .entry)) n to (now (numbers .exit)) (now (xs .exit)) r ⌝ }
 {
+    if any_inside(nodes, to - 16, w) {
+        return collect_in(nodes, from, to, w, numbers, xs, n);
+    }
+    n
+}
+
+// The same, 16 nodes after 16.
+fn collect_near(
+    nodes: &[f64],
+    from: usize,
+    to: usize,
+    w: Window,
+    numbers: &mut [NodeNumber],
+    xs: &mut [f64],
+    n: usize,
+) -> usize
+    requires { ⌜ Usable (now nodes) to × (from ≤ to) × (16 ≤ to) × (length (now numbers) ≡ mostNearby) × (length (now xs) ≡ mostNearby) × (n ≤ mostNearby) ⌝ }
+    ensures { λ r. ⌜ GoesOn (now (nodes .entry)) w from (now (numbers .entry)) (now (xs .entry)) n to (now (numbers .exit)) (now (xs .exit)) r ⌝ }
+{
+    let mut i = from;
+    let mut k = n;
+    while i < to {
+        let e = block_end(i, 16, to);
+        k = collect_few(nodes, i, e, w, numbers, xs, k);
+        if k > MOST_NEARBY {
+            return k;
+        }
+        i = e;
+    }
+    k
+}
+
+// The same of at most 64 nodes. The 64 before `to` are judged first: nearly always none of them has its x in the window, or
+// else none its y.
+fn collect_block(
+    nodes: &[f64],
+    from: usize,
+    to: usize,
+    w: Window,
+    numbers: &mut [NodeNumber],
+    xs: &mut [f64],
+    n: usize,
+) -> usize
+    requires { ⌜ Usable (now nodes) to × (from ≤ to) × (to ≤ from + 64) × (64 ≤ to) × (length (now numbers) ≡ mostNearby) × (length (now xs) ≡ mostNearby) × (n ≤ mostNearby) ⌝ }
+    ensures { λ r. ⌜ GoesOn (now (nodes .entry)) w from (now (numbers .entry)) (now (xs .entry)) n to (now (numbers .exit)) (now (xs .exit)) r ⌝ }
+{
+    let at = (to - 64) * 2;
     let across = w.x;
-    if !any_in(nodes, i * 2, across) {
+    if !any_in(nodes, at, across) {
         return n;
     }
     let along = w.y;
-    if !any_in(nodes, i * 2 + 1, along) {
+    if !any_in(nodes, at + 1, along) {
         return n;
     }
-    collect_in(nodes, i, i + 64, w, numbers, xs, n)
+    collect_near(nodes, from, to, w, numbers, xs, n)
+}
+
+// The same from the first place on, where there are 64 or more.
+fn collect_blocks(
+    nodes: &[f64],
+    old: usize,
+    w: Window,
+    numbers: &mut [NodeNumber],
+    xs: &mut [f64],
+) -> usize
+    requires { ⌜ Usable (now nodes) old × (64 ≤ old) × (length (now numbers) ≡ mostNearby) × (length (now xs) ≡ mostNearby) ⌝ }
+    ensures { λ r. ⌜ Gathered (now (nodes .entry)) w old (now (numbers .entry)) (now (xs .entry)) (now (numbers .exit)) (now (xs .exit)) r ⌝ }
+{
+    let mut i = 0;
+    let mut n = 0;
+    while i < old {
+        let to = block_end(i, 64, old);
+        n = collect_block(nodes, i, to, w, numbers, xs, n);
+        if n > MOST_NEARBY {
+            return n;
+        }
+        i = to;
+    }
+    n
+}
+
+// The same of all nodes in the first `old` places.
+fn collect_all(
+    nodes: &[f64],
+    old: usize,
+    w: Window,
+    numbers: &mut [NodeNumber],
+    xs: &mut [f64],
+) -> usize
+    requires { ⌜ Usable (now nodes) old × (length (now numbers) ≡ mostNearby) × (length (now xs) ≡ mostNearby) ⌝ }
+    ensures { λ r. ⌜ Gathered (now (nodes .entry)) w old (now (numbers .entry)) (now (xs .entry)) (now (numbers .exit)) (now (xs .exit)) r ⌝ }
+{
+    if old < 16 {
+        return collect_in(nodes, 0, old, w, numbers, xs, 0);
+    }
+    if old < 64 {
+        return collect_near(nodes, 0, old, w, numbers, xs, 0);
+    }
+    collect_blocks(nodes, old, w, numbers, xs)
 }
 
 // The nodes in the first `old` places that are in the window: their numbers, rising, and their x.
@@ -194,27 +311,15 @@ pub fn collect(
     numbers: &mut [NodeNumber],
     xs: &mut [f64],
 ) -> Nearby
-    requires { ⌜ Usable (now nodes) old × Framed w × (length (now numbers) ≡ mostNearby) × (length (now xs) ≡ mostNearby) ⌝ }
-    ensures { λ r. ⌜ (r .window ≡ w) × (r .old ≡ old) × Held (now (nodes .entry)) old r (now (numbers .exit)) (now (xs .exit)) ⌝ }
+    requires { ⌜ Usable (now nodes) old × (length (now numbers) ≡ mostNearby) × (length (now xs) ≡ mostNearby) ⌝ }
+    ensures { λ r. ⌜ (r ≡ nearby w (now (nodes .entry)) old) × (now (numbers .exit) ≡ laid (inside w (now (nodes .entry)) old) (now (numbers .entry)))
+        × (now (xs .exit) ≡ laid (xsOf (now (nodes .entry)) (inside w (now (nodes .entry)) old)) (now (xs .entry))) ⌝ }
 {
-    let mut i = 0;
-    let mut n = 0;
-    while i + 64 <= old {
-        n = collect_block(nodes, i, w, numbers, xs, n);
-        if n > MOST_NEARBY {
-            return Nearby {
-                window: w,
-                old: old,
-                count: n,
-            };
-        }
-        i += 64;
-    }
-    let c = collect_in(nodes, i, old, w, numbers, xs, n);
+    let n = collect_all(nodes, old, w, numbers, xs);
     Nearby {
         window: w,
         old: old,
-        count: c,
+        count: n,
     }
 }
 
@@ -256,23 +361,22 @@ fn find_listed_in(
     to
 }
 
-// Of at most 16 collected nodes from place i on, the first with the two keys, or `to`. What stands in the places after `to`
-// may be near and do no harm.
+// The same of at most 16 of them. Of the 16 from `from` on one that stands after `to` may be near and does no harm.
 fn find_listed_block(
     nodes: &[f64],
     old: usize,
     numbers: &[NodeNumber],
     xs: &[f64],
-    i: usize,
+    from: usize,
     to: usize,
     kx: SoughtKey,
     ky: SoughtKey,
 ) -> usize
-    requires { ⌜ Usable (now nodes) old × Lists (now nodes) old (now numbers) (now xs) to × (i ≤ to) × (to ≤ i + 16) × (i + 16 ≤ mostNearby) × Sought kx × Sought ky ⌝ }
-    ensures { λ r. ⌜ r ≡ first (hasListed (now (nodes .entry)) (now (numbers .entry)) (kx .key) (ky .key)) (to - i) i ⌝ }
+    requires { ⌜ Usable (now nodes) old × Lists (now nodes) old (now numbers) (now xs) to × (from ≤ to) × (to ≤ from + 16) × (from + 16 ≤ mostNearby) × Sought kx × Sought ky ⌝ }
+    ensures { λ r. ⌜ r ≡ first (hasListed (now (nodes .entry)) (now (numbers .entry)) (kx .key) (ky .key)) (to - from) from ⌝ }
 {
-    if any_close(xs, i, kx) {
-        return find_listed_in(nodes, old, numbers, xs, i, to, kx, ky);
+    if any_close(xs, from, kx) {
+        return find_listed_in(nodes, old, numbers, xs, from, to, kx, ky);
     }
     to
 }
@@ -291,15 +395,13 @@ pub fn find_listed(
     ensures { λ r. ⌜ r ≡ first (hasListed (now (nodes .entry)) (now (numbers .entry)) (kx .key) (ky .key)) count 0 ⌝ }
 {
     let mut i = 0;
-    while i + 16 <= count {
-        let k = find_listed_block(nodes, old, numbers, xs, i, i + 16, kx, ky);
-        if k < i + 16 {
+    while i < count {
+        let to = block_end(i, 16, count);
+        let k = find_listed_block(nodes, old, numbers, xs, i, to, kx, ky);
+        if k < to {
             return k;
         }
-        i += 16;
-    }
-    if i < count {
-        return find_listed_block(nodes, old, numbers, xs, i, count, kx, ky);
+        i = to;
     }
     count
 }

@@ -78,7 +78,7 @@ impl Extent {
 }
 
 // How far the corners of the pieces and the snap points of their edges reach.
-fn of_pieces(ring: [GridPoint; 60], marks: [Edge; 60], pieces: PartList) -> Extent
+pub fn of_pieces(ring: [GridPoint; 60], marks: [Edge; 60], pieces: PartList) -> Extent
     requires { ⌜ Kept pieces ⌝ }
 {
     let count = pieces.count;
@@ -99,12 +99,10 @@ fn of_pieces(ring: [GridPoint; 60], marks: [Edge; 60], pieces: PartList) -> Exte
     e
 }
 
-// The window of these pieces.
-pub fn window(ring: [GridPoint; 60], marks: [Edge; 60], pieces: PartList) -> Window
-    requires { ⌜ Kept pieces ⌝ }
+// The window over this extent.
+pub fn window(e: Extent) -> Window
     ensures { λ r. ⌜ Framed r ⌝ }
 {
-    let e = of_pieces(ring, marks, pieces);
     let lo_x = side(e.lo_x - UNIT);
     let hi_x = side(e.hi_x + UNIT);
     let lo_y = side(e.lo_y - UNIT);

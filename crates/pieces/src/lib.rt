@@ -62,7 +62,8 @@ pub fn subdivide_all(
         × (now (nodes .exit) ≡ over (now (nodes .entry)) (nodesOf (outcomeIn share (now (nodes .entry)) used ring marks pieces)))
         × (now (cells .exit) ≡ overFrom (now (cells .entry)) first (cellsLeft reserve (outcomeIn share (now (nodes .entry)) used ring marks pieces))) ⌝ }
 {
-    let w = extent::window(ring, marks, pieces);
+    let e = extent::of_pieces(ring, marks, pieces);
+    let w = extent::window(e);
     let mut numbers = [0; MOST_NEARBY];
     let mut xs = [0.0; MOST_NEARBY];
     let near = nodes::collect(nodes, used, w, &mut numbers, &mut xs);

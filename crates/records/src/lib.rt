@@ -16,13 +16,14 @@ ghost use Rattle.records.specs.Records.{Numbers, Promise, written, laidO
 use cells::Cell;
 use corner::Limits;
 use divider::CellRoom;
+use nodes::NodeNumber;
 use table::Answer;
 use table::Values;
 
 // What a call comes to before its cells are in the list: their numbers, four a cell, the place that the first goes to,
 // how many there are, and the row of the table.
 pub struct Laid {
-    pub numbers: [u16; 496],
+    pub numbers: [NodeNumber; 496],
     pub at: usize,
     pub count: usize,
     pub values: Values,
@@ -56,7 +57,7 @@ fn write(cells: &mut [Cell], at: usize, laid: Laid, n: usize)
 
 // The answer for a ring of `own` points, over numbers that hold its cells from their first place on, for a list in which
 // they go to place `at`. After a failure the places of the reserve are written too, with zeros.
-fn placed(limits: Limits, own: usize, a: Answer, numbers: [u16; 496], at: usize) -> Laid
+fn placed(limits: Limits, own: usize, a: Answer, numbers: [NodeNumber; 496], at: usize) -> Laid
     requires { ⌜ (at + Answers.values a .cells < 2 ^ 64) × (Answers.values a .code ≡ 8 → (3 ≤ own) × (own ≤ 60)) ⌝ }
     ensures { λ r. ⌜ r ≡ laidOf (Answers.values a) numbers at (cellReserve limits own) ⌝ }
 {
@@ -108,8 +109,9 @@ fn flat_divide(
     placed(limits, ring.len() / 2, a, numbers, cell_count)
 }
 
-// The divider call over a list of cell records.
-pub fn divide_cells<'a, 'b, 'c, 'd>(
+// The divider call over a list of cell records, for callers here and in other languages.
+#[no_mangle]
+pub extern "C" fn ring_divide_cells<'a, 'b, 'c, 'd>(
     ring: &'a [i32],
     chain: &'b [i32],
     size: u32,

@@ -1,13 +1,14 @@
 -- The laws of `firstOf`, by which every list of tests is taken apart. `first`: either a test of the list holds, and the result is its number; or none does, and the result
--- is 0. `all-pass`: where each number of the list is a refusal's, the result is 0 only if none holds. `away`: then a result that is not 0 is a refusal's number.
+-- is 0. `all-pass`: where each number of the list is a refusal's, the result is 0 only if none holds. `away`: then a result that is not 0 is a refusal's number. And the order
+-- of all entries, by its numbers (`order`).
 use Prim.Native.Nat.{ℕ}
 use mathlib.Core.Path.{_≡_, refl, sym, ap, _∙_, subst}
 use mathlib.Core.Bool.{Bool, true, false, _&&_, not, cond}
-use mathlib.Core.List.{List, [], _∷_, List·Memᴰ, List·Memᴰ·head, List·Memᴰ·tail}
+use mathlib.Core.List.{List, [], _∷_, map, List·Memᴰ, List·Memᴰ·head, List·Memᴰ·tail}
 use lib.Dec.{T, eqb}
 use lib.Ieee.Fits.{and-l, and-r}
 use borrow.Author.Tests.{eq-eqb}
-use Rattle.table.specs.Refusals.{Refusal, firstOf, Passes, turnsAway, numbered, First, holds, passes}
+use Rattle.table.specs.Refusals.{Refusal, firstOf, Tests, inOrder, Passes, turnsAway, numbered, First, holds, passes}
 
 -- with a first test r
 module _ (r : Refusal) (rs : List Refusal) where
@@ -53,3 +54,7 @@ away rs n z = go (first rs)
     go : First rs → T (turnsAway (firstOf rs))
     go (holds r m t e) = subst (λ (k : ℕ). T (turnsAway k)) (sym e) (member-away rs r n m)
     go (passes p e) = absurd (z e)
+
+-- ---- "tested in rising order"
+pub order : (t : Tests) → map (λ (r : Refusal). r .number) (inOrder t) ≡ 1 ∷ 2 ∷ 3 ∷ 4 ∷ []
+order t = refl

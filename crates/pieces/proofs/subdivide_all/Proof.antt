@@ -4,6 +4,7 @@ use Prim.Native.Nat.{ℕ, _+_, _-_, _*_, _^_, _≤_, _<_}
 use lib.ListN.{length, take, length-take, length-drop}
 use borrow.Rule.Slice.PartMut.{putMid}
 use Rattle.split.specs.State.{marksOf}
+use Rattle.nodes.proofs.Gathering as gathering
 use Rattle.pieces.proofs.Course as course
 use Rattle.pieces.proofs.Course.{Reached, Read}
 use borrow.Author.Needs.{needs}
@@ -19,7 +20,7 @@ abbrev μ-loop : tie.MeasureT-loop
 
 -- where the function began
 abbrev begin : tie.At-loop Inv-loop μ-loop → tie.Start Inv-loop μ-loop
-begin c = c .before .before .before .before .before .before .before .before .before .before
+begin c = c .before .before .before .before .before .before .before .before .before .before .before
 
 -- piece i has been read
 read : (c : tie.After-piece-marks Inv-loop μ-loop)
@@ -59,6 +60,9 @@ window c =
     let o = x .before .before .before .before in
     course.clear-room (begin o .pre) (o .loop .inv .2) (read x) (y .subdivide .ensures)
 
+of-pieces-requires : tie.Need-of-pieces-requires Inv-loop μ-loop
+of-pieces-requires c κs = search needs
+
 window-requires : tie.Need-window-requires Inv-loop μ-loop
 window-requires c κs = search needs
 
@@ -70,8 +74,8 @@ slice-aggregate-collect-2 c = search needs
 
 collect-requires : tie.Need-collect-requires Inv-loop μ-loop
 collect-requires c κs =
-    let w = c .before .before .before in
-    (w .before .before .before .pre .usable, w .window .ensures, refl, refl)
+    let s = c .before .before .before .before .before .before .before in
+    (s .pre .usable, refl, refl)
 
 -- the places to be cleared begin within the list
 low : (c : tie.Then1 Inv-loop μ-loop)
@@ -80,7 +84,7 @@ low : (c : tie.Then1 Inv-loop μ-loop)
 low c = let o = c .before .before .before .before .before .before .before .before .before .before .before .before .before .before .before in omega (arith, begin o .pre .places, begin o .good .1 .1 .0)
 
 loop-holds : tie.Need-loop-holds Inv-loop μ-loop
-loop-holds c = (search needs, refl, course.start (c .before .before .before .before .before .before .before .before .before .pre))
+loop-holds c = (search needs, refl, course.start (c .before .before .before .before .before .before .before .before .before .before .pre))
 
 piece-size-requires : tie.Need-piece-size-requires Inv-loop μ-loop
 piece-size-requires c κs = search needs
@@ -116,7 +120,9 @@ subdivide-requires : tie.Need-subdivide-requires Inv-loop μ-loop
 subdivide-requires c κs =
     let x = c .before .before .before .before in
     let o = x .before .before .before .before in
-    (course.can (begin o .pre) (o .loop .inv .2) (read x), simp (length-take, length-drop) (omega (arith, room x)), course.held (begin o .pre) (o .loop .inv .2) (o .before .before .before .collect .ensures .2))
+    let k = o .before .before .before in
+    let e = k .collect .ensures in
+    (course.can (begin o .pre) (o .loop .inv .2) (read x), simp (length-take, length-drop) (omega (arith, room x)), course.held (begin o .pre) (o .loop .inv .2) (gathering.held _ _ _ _ _ _ _ _ refl refl (k .before .before .before .before .window .ensures) (e .0) (e .1) (e .2)))
 
 mul-window : tie.Need-mul-window Inv-loop μ-loop
 mul-window c = omega (arith, low c)
@@ -179,8 +185,8 @@ loop-again c =
     let o = x .before .before .before .before in
     (search needs, search needs, course.go-on (begin o .pre) (o .loop .inv .2) (read x) (y .subdivide .ensures) (c .if1 .left))
 
-sub-t48 : tie.Need-sub-t48 Inv-loop μ-loop
-sub-t48 c = search needs
+sub-t49 : tie.Need-sub-t49 Inv-loop μ-loop
+sub-t49 c = search needs
 
 same-length-3 : tie.Need-same-length-3 Inv-loop μ-loop
 same-length-3 c = let o = c .before in course.long-nodes (begin o .pre) (o .loop .inv .2) (o .loop .inv .0)
@@ -200,6 +206,7 @@ subdivide-all-spec =
     (tie.spec
     Inv-loop
     μ-loop
+    of-pieces-requires
     window-requires
     slice-aggregate-collect
     slice-aggregate-collect-2
@@ -229,7 +236,7 @@ subdivide-all-spec =
     add-i
     loop-less
     loop-again
-    sub-t48
+    sub-t49
     same-length-3
     same-length-4
     returns-2)

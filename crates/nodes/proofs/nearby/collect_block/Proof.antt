@@ -3,12 +3,15 @@ use mathlib.Core.Path.{sym, _∙_, subst}
 use borrow.Author.Needs.{needs}
 use lib.Dec.{T}
 use Rattle.laws.proofs.Booleans.{is-false}
-use Rattle.nodes.proofs.Collection.{past-block, none-across, none-along}
+use Rattle.nodes.proofs.Gathering as gathering
 use Rattle.nodes.proofs.nearby.collect_block.Statement.{statement}
 use Rattle.nodes.proofs.nearby.collect_block.Tie as tie
 
-mul-any-in : tie.Need-mul-any-in
-mul-any-in c = search needs
+sub-at : tie.Need-sub-at
+sub-at c = search needs
+
+mul-at : tie.Need-mul-at
+mul-at c = search needs
 
 any-in-requires : tie.Need-any-in-requires
 any-in-requires c κs = search needs
@@ -16,12 +19,10 @@ any-in-requires c κs = search needs
 returns : tie.Need-returns
 returns c =
     let s = c .before .before .before .before .before .before in
-    let l = s .args .nodes .now in
-    let w = s .args .w in
-    λ h. past-block l w (s .args .i) 64 (s .args .n) _ _ (none-across l w (s .args .i) 64 (sym (c .before .any-in .ensures) ∙ is-false _ (subst T (sym (c .if1 .taken)) tt))) (s .pre .1)
-
-mul-any-in-2 : tie.Need-mul-any-in-2
-mul-any-in-2 c = search needs
+    let x = s .args in
+    λ a b p q g.
+    gathering.past-all (x .nodes .now) (x .w) a b (x .from) (x .to) (x .n) _ _ (s .pre .1)
+    (gathering.none-across (x .nodes .now) (x .w) 64 (x .from) (x .to) (s .pre .2) (s .pre .3) (sym (c .before .any-in .ensures) ∙ is-false _ (subst T (sym (c .if1 .taken)) tt))) g
 
 add-any-in : tie.Need-add-any-in
 add-any-in c = search needs
@@ -32,15 +33,13 @@ any-in-requires-2 c κs = search needs
 returns-2 : tie.Need-returns-2
 returns-2 c =
     let s = c .before .before .before .before .before .before .before .before .before in
-    let l = s .args .nodes .now in
-    let w = s .args .w in
-    λ h. past-block l w (s .args .i) 64 (s .args .n) _ _ (none-along l w (s .args .i) 64 (sym (c .before .any-in2 .ensures) ∙ is-false _ (subst T (sym (c .if2 .taken)) tt))) (s .pre .1)
+    let x = s .args in
+    λ a b p q g.
+    gathering.past-all (x .nodes .now) (x .w) a b (x .from) (x .to) (x .n) _ _ (s .pre .1)
+    (gathering.none-along (x .nodes .now) (x .w) 64 (x .from) (x .to) (s .pre .2) (s .pre .3) (sym (c .before .any-in2 .ensures) ∙ is-false _ (subst T (sym (c .if2 .taken)) tt))) g
 
-add-collect-in : tie.Need-add-collect-in
-add-collect-in c = search needs
-
-collect-in-requires : tie.Need-collect-in-requires
-collect-in-requires c κs = search needs
+collect-near-requires : tie.Need-collect-near-requires
+collect-near-requires c κs = search needs
 
 same-length : tie.Need-same-length
 same-length c = search needs
@@ -55,15 +54,14 @@ pub collect-block-spec : {M : Type 1} → statement M
 collect-block-spec =
     tie.close
     (tie.spec
-    mul-any-in
+    sub-at
+    mul-at
     any-in-requires
     returns
-    mul-any-in-2
     add-any-in
     any-in-requires-2
     returns-2
-    add-collect-in
-    collect-in-requires
+    collect-near-requires
     same-length
     same-length-2
     returns-3)

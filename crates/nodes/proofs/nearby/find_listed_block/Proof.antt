@@ -19,8 +19,8 @@ returns c = search needs
 returns-2 : tie.Need-returns-2
 returns-2 c =
     let s = c .before .before .before .before .before in
-    let e : s .args .i + (s .args .to - s .args .i) ≡ s .args .to = omega (arith, s .pre .2) in
-    sym (none-close _ _ _ _ _ (s .args .kx) (s .args .ky .key) (s .args .i) (s .args .to - s .args .i) 16 (s .pre .1) (s .pre .5) (s .pre .0) (omega (arith, s .pre .3)) (omega (arith, s .pre .2)) (sym (c .before .any-close .ensures) ∙ c .if1 .left) ∙ e)
+    let e : s .args .from + (s .args .to - s .args .from) ≡ s .args .to = omega (arith, s .pre .2) in
+    sym (none-close _ _ _ _ _ (s .args .kx) (s .args .ky .key) (s .args .from) (s .args .to - s .args .from) 16 (s .pre .1) (s .pre .5) (s .pre .0) (omega (arith, s .pre .3)) (omega (arith, s .pre .2)) (sym (c .before .any-close .ensures) ∙ c .if1 .left) ∙ e)
 
 pub find-listed-block-spec : {M : Type 1} → statement M
 find-listed-block-spec =

@@ -1,28 +1,38 @@
 -- `nodes::keys::SoughtKey::is_key_of` meets its contract.
-use mathlib.Core.Path.{sym, _∙_}
+use mathlib.Core.Path.{_≡_, sym, ap, _∙_, subst}
 use borrow.Author.Needs.{needs}
-use Rattle.nodes.proofs.KeyTests.{eq-bits}
+use lib.Dec.{T}
+use Rattle.nodes.proofs.KeyTests.{eq-bits, eqZ-yes}
 use Rattle.nodes.proofs.Rounding.{wider}
-use Rattle.nodes.proofs.Skip.{other}
+use Rattle.nodes.proofs.Monotone.{key-eq}
+use Rattle.nodes.proofs.Skip.{key-of, small, other}
 use Rattle.nodes.proofs.keys.SoughtKey.is_key_of.Statement.{statement}
 use Rattle.nodes.proofs.keys.SoughtKey.is_key_of.Tie as tie
+
+returns : tie.Need-returns
+returns c =
+    let s = c .before .before in
+    let a = s .args in
+    let w = s .pre .1 in
+    sym (eqZ-yes _ _ (key-of (a .self) w ∙ sym (key-eq (a .x) (a .self .own) (wider (a .x) (s .pre .0)) (wider (a .self .own) (w .ranged)) (subst T (sym (c .if1 .taken)) tt))))
 
 is-near-requires : tie.Need-is-near-requires
 is-near-requires c κs = search needs
 
 key-requires : tie.Need-key-requires
-key-requires c κs = let s = c .before .before in wider (s .args .x) (s .pre .0)
-
-returns : tie.Need-returns
-returns c =
-    let s = c .before .before .before .before .before in
-    let k = c .before .before .key in
-    eq-bits (k .result) (s .args .self .key) _ (k .ok) (s .pre .1 .small) (k .ensures .0)
+key-requires c κs = let s = c .before .before .before .before in wider (s .args .x) (s .pre .0)
 
 returns-2 : tie.Need-returns-2
 returns-2 c =
-    let s = c .before .before in
-    sym (other (s .args .self) (s .args .x) (s .pre .0) (s .pre .1) (sym (c .before .is-near .ensures) ∙ c .if1 .left))
+    let k = c .before .before in
+    let s = k .before .before .before .before .before in
+    eq-bits (k .key .result) (s .args .self .key) _ (k .key .ok) (small (s .args .self) (s .pre .1)) (k .key .ensures .0)
+
+returns-3 : tie.Need-returns-3
+returns-3 c =
+    let s = c .before .before .before .before in
+    sym (other (s .args .self) (s .args .x) (s .pre .0) (s .pre .1) (sym (c .before .is-near .ensures) ∙ c .if2 .left))
 
 pub is-key-of-spec : {M : Type 1} → statement M
-is-key-of-spec = tie.close (tie.spec is-near-requires key-requires returns returns-2)
+is-key-of-spec =
+    tie.close (tie.spec returns is-near-requires key-requires returns-2 returns-3)

@@ -1,0 +1,109 @@
+-- 01, Job blocks, program, and What is returned: one step of a run, from the bytes of a block to what is printed of it and what is kept. Definitions only.
+use Prim.Native.Nat.{ℕ, _+_, _*_, _/_, _%_, _≤_, _<_}
+use mathlib.Core.Path.{_≡_}
+use mathlib.Core.Bool.{true, false, _&&_, cond}
+use mathlib.Core.List.{List, []}
+use lib.ListN.{length, take, replicate}
+use lib.Dec.{eqb}
+use lib.IntN.{ℤ}
+use lib.Ieee.{Float}
+use Rattle.corner.specs.Limits.{delivered}
+use Rattle.nodes.specs.Flat.{over}
+use Rattle.cells.specs.Flat.{overCells}
+use Rattle.demand.specs.Lent.{Lent, divideLent}
+use Rattle.demand.specs.Divide.{Answer}
+use Rattle.blocks.proofs.Counts.{points}
+use Rattle.blocks.specs.declared.Block.{Block}
+use Rattle.blocks.specs.declared.Block.the-variants.{Ring, Chain, Refused}
+use Rattle.blocks.specs.Blocks.{readBlock}
+use Rattle.report.specs.Report.{Printed, refusedBlock}
+use Rattle.job.specs.declared.State.{State}
+use Rattle.job.specs.declared.Stepped.{Stepped}
+use Rattle.job.specs.Row.{rowText}
+
+-- what a step leaves: the state, the points of the ring that waits for its chain, in all 60 places, and the nodes; and the text that it prints
+pub record Step : Type 0 where
+  pub state : State
+  pub points : List ℤ
+  pub nodes : List Float
+  pub text : List ℕ
+
+-- the run ends, with this text as its last; "both lists keep what earlier rings left"
+abbrev pub closed : State → State
+closed s = record { block = s .block; count = s .count; size = s .size; used = s .used; ended = true }
+
+unfoldable pub ends : State → List ℤ → List Float → List ℕ → Step
+ends s ps l t = record { state = closed s; points = ps; nodes = l; text = t }
+
+-- a ring block: its ring waits for its chain, and nothing is printed yet
+unfoldable pub waits : State → List Float → ℕ → ℕ → List ℤ → Step
+waits s l count size qs = record { state = record { block = s .block + 1; count = count; size = size; used = s .used; ended = false }; points = qs; nodes = l; text = [] }
+
+-- "its cell list has 124 and starts empty for each ring": the places, four numbers each
+abbrev pub noCells : List ℕ
+noCells = replicate 496 0
+
+-- the call of the ring that waits, with its chain, over the run's node list
+abbrev pub lentBy : State → List ℤ → List Float → List ℤ → Lent
+lentBy s ps l chain = record { ring = take (s .count * 2) ps; chain = chain; size = s .size; nodes = l; nodeCount = s .used; cells = noCells; cellCount = 0 }
+
+-- a chain block: the ring that waits is divided, and its row printed. "ring number from 0, refused rings counted": two blocks a ring
+unfoldable pub divides : State → List ℤ → List Float → List ℤ → Step
+divides s ps l chain =
+    let a = divideLent delivered (lentBy s ps l chain) in
+    record {
+      state = record { block = s .block + 1; count = s .count; size = s .size; used = a .row .nodes; ended = false };
+      points = ps;
+      nodes = over l (a .nodes);
+      text = rowText (s .block / 2) (s .used) (a .row) (overCells noCells (a .cells));
+    }
+
+-- a block with the points qs, as it was read. "A block refusal ends the run with `block NUMBER refused CODE`"
+unfoldable pub taken : State → List ℤ → List Float → List ℤ → Block → Step
+taken s ps l qs (Ring count size) = waits s l count size qs
+taken s ps l qs (Chain count) = divides s ps l (take (count * 2) qs)
+taken s ps l qs (Refused code n) = ends s ps l (refusedBlock n code)
+
+-- the step over the bytes b of the next block: 512 of them, or what is left of the input, or none where it has ended. "part of a block, or the input ends after a
+-- ring block" is 9, with the number "of the missing chain block"; where the input ends after a chain block, or is empty, nothing is printed
+unfoldable pub stepOf : State → List ℤ → List Float → List ℕ → Step
+stepOf s ps l b =
+    let r = readBlock b (s .block) in
+    cond (eqb (s .block % 2) 0 && eqb (length b) 0) (ends s ps l []) (taken s ps l (r .points) (r .block))
+
+-- the code's step answered r, and left the points q, the nodes m, and the bytes u where t were
+pub record Steps (e : Step) (r : Stepped) (q : List ℤ) (m : List Float) (t u : List ℕ) : Type 0 where
+  pub state : r .state ≡ e .state
+  pub points : q ≡ e .points
+  pub nodes : m ≡ e .nodes
+  pub text : Printed true t (e .text) (r .count) u
+
+-- of an answer: that it is a refusal, no chain, no ring; and how many points it has
+abbrev pub Refusal : Block → Type 0
+Refusal (Ring count size) = ⊥
+Refusal (Chain count) = ⊥
+Refusal (Refused code n) = Unit {0}
+
+abbrev pub NoChain : Block → Type 0
+NoChain (Ring count size) = Unit {0}
+NoChain (Chain count) = ⊥
+NoChain (Refused code n) = Unit {0}
+
+abbrev pub NoRing : Block → Type 0
+NoRing (Ring count size) = ⊥
+NoRing (Chain count) = Unit {0}
+NoRing (Refused code n) = Unit {0}
+
+-- block number n was answered with a and the points qs: what its number and its two bytes allow
+pub record Answered (n : ℕ) (a : Block) (qs : List ℤ) : Type 0 where
+  pub even : n % 2 ≡ 0 → NoChain a
+  pub odd : n % 2 ≡ 1 → NoRing a
+  pub few : points a ≤ 60
+  pub places : length qs ≡ 120
+  pub number : (Refusal a → ⊥) → n < 65536
+
+-- a step can be made: the ring that waits has at most 60 points, in their places, and a text has room
+pub record CanStep (s : State) (ps : List ℤ) (t : List ℕ) : Type 0 where
+  pub few : s .count ≤ 60
+  pub long : length ps ≡ 120
+  pub room : 4096 ≤ length t

@@ -1,0 +1,217 @@
+// Job: a job's blocks, one step a block, from its bytes to the printed text. It stands above blocks, divider and report, and
+// below the run that reads and writes.
+//
+// specs/Run says what the program prints as one definition, `printed`, from the bytes that go in to those that come out. A
+// step is proved equal to the definition's: the state it answers, every double of the node list and every byte of the text.
+
+ghost use mathlib.Core.Path.{_≡_};
+ghost use mathlib.Core.Bool.{true, _&&_};
+ghost use mathlib.Core.List.{List};
+ghost use Prim.Native.Nat.{_*_, _%_, _≤_, _<_};
+ghost use lib.ListN.{length, take};
+ghost use lib.Dec.{eqb};
+ghost use lib.IntN.{ℤ};
+ghost use lib.Ieee.{Float};
+ghost use Rattle.report.specs.Report.{Printed};
+ghost use Rattle.job.specs.Row.{rowText, Shown};
+ghost use Rattle.job.specs.Step.{closed, divides, taken, stepOf, Refusal, Steps, Answered, CanStep};
+ghost use Rattle.job.specs.Run.{Bytes, start};
+use blocks::Block;
+use report::Divided;
+use table::Values;
+
+// The state between two blocks: the number of the next one; the count and the sheet size of the ring that waits for its chain,
+// where that number is odd; the nodes listed; and whether the run has ended. The ring's points stand beside it in a list that
+// the caller lends, 60 places, x and y in turn.
+pub struct State {
+    pub block: u32,
+    pub count: usize,
+    pub size: u32,
+    pub used: usize,
+    pub ended: bool,
+}
+
+// The state after a step, and how many bytes of text it printed.
+pub struct Stepped {
+    pub state: State,
+    pub count: usize,
+}
+
+impl State {
+    // Before the first block.
+    pub fn new() -> State
+        ensures { λ r. ⌜ r ≡ start ⌝ }
+    {
+        State {
+            block: 0,
+            count: 0,
+            size: 0,
+            used: 0,
+            ended: false,
+        }
+    }
+
+    // The same, with the run at its end.
+    fn closed(self) -> State
+        ensures { λ r. ⌜ r ≡ closed self ⌝ }
+    {
+        State {
+            block: self.block,
+            count: self.count,
+            size: self.size,
+            used: self.used,
+            ended: true,
+        }
+    }
+}
+
+// The lines of a ring's row.
+fn print_row(text: &mut [u8], ring: u64, used: usize, v: Values, cells: &[u16]) -> usize
+    requires { ⌜ Shown used v (now cells) × (length (now cells) ≤ 496) × (4096 ≤ length (now text)) ⌝ }
+    ensures { λ r. ⌜ Printed true (now (text .entry)) (rowText ring used v (now (cells .entry))) r (now (text .exit)) ⌝ }
+{
+    if v.code != 0 {
+        return report::print_refused_ring(text, ring, v.code, v.corners, v.k);
+    }
+    let row = Divided {
+        ring: ring,
+        corners: v.corners,
+        cuts: v.cuts,
+        turned: v.turned,
+        area: v.area,
+        nodes: v.nodes,
+        added: v.nodes - used as u64,
+    };
+    let end = v.cells as usize * 4;
+    report::print_ring(text, row, &cells[..end])
+}
+
+// Divides the ring that waits, with the first `run` points of a chain, over the node list and prints its row. The cell list
+// starts empty.
+fn divide_ring(
+    s: State,
+    ring: &[i32],
+    chain: &[i32],
+    run: usize,
+    nodes: &mut [f64],
+    text: &mut [u8],
+) -> Stepped
+    requires { ⌜ CanStep s (now ring) (now text) × (s .block < 65536) × (run ≤ 60) × (length (now chain) ≡ 120) ⌝ }
+    ensures { λ r. ⌜ Steps (divides s (now (ring .entry)) (now (nodes .entry)) (take (run * 2) (now (chain .entry)))) r (now (ring .entry)) (now (nodes .exit)) (now (text .entry)) (now (text .exit)) ⌝ }
+{
+    let end = s.count * 2;
+    let stop = run * 2;
+    let used = s.used;
+    let mut cells = [0u16; 496];
+    let v = Values::new(divider::divide(
+        &ring[..end],
+        &chain[..stop],
+        s.size,
+        nodes,
+        used,
+        &mut cells,
+        0,
+    ));
+    let count = print_row(text, (s.block / 2) as u64, used, v, &cells);
+    let next = s.block + 1;
+    let state = State {
+        block: next,
+        count: s.count,
+        size: s.size,
+        used: v.nodes as usize,
+        ended: false,
+    };
+    Stepped { state, count }
+}
+
+// The line of a refused block, which is the last.
+fn refuse(s: State, block: Block, text: &mut [u8]) -> Stepped
+    requires { ⌜ Refusal block × (4096 ≤ length (now text)) ⌝ }
+    ensures { λ r. ⌜ ((ps qs : List ℤ) (l : List Float) → Steps (taken s ps l qs block) r ps l (now (text .entry)) (now (text .exit))) ⌝ }
+{
+    let Block::Refused { code, block } = block else {
+        return Stepped { state: s, count: 0 };
+    };
+    let count = report::print_refused_block(text, block as u64, code as u64);
+    Stepped {
+        state: s.closed(),
+        count,
+    }
+}
+
+// Puts a ring's points in the places that are kept for it.
+fn keep(ring: &mut [i32], points: &[i32])
+    requires { ⌜ (length (now ring) ≡ 120) × (length (now points) ≡ 120) ⌝ }
+    ensures { λ _. ⌜ now (ring .exit) ≡ now (points .entry) ⌝ }
+{
+    for k in 0..120 {
+        ring[k] = points[k];
+    }
+}
+
+// A ring block: its ring waits for its chain.
+fn ring_block(s: State, head: Block, points: &[i32], ring: &mut [i32], text: &mut [u8]) -> Stepped
+    requires { ⌜ CanStep s (now ring) (now text) × Answered (s .block) head (now points) × (s .block % 2 ≡ 0) ⌝ }
+    ensures { λ r. ⌜ ((l : List Float) → Steps (taken s (now (ring .entry)) l (now (points .entry)) head) r (now (ring .exit)) l (now (text .entry)) (now (text .exit))) ⌝ }
+{
+    let Block::Ring { count, size } = head else {
+        return refuse(s, head, text);
+    };
+    keep(ring, points);
+    let state = State {
+        block: s.block + 1,
+        count,
+        size,
+        used: s.used,
+        ended: false,
+    };
+    Stepped { state, count: 0 }
+}
+
+// A chain block: the ring that waits is divided.
+fn chain_block(
+    s: State,
+    tail: Block,
+    points: &[i32],
+    ring: &[i32],
+    nodes: &mut [f64],
+    text: &mut [u8],
+) -> Stepped
+    requires { ⌜ CanStep s (now ring) (now text) × Answered (s .block) tail (now points) × (s .block % 2 ≡ 1) ⌝ }
+    ensures { λ r. ⌜ Steps (taken s (now (ring .entry)) (now (nodes .entry)) (now (points .entry)) tail) r (now (ring .entry)) (now (nodes .exit)) (now (text .entry)) (now (text .exit)) ⌝ }
+{
+    let Block::Chain { count } = tail else {
+        return refuse(s, tail, text);
+    };
+    divide_ring(s, ring, points, count, nodes, text)
+}
+
+// Whether the input has ended where a ring block would begin. After a ring block that is part of a block.
+fn at_end(block: u32, bytes: &[u8]) -> bool
+    ensures { λ r. ⌜ r ≡ (eqb (block % 2) 0 && eqb (length (now (bytes .entry))) 0) ⌝ }
+{
+    if block % 2 == 0 {
+        return bytes.len() == 0;
+    }
+    false
+}
+
+// One step: the bytes of the next block, or what is left of the input, or none where it has ended. That they are bytes is
+// for the caller's proof.
+pub fn step(s: State, bytes: &[u8], ring: &mut [i32], nodes: &mut [f64], text: &mut [u8]) -> Stepped
+    requires { ⌜ CanStep s (now ring) (now text) ⌝ }
+    ensures { λ r. ⌜ Steps (stepOf s (now (ring .entry)) (now (nodes .entry)) (now (bytes .entry))) r (now (ring .exit)) (now (nodes .exit)) (now (text .entry)) (now (text .exit)) × Bytes (now (bytes .entry)) ⌝ }
+{
+    if at_end(s.block, bytes) {
+        return Stepped {
+            state: s.closed(),
+            count: 0,
+        };
+    }
+    let reading = blocks::read_block(bytes, s.block);
+    let block = reading.block;
+    if s.block % 2 == 0 {
+        return ring_block(s, block, &reading.points, ring, text);
+    }
+    chain_block(s, block, &reading.points, ring, nodes, text)
+}

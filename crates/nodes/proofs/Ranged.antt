@@ -1,0 +1,82 @@
+-- Whether all numbers of a list are held, as a scan by blocks finds it out; and the same said of nodes, two numbers each.
+use Prim.Native.Nat.{ℕ, zero, suc, _+_, _-_, _*_, _≤_, _<_}
+use native.Mathlib.Decide.{decLe}
+use native.Mathlib.Omega.{arith}
+use mathlib.Core.Path.{_≡_, refl, sym, ap, _∙_, subst}
+use mathlib.Core.Bool.{Bool, true, false, not, _&&_, _||_, true≢false}
+use mathlib.Core.List.{List}
+use lib.IntN.{pos}
+use lib.Dec.{T}
+use lib.ListN.{getD}
+use lib.Ieee.{Float, nan, fin, le}
+use Rattle.laws.specs.Bounded.{any}
+use Rattle.laws.proofs.Booleans.{is-false}
+use Rattle.laws.proofs.Constants.{least-1024, most-1024}
+use Rattle.laws.proofs.Search.{any-none, any-hit}
+use Rattle.nodes.specs.Flat.{pointAt, held, allHeld}
+
+pub held-is : (x : Float) → (le (fin true 1 (pos 10)) x && le x (fin false 1 (pos 10))) ≡ held x
+unfolding held
+held-is x = sym (λ j. le (least-1024 j) x && le x (most-1024 j))
+
+-- the number in place i is not
+abbrev pub out : List Float → ℕ → Bool
+out l i = not (held (getD l i nan))
+
+pub none : (l : List Float) (n : ℕ) → any (out l) n ≡ false → true ≡ allHeld l n
+unfolding allHeld
+none l n e = sym (ap not e)
+
+pub one : (l : List Float) (i n : ℕ) → i < n → out l i ≡ true → false ≡ allHeld l n
+unfolding allHeld
+one l i n h e = sym (ap not (any-hit (out l) i n h e))
+
+-- ---- blocks
+some : (p : ℕ → Bool) (b d n : ℕ) → b + d ≤ n → any (λ j. p (b + j)) d ≡ true → any p n ≡ true
+unfolding any
+some p b zero n h e = absurd (true≢false (sym e))
+some p b (suc d) n h e = go (any (λ j. p (b + j)) d) (p (b + d)) (some p b d n (omega arith)) (any-hit p (b + d) n (omega arith)) e
+  where
+    go : (x y : Bool) → (x ≡ true → any p n ≡ true) → (y ≡ true → any p n ≡ true) → (x || y) ≡ true → any p n ≡ true
+    go true y u v w = u refl
+    go false y u v w = v w
+
+clear : (p : ℕ → Bool) (n : ℕ) → ((k : ℕ) → k < n → p k ≡ false) → any p n ≡ false
+unfolding any
+clear p zero h = refl
+clear p (suc n) h = λ j. clear p n (λ k l. h k (omega arith)) j || h n (omega arith) j
+
+low : (p : ℕ → Bool) (n k : ℕ) → any p n ≡ false → k < n → p k ≡ false
+low p n k e h = is-false _ (any-none p n (subst (λ (b : Bool). T (not b)) (sym e) tt) k h)
+
+-- one of the d numbers before place t is not held
+pub one-of : (l : List Float) (d t n : ℕ) → d ≤ t → t ≤ n → any (λ j. out l (t - d + j)) d ≡ true → false ≡ allHeld l n
+unfolding allHeld
+one-of l d t n h k e = sym (ap not (some (out l) (t - d) d n (omega arith) e))
+
+-- all of them are, and those before place i
+pub go-on : (l : List Float) (d i t : ℕ) → d ≤ t → t ≤ i + d → any (out l) i ≡ false → any (λ j. out l (t - d + j)) d ≡ false → any (out l) t ≡ false
+go-on l d i t h k a b = clear (out l) t (λ m q. go m q (decLe (suc m) i))
+  where
+    go : (m : ℕ) → m < t → Dec (m < i) → out l m ≡ false
+    go m q (yes y) = low (out l) i m a y
+    go m q (no z) =
+        let f : t - d + (m - (t - d)) ≡ m = omega (arith, q, h, k) in
+        subst (λ (u : ℕ). out l u ≡ false) f (low (λ j. out l (t - d + j)) d (m - (t - d)) b (omega (arith, q, h)))
+
+-- ---- nodes
+both : (a b c : Bool) → (c || not (a && b)) ≡ ((c || not a) || not b)
+both a b true = refl
+both true b false = refl
+both false b false = refl
+
+pub pairs : (l : List Float) (n : ℕ) → any (λ i. not (held (pointAt l i .x) && held (pointAt l i .y))) n ≡ any (out l) (n * 2)
+unfolding any
+pairs l zero = refl
+pairs l (suc n) =
+    let e : suc n * 2 ≡ suc (suc (n * 2)) = omega arith in
+    let f : n * 2 + 1 ≡ suc (n * 2) = omega arith in
+    (λ j. pairs l n j || not (held (pointAt l n .x) && held (pointAt l n .y)))
+    ∙ both (held (pointAt l n .x)) (held (pointAt l n .y)) (any (out l) (n * 2))
+    ∙ (λ j. (any (out l) (n * 2) || out l (n * 2)) || out l (f j))
+    ∙ ap (any (out l)) (sym e)

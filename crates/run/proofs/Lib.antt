@@ -1,0 +1,2 @@
+-- What is proved of the loop of a run.
+pub mod Reaching

@@ -1,0 +1,2 @@
+-- What a run has reached, owes and has finished.
+pub mod Reached

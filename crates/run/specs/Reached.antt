@@ -1,0 +1,43 @@
+-- The loop of a run: what holds between two blocks, and when it has ended. Of what was read and written no contract can speak, so the input stands for the bytes that
+-- the loop stepped over, one block after the other, and what was written for its length.
+use Prim.Native.Nat.{ℕ, _*_, _≤_}
+use mathlib.Core.Path.{_≡_}
+use mathlib.Core.Bool.{true, false}
+use mathlib.Core.List.{List}
+use lib.ListN.{length}
+use lib.IntN.{ℤ}
+use lib.Ieee.{Float}
+use Rattle.job.specs.declared.State.{State}
+use Rattle.job.specs.Step.{stepOf}
+use Rattle.job.specs.Run.{Bytes, ran, readTo, printed}
+
+-- the state, the ring that waits, the nodes and the count of bytes written were reached by the first blocks of an input
+pub record Reached (s : State) (ps : List ℤ) (l : List Float) (sent : ℕ) : Type 0 where
+  pub input : List ℕ
+  pub blocks : ℕ
+  pub state : s ≡ ran (readTo input blocks) .state
+  pub points : ps ≡ ran (readTo input blocks) .points
+  pub nodes : l ≡ ran (readTo input blocks) .nodes
+  pub text : sent ≡ length (ran (readTo input blocks) .text)
+  -- these are bytes; and while the run goes on, all of the blocks were whole
+  pub bytes : Bytes input
+  pub whole : s .ended ≡ false → length input ≡ 512 * blocks
+  -- no text is longer than 4,096 bytes
+  pub bound : sent ≤ 4096 * blocks
+
+-- t is the text that the run owes after `sent` bytes: that of one more block, in a run that has not ended
+pub record Owed (sent : ℕ) (t : List ℕ) : Type 0 where
+  pub state : State
+  pub points : List ℤ
+  pub nodes : List Float
+  pub block : List ℕ
+  pub reached : Reached state points nodes sent
+  pub going : state .ended ≡ false
+  pub text : t ≡ stepOf state points nodes block .text
+  pub short : length t ≤ 4096
+
+-- the run of an input has ended, and all that is printed of it was written
+pub record Finished (sent : ℕ) : Type 0 where
+  pub input : List ℕ
+  pub bytes : Bytes input
+  pub all : sent ≡ length (printed input)

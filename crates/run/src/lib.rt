@@ -1,0 +1,115 @@
+// Run: a job from one descriptor to another: reads a block, steps, writes the step's text, until the run has ended. It stands
+// above job, and below the programs.
+//
+// What an operating system call read or wrote has no contract. All else has: the loop's invariant is that the state, the node
+// list and the count of bytes written were reached by the bytes read so far, and a run that ends has written `printed` of
+// them. Left to the code's few lines is that the bytes stepped over are those that `libc::read` gave, and that `send` hands
+// the text to `io::write_all` once.
+
+ghost use mathlib.Core.Path.{_≡_};
+ghost use mathlib.Core.Bool.{false, not};
+ghost use Prim.Native.Nat.{_+_, _≤_, _<_};
+ghost use lib.ListN.{length};
+ghost use Rattle.run.specs.Reached.{Owed, Finished};
+use job::State;
+
+// How many bytes were written in all; and whether writing has failed, in which case some of the last text may be written too.
+pub struct Sent {
+    pub bytes: u64,
+    pub failed: bool,
+}
+
+// How much of a block there is after a failed read: part of one, so one byte at least.
+fn part_of(done: usize) -> usize
+    requires { ⌜ done < 512 ⌝ }
+    ensures { λ r. ⌜ (0 < r) × (r < 512) ⌝ }
+{
+    if done == 0 {
+        return 1;
+    }
+    done
+}
+
+// Reads until the block is full or the input ends, and answers how many bytes there are.
+fn read_block(input: i32, bytes: &mut [u8]) -> usize
+    requires { ⌜ length (now bytes) ≡ 512 ⌝ }
+    ensures { λ r. ⌜ r ≤ 512 ⌝ }
+{
+    let mut done: usize = 0;
+    while done < 512 {
+        let got = libc::read(input, &mut bytes[done..]);
+        if got < 0 {
+            return part_of(done);
+        }
+        let more = io::count(got, &bytes[done..]);
+        if more == 0 {
+            return done;
+        }
+        done += more;
+    }
+    done
+}
+
+// Writes all of a text, or stops at the first write that fails or takes nothing. The kit's own would keep 4,096 bytes more.
+pub fn write_all(output: i32, text: &[u8]) -> bool {
+    let mut done: usize = 0;
+    while done < text.len() {
+        let more = io::count(libc::write(output, &text[done..]), &text[done..]);
+        if more == 0 {
+            return false;
+        }
+        done += more;
+    }
+    true
+}
+
+// Writes the text that is owed after `sent` bytes.
+fn send(output: i32, text: &[u8], sent: u64) -> Sent
+    requires { ⌜ Owed sent (now text) ⌝ }
+    ensures { λ r. ⌜ (r .failed ≡ false → r .bytes ≡ sent + length (now (text .entry))) ⌝ }
+{
+    if write_all(output, text) {
+        return Sent {
+            bytes: sent + text.len() as u64,
+            failed: false,
+        };
+    }
+    Sent {
+        bytes: sent,
+        failed: true,
+    }
+}
+
+// Whether there is a block to read: until the run has ended, and no longer.
+fn goes_on(s: State) -> bool
+    ensures { λ r. ⌜ r ≡ not (s .ended) ⌝ }
+{
+    !s.ended
+}
+
+// The whole run. It ends early only where writing fails.
+pub fn run(input: i32, output: i32) -> Sent
+    ensures { λ r. ⌜ (r .failed ≡ false → Finished (r .bytes)) ⌝ }
+{
+    let mut ring = [0i32; 120];
+    let mut nodes = [0.0f64; 3072];
+    let mut bytes = [0u8; 512];
+    let mut text = [0u8; 4096];
+    let mut s = State::new();
+    let mut sent: u64 = 0;
+    while goes_on(s) {
+        let got = read_block(input, &mut bytes);
+        let stepped = job::step(s, &bytes[..got], &mut ring, &mut nodes, &mut text);
+        let n = stepped.count;
+        let out = send(output, &text[..n], sent);
+        if out.failed {
+            return out;
+        }
+        sent = out.bytes;
+        s = stepped.state;
+    }
+    Sent {
+        bytes: sent,
+        failed: false,
+    }
+}

@@ -1,0 +1,91 @@
+-- One name for the `unfolding` line of a trial: it opens every definition of 01, from the doubles' operations up to the program's run.
+use lib.Ieee as Ieee
+use Rattle.laws.specs.Double as Double
+use Rattle.laws.specs.Bounded as Bounded
+use Rattle.laws.specs.Units as Units
+use Rattle.vector.specs.Grid as Grid
+use Rattle.vector.specs.Plane as Plane
+use Rattle.root.specs.Root as Root
+use Rattle.root.specs.Norm as Norm
+use Rattle.chain.specs.Cosine as Cosine
+use Rattle.chain.specs.Chain as Chain
+use Rattle.clean.specs.Clean as Clean
+use Rattle.simple.specs.Simple as Simple
+use Rattle.marks.specs.Marks as Marks
+use Rattle.corner.specs.Corner as Corner
+use Rattle.diagonal.specs.Diagonal as Diagonal
+use Rattle.split.specs.Cut as Cut
+use Rattle.split.specs.Split as Split
+use Rattle.nodes.specs.Nodes as Nodes
+use Rattle.cells.specs.Cells as Cells
+use Rattle.cells.specs.Pieces as Pieces
+use Rattle.demand.specs.Call as Call
+use Rattle.demand.specs.Divide as Divide
+use Rattle.demand.specs.Lent as Lent
+use Rattle.laws.specs.Table as Table
+use Rattle.cells.specs.Flat as CellsFlat
+use Rattle.nodes.specs.Flat as NodesFlat
+use Rattle.blocks.specs.Fields as Fields
+use Rattle.blocks.specs.Blocks as Blocks
+use Rattle.report.specs.Text as Text
+use Rattle.report.specs.Report as Report
+use Rattle.job.specs.Row as JobRow
+use Rattle.job.specs.Step as Step
+use Rattle.job.specs.Run as Run
+
+unfoldable pub in-doubles : Unit {0}
+unfolding Ieee.add Ieee.sub Ieee.mul Ieee.div Ieee.lt Ieee.le Ieee.ofInt Ieee.round Ieee.size Ieee.units Ieee.toBits Ieee.ofBits Double.lit Double.clamp Bounded.any Bounded.parity Bounded.first
+in-doubles = tt
+
+unfoldable pub in-vector : Unit {0}
+unfolding Grid.sub Grid.dot Grid.cross Grid.same Grid.at Grid.prev Grid.term Grid.areaTo Grid.polygonArea Units.mm Units.mm² Plane.inMm Plane.sub Plane.dot Plane.cross Plane.lerp
+in-vector = tt
+
+unfoldable pub in-root : Unit {0}
+unfolding Root.wholeRoot Root.nearestRoot Root.dropped Root.roundRoot Root.rootOf Root.rootBits Norm.norm Norm.dist Norm.gridNorm Norm.gridDist
+in-root = tt
+
+unfoldable pub in-chain : Unit {0}
+unfolding Cosine.cosine Chain.arc Chain.stays Chain.lastKept Chain.pointAtArclength Chain.stretch Chain.stretchesTo Chain.simplifyChain
+in-chain = tt
+
+unfoldable pub in-clean : Unit {0}
+unfolding Clean.tolerance Clean.near Clean.spaced Clean.opened Clean.pointSegmentDistance Clean.flat Clean.bent Clean.straightened Clean.pass Clean.passes Clean.cleanPolygon
+in-clean = tt
+
+unfoldable pub in-simple : Unit {0}
+unfolding Simple.interior Simple.ratio Simple.segmentsCross Simple.edgesCross Simple.polygonSimple Simple.rayMeets Simple.meetsEdge Simple.pointInPolygon
+in-simple = tt
+
+unfoldable pub in-marks : Unit {0}
+unfolding Marks.joins Marks.mark Marks.marksTo Marks.marked
+in-marks = tt
+
+unfoldable pub in-corner : Unit {0}
+unfolding Corner.quotient Corner.byQuadrant Corner.measure Corner.bad Corner.measureAt Corner.worstTo Corner.worst
+in-corner = tt
+
+unfoldable pub in-diagonal : Unit {0}
+unfolding Diagonal.inRange Diagonal.clearOf Diagonal.blocks Diagonal.cosineNext Diagonal.cosinePrev Diagonal.meetsRule Diagonal.larger Diagonal.score Diagonal.better Diagonal.bestTo
+in-diagonal = tt
+
+unfoldable pub in-split : Unit {0}
+unfolding Cut.oriented Cut.makeSubPolygon Cut.turnedArea Cut.firstPart Cut.secondPart Cut.turnedIn Split.splitPolygonAt Split.cutAt Split.pop Split.pops Split.splitBadVertices
+in-split = tt
+
+unfoldable pub in-cells : Unit {0}
+unfolding Nodes.rounded Nodes.key Nodes.hasKey Nodes.number Nodes.addNode Nodes.addNodes Cells.middle Cells.tooFar Cells.edgeMiddle Cells.total Cells.mean Cells.turnsLeft Cells.quadPositive Cells.allDistinct Cells.holds Cells.cellsTo Cells.attempt Cells.subdivide Pieces.onward Pieces.piecesTo
+in-cells = tt
+
+unfoldable pub in-divider : Unit {0}
+unfolding Call.countsOut Call.outside Call.anyOutside Call.unitsOut Call.held Call.usable Call.listsOut Call.roomOut Divide.refused Divide.answered Divide.core Divide.divide
+in-divider = tt
+
+-- the program: blocks, the call over lent lists, the printed lines, and the run
+unfoldable pub in-program : Unit {0}
+unfolding Table.tab Fields.pair Fields.word Fields.signed Fields.coordinate Fields.checkTo Fields.anyUsed Blocks.headWrong Blocks.sizeWrong Blocks.unusedWrong Blocks.refusal Blocks.refusedBlock Blocks.acceptedBlock Blocks.readBlock NodesFlat.nodesIn CellsFlat.overCells Lent.divideLent Text.bytes Text.digits Text.decimal Text.marks Text.part Text.filledTo Text.filled Report.hundredths Report.ringLine Report.nodesLine Report.quadLine Report.quadLines Report.ringText Report.refusedRing Report.refusedBlock JobRow.rowText Step.ends Step.waits Step.divides Step.taken Step.stepOf Run.onward Run.ran Run.readTo Run.printed
+in-program = tt
+
+unfoldable pub computing : Unit {0}
+unfolding in-program in-doubles in-vector in-root in-chain in-clean in-simple in-marks in-corner in-diagonal in-split in-cells in-divider
+computing = tt
