@@ -3,7 +3,7 @@
 use std::hint::black_box;
 use std::time::Instant;
 
-#[link(name = "root", kind = "static")]
+#[link(name = "exports", kind = "static")]
 extern "C" {
     fn ring_root_bits(b: u64) -> u64;
 }

@@ -1,20 +1,31 @@
-/* The ring divider as a static library: libdivider.a, made by `rt staticlib divider`.
+/* The ring divider as a static library: libexports.a, made by `rt staticlib exports`.
  *
- * Every call is answered, whatever it is handed, and returns a row of the table: code 0 for a divided ring, or the
- * number of the refusal. Nothing is allocated, and nothing but the two lists is written.
+ * Every call is answered, whatever it is handed. Nothing is allocated, and nothing is written but the lists that a call is
+ * lent. Lengths count numbers; the lists of a call may not overlap, and one of length 0 may be any aligned pointer that is not
+ * null.
  *
- *   ring, chain   coordinates in units of 1/8192 mm, x and y in turn; the lengths count numbers, two a point
+ * ring_divide divides a ring and returns a row of the table: code 0 for a divided ring, or the number of the refusal.
+ *
+ *   ring, chain   coordinates in units of 1/8192 mm, x and y in turn, two numbers a point
  *   size          sheet size in whole mm, 1 to 2,048
  *   nodes         the node list, x and y in mm in turn; node_count of its places are used
  *   cells         the cell list, four node numbers a cell; cell_count of its places are used
  *
  * With code 0 the new nodes and cells follow the used ones; 1 to 7 leave all as found; 8 leaves its new nodes and zeros
  * the cell places that the ring had reserved. The row has both counts as they are afterwards: hand them to the next call.
- * Lists may not overlap. A list of length 0 may be any aligned pointer that is not null.
+ *
+ * blocks_write saves a ring and its chain as the two blocks that the program `divide` takes. It fills the first
+ * BLOCKS_WRITE_BYTES bytes of out, the ring's block with the given number, which is even and at most 65,534, and the chain's
+ * with the next; the bytes after them stay. It answers 0, or leaves all as found and answers 1 (ring or chain count), 2
+ * (coordinate or sheet size) or 12 (out too short, or the number), the first of them in this order. A ring that crosses itself or
+ * runs clockwise is written: it is refused when it is divided.
+ *
+ * ring_root_bits answers the bits of the square root of the double with the given bits, nearest, 7FF8000000000000 for a NaN
+ * and for what is below zero.
  *
  * What the library takes:
  *
- *   stack      RING_DIVIDE_STACK bytes a call, as read from the compiled code by embed/stack (no function calls itself);
+ *   stack      NAME_STACK bytes a call of NAME, as read from the compiled code by embed/stack (no function calls itself);
  *              what memcpy and memset take comes on top
  *   functions  memcpy and memset, and no other
  *   data       none that is written, so it is re-entrant: calls on other lists may run at the same time or interrupt one another
@@ -33,7 +44,11 @@
 extern "C" {
 #endif
 
-#define RING_DIVIDE_STACK 17152
+#define RING_DIVIDE_STACK 18472
+#define BLOCKS_WRITE_STACK 40
+#define RING_ROOT_BITS_STACK 8
+
+#define BLOCKS_WRITE_BYTES 1024
 
 struct ring_row {
     uint64_t code;    /* 0, or the refusal 1 to 8 */
@@ -53,6 +68,13 @@ struct ring_row ring_divide(const int32_t *ring, size_t ring_len,
                             uint32_t size,
                             double *nodes, size_t nodes_len, size_t node_count,
                             uint16_t *cells, size_t cells_len, size_t cell_count);
+
+uint64_t blocks_write(const int32_t *ring, size_t ring_len,
+                      const int32_t *chain, size_t chain_len,
+                      uint32_t size, uint32_t number,
+                      uint8_t *out, size_t out_len);
+
+uint64_t ring_root_bits(uint64_t bits);
 
 #ifdef __cplusplus
 }

@@ -3,6 +3,8 @@
 //!
 //! compare blocks < BLOCKS   each ring on an empty list, and all on one list
 //! compare calls < CALLS     calls over prefilled lists
+//! compare writes < BLOCKS   each ring saved by the writer, and wrong numbers and rooms
+//! compare desk FILE         the supplied calls of the writer
 //! compare details FOLDER    the detailed forms of a folder of vectors
 //! compare time < BLOCKS     both sides on the same rings
 //! compare scan              the square on lists with many used nodes
@@ -14,6 +16,10 @@ mod blocks;
 #[allow(dead_code)]
 mod call;
 mod calls;
+#[allow(dead_code)]
+mod desk;
+#[allow(dead_code)]
+mod emit;
 #[allow(dead_code)]
 mod forms;
 mod job;
@@ -33,7 +39,7 @@ use blocks::Jobs;
 use call::NodeList;
 use forms::{CELL_PLACES, NODE_PLACES};
 use job::Job;
-use library::{compared, node_image, refused, whole};
+use library::{compared, node_image, refused, whole, written};
 use std::io::Read;
 
 /// Differences shown before the rest are only counted.
@@ -76,12 +82,14 @@ fn main() {
     match words.as_slice() {
         ["blocks"] => over_blocks(&input()),
         ["calls"] => over_calls(&String::from_utf8(input()).expect("calls are text")),
+        ["writes"] => over_writes(&input()),
+        ["desk", file] => over_desk(file),
         ["details", folder] => over_details(folder),
         ["time"] => print!("{}", sides::times(&input())),
         ["scan"] => print!("{}", sides::scan()),
         ["memory"] => print!("{}", memory::peaks(&input())),
         _ => {
-            eprintln!("use: compare blocks|calls|time|memory < INPUT, details FOLDER, or scan");
+            eprintln!("use: compare blocks|calls|writes|time|memory < INPUT, desk FILE, details FOLDER, or scan");
             std::process::exit(2)
         }
     }
@@ -145,6 +153,56 @@ fn over_calls(text: &str) -> ! {
             let result = compared(&call.job, &mut list, &mut image, places, count, odd);
             tally.add(&format!("list {list_number}"), &call.job, result);
         }
+    }
+    tally.end()
+}
+
+/// Each ring of the input through the writer: with its own number the bytes of
+/// the input come back; with wrong numbers and rooms nothing is written.
+fn over_writes(bytes: &[u8]) -> ! {
+    let mut tally = Tally::default();
+    for (number, job) in Jobs::new(bytes).flatten().enumerate() {
+        let at = 2 * number as u32;
+        let name = format!("ring {number} written");
+        let (ring, chain) = (numbers(&job.ring), numbers(&job.chain));
+        let back = written(&ring, &chain, job.size, at, 1_024 + number % 3 * 40).and_then(|pair| {
+            let own = &bytes[1_024 * number..1_024 * (number + 1)];
+            if pair.is_empty() || pair == own {
+                Ok(())
+            } else {
+                Err("not the bytes that were read".into())
+            }
+        });
+        tally.add(&name, &job, back);
+        for (n, room) in [
+            (at + 1, 1_024),
+            (at, 1_023),
+            (65_534, 1_024),
+            (65_535, 1_024),
+            (65_536, 1_024),
+            (u32::MAX - 1, 2_000),
+            (at, 0),
+        ] {
+            tally.add(&name, &job, written(&ring, &chain, job.size, n, room));
+        }
+        for size in [0, 1, 2_048, 2_049, 65_536, u32::MAX] {
+            tally.add(&name, &job, written(&ring, &chain, size, at, 1_030));
+        }
+        let short = ring.len().saturating_sub(1);
+        tally.add(&name, &job, written(&ring[..short], &chain, job.size, 1, 0));
+    }
+    tally.end()
+}
+
+fn numbers(points: &[[i32; 2]]) -> Vec<i32> {
+    points.iter().flatten().copied().collect()
+}
+
+fn over_desk(file: &str) -> ! {
+    let mut tally = Tally::default();
+    for (number, c) in desk::cases(file).iter().enumerate() {
+        let result = written(&c.ring, &c.chain, c.size, c.number, c.room);
+        tally.add(&format!("case {number}"), &Job::default(), result);
     }
     tally.end()
 }

@@ -1,6 +1,8 @@
-//! A call of the exported divider over guarded lists, compared with the Rust.
+//! A call of the exported divider over guarded lists, compared with the Rust;
+//! and a call of the exported writer, compared with our own writing of blocks.
 
 use crate::call::{Answer, Cell, NodeList, UNTOUCHED};
+use crate::desk::answer;
 use crate::forms::run;
 use crate::job::Job;
 
@@ -34,6 +36,17 @@ extern "C" {
         cells_len: usize,
         cell_count: usize,
     ) -> Returned;
+
+    fn blocks_write(
+        ring: *const i32,
+        ring_len: usize,
+        chain: *const i32,
+        chain_len: usize,
+        size: u32,
+        number: u32,
+        out: *mut u8,
+        out_len: usize,
+    ) -> u64;
 }
 
 impl From<&Answer> for Returned {
@@ -226,4 +239,41 @@ pub fn refused(
         &cells_before.numbers,
         u64::from,
     )
+}
+
+/// A call of the writer, twice, over a destination of `room` bytes and over one
+/// with every bit turned: its answer, each byte, and the guards. Answers the
+/// pair, or nothing where it is refused.
+pub fn written(
+    ring: &[i32],
+    chain: &[i32],
+    size: u32,
+    number: u32,
+    room: usize,
+) -> Result<Vec<u8>, String> {
+    let (code, pair) = answer(ring, chain, size, number, room);
+    for turned in [0, 255] {
+        let filler = |place: usize| (place as u8).wrapping_mul(37).wrapping_add(91) ^ turned;
+        let mut out = Guarded::new(room, filler);
+        let mut expected = out.clone();
+        expected.list()[..pair.len()].copy_from_slice(&pair);
+        // Each pointer comes with the length of its own list, which outlives the call.
+        let returned = unsafe {
+            blocks_write(
+                ring.as_ptr(),
+                ring.len(),
+                chain.as_ptr(),
+                chain.len(),
+                size,
+                number,
+                out.list().as_mut_ptr(),
+                room,
+            )
+        };
+        if returned != u64::from(code) {
+            return Err(format!("answered {returned}, wanted {code}"));
+        }
+        same("byte", &out.numbers, &expected.numbers, u64::from)?;
+    }
+    Ok(pair)
 }

@@ -4,6 +4,7 @@
 //! record rings NUMBER.. < BLOCKS   these rings, or all, each on an empty list
 //! record calls < CALLS             calls over prefilled lists
 //! record blocks FILE..             every block of these files, up to the first refusal
+//! record pairs FILE                the calls of the writer in FILE.cases, answered as FILE.expect says
 //!
 //! 1 PLACES USED, then for each used node (PLACES at most) four words: x, y
 //! 2 SIZE CELL_NUMBERS CELL_COUNT RING_NUMBERS CHAIN_NUMBERS, the coordinates,
@@ -12,12 +13,17 @@
 //!   the first cell number that is written, how many, and a word for each
 //! 3 NUMBER LENGTH, a word for each byte, code, and if it is 0 kind, count,
 //!   size and the 120 coordinates
+//! 4 SIZE NUMBER ROOM RING_NUMBERS CHAIN_NUMBERS, the coordinates, code, and
+//!   the count of words that are written, and each
 
 #[allow(dead_code)]
 mod blocks;
 #[allow(dead_code)]
 mod call;
 mod calls;
+mod desk;
+#[allow(dead_code)]
+mod emit;
 #[allow(dead_code)]
 mod forms;
 #[allow(dead_code)]
@@ -113,6 +119,21 @@ impl Words {
         self.put(code.into());
     }
 
+    fn pair(&mut self, case: &desk::Case) {
+        self.put(4);
+        self.put(case.size);
+        self.put(case.number);
+        self.count(case.room);
+        self.count(case.ring.len());
+        self.count(case.chain.len());
+        for x in case.ring.iter().chain(&case.chain) {
+            self.put(*x as u32);
+        }
+        self.put(case.code);
+        self.count(case.written.len() / 4);
+        self.0.extend(&case.written);
+    }
+
     fn points(&mut self, kind: u32, points: &[[i32; 2]], size: u32) {
         self.put(kind);
         self.count(points.len());
@@ -204,8 +225,13 @@ fn main() {
                 file(&mut words, &std::fs::read(path).expect("a file of blocks"));
             }
         }
+        Some("pairs") => {
+            for path in &arguments[1..] {
+                desk::cases(path).iter().for_each(|case| words.pair(case));
+            }
+        }
         _ => {
-            eprintln!("use: record rings [NUMBER..]|calls < INPUT | record blocks FILE..");
+            eprintln!("use: record rings [NUMBER..]|calls < INPUT | record blocks FILE.. | record pairs FILE");
             std::process::exit(2)
         }
     }

@@ -24,7 +24,6 @@ use marks::MarkedRing;
 use nodes::NodeNumber;
 use pieces::Subdivision;
 use table::Answer;
-use table::Values;
 use vector::GridPoint;
 
 // Refusals 5 to 7 of the cleaned ring of the first n points, or 0.
@@ -228,22 +227,4 @@ pub fn divide(
     };
     let limits = Limits::new();
     divide_with(limits, ring, chain, size, nodes, node_count, cells, room)
-}
-
-// The same for other languages. A slice arrives as its address and its length.
-#[no_mangle]
-pub extern "C" fn ring_divide(
-    ring: &[i32],
-    chain: &[i32],
-    size: u32,
-    nodes: &mut [f64],
-    node_count: usize,
-    cells: &mut [NodeNumber],
-    cell_count: usize,
-) -> Values
-    ensures { λ v. ⌜ Promise delivered (record { ring = now (ring .entry); chain = now (chain .entry); size = size; nodes = now (nodes .entry); nodeCount = «node_count»; cells = now (cells .entry); cellCount = «cell_count» })
-        v (now (nodes .exit)) (now (cells .exit)) ⌝ }
-{
-    let a = divide(ring, chain, size, nodes, node_count, cells, cell_count);
-    Values::new(a)
 }

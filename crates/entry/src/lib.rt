@@ -22,7 +22,7 @@ use nodes::MOST_PLACES;
 use vector::GridPoint;
 
 // 1: a count that is odd, or out of limits. Of the ring's numbers and the chain's, two a point.
-fn counts_out(ring: usize, chain: usize) -> bool
+pub fn counts_out(ring: usize, chain: usize) -> bool
     ensures { λ r. ⌜ r ≡ (not (eqb (ring % 2) 0) || not (eqb (chain % 2) 0) || Call.countsOut (ring / 2) (chain / 2)) ⌝ }
 {
     if ring % 2 != 0 {
@@ -75,7 +75,7 @@ fn any_outside(l: &[i32]) -> bool
 }
 
 // 2: a coordinate or the sheet size.
-fn units_out(ring: &[i32], chain: &[i32], size: u32) -> bool
+pub fn units_out(ring: &[i32], chain: &[i32], size: u32) -> bool
     ensures { λ r. ⌜ r ≡ Call.unitsOut (pointsIn (now (ring .entry)) (length (now (ring .entry)) / 2)) (pointsIn (now (chain .entry)) (length (now (chain .entry)) / 2)) size ⌝ }
 {
     if any_outside(ring) {

@@ -1,6 +1,7 @@
 // Replay: runs the fixed lists of data/, calls and blocks with what the original Rust answers, and compares every returned
-// value, every node bit, every cell place and every byte read. docs/REPLAY.md has the form of the lists.
+// value, every node bit, every cell place, every byte read and every byte written. docs/REPLAY.md has the form of the lists.
 
+mod pairs;
 mod same;
 mod words;
 
@@ -98,7 +99,7 @@ fn compared(
     let used = s.used;
     let mut before = [0.0f64; 3072];
     words::copy(nodes, &mut before);
-    let v = divider::ring_divide(ring, chain, size, nodes, used, cells, cell_count);
+    let v = exports::ring_divide(ring, chain, size, nodes, used, cells, cell_count);
     let row = same::same_row(fd, v);
     let listed = same::same_nodes(fd, nodes, &before, words::doubled(used));
     let laid = same::same_cells(fd, cells);
@@ -118,6 +119,32 @@ fn replay_block(fd: i32, s: State) -> State {
     s.ran(same, used)
 }
 
+fn replay_pair(fd: i32, s: State) -> State {
+    let size = words::word(fd);
+    let number = words::word(fd);
+    let room = words::count(fd);
+    let r = words::count(fd);
+    let c = words::count(fd);
+    let mut ring = [0i32; 520];
+    let mut chain = [0i32; 520];
+    words::read_numbers(fd, &mut ring, r);
+    words::read_numbers(fd, &mut chain, c);
+    let used = s.used;
+    if 520 < r {
+        return s.ran(false, used);
+    }
+    if 520 < c {
+        return s.ran(false, used);
+    }
+    if 1536 < room {
+        return s.ran(false, used);
+    }
+    let mut out = [0u8; 1536];
+    pairs::fill(&mut out);
+    let code = exports::blocks_write(&ring[..r], &chain[..c], size, number, &mut out[..room]);
+    s.ran(pairs::same_pair(fd, code, &out), used)
+}
+
 fn step(fd: i32, kind: u32, nodes: &mut [f64], s: State) -> State {
     if kind == 1 {
         return replay_list(fd, nodes, s);
@@ -127,6 +154,9 @@ fn step(fd: i32, kind: u32, nodes: &mut [f64], s: State) -> State {
     }
     if kind == 3 {
         return replay_block(fd, s);
+    }
+    if kind == 4 {
+        return replay_pair(fd, s);
     }
     let used = s.used;
     s.ran(false, used)
@@ -184,5 +214,6 @@ fn main() {
     let rings = file(b"rings.list");
     let calls = file(b"calls.list");
     let read = file(b"blocks.list");
-    print(b"total", plus(plus(rings, calls), read));
+    let written = file(b"pairs.list");
+    print(b"total", plus(plus(plus(rings, calls), read), written));
 }

@@ -157,12 +157,3 @@ pub fn grid_dist_at_most(a: GridPoint, b: GridPoint, t: f64) -> bool
     let v = a.sub(b);
     root_at_most(vector::square_mm(v.dot(v)), t)
 }
-
-// For C and Rust to call (`bench/root` runs it beside the processor's own): over bit patterns, since a NaN that crosses as
-// a double has bits that no promise names.
-#[no_mangle]
-pub extern "C" fn ring_root_bits(b: u64) -> u64
-    ensures { λ r. ⌜ r ≡ rootBits b ⌝ }
-{
-    root_bits(b)
-}

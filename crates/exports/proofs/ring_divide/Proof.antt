@@ -1,7 +1,7 @@
--- `ring_divide` keeps the promise of `divide`. Assumes nothing.
+-- `ring_divide` has the promise of `divide`. Assumes nothing.
 use borrow.Author.Needs.{needs}
-use Rattle.divider.proofs.ring_divide.Statement.{statement}
-use Rattle.divider.proofs.ring_divide.Tie as tie
+use Rattle.exports.proofs.ring_divide.Statement.{statement}
+use Rattle.exports.proofs.ring_divide.Tie as tie
 
 divide-requires : tie.Need-divide-requires
 divide-requires c κs = search needs

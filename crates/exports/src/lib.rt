@@ -1,0 +1,54 @@
+// Exports: the functions that programs in other languages call, in one static library (`rt staticlib exports`, embed/).
+//
+// It stands at the top. Each function is thin over the crate that does the work and has its promise word for word. A slice
+// arrives as its address and its length, a struct comes back by value. Nothing is asked of a caller.
+
+ghost use mathlib.Core.Path.{_≡_};
+ghost use lib.ListN.{length};
+ghost use Rattle.root.specs.Root.{rootBits};
+ghost use Rattle.corner.specs.Limits.{delivered};
+ghost use Rattle.divider.specs.Promise.{Promise};
+ghost use Rattle.writer.specs.Write as Write;
+use nodes::NodeNumber;
+use table::Values;
+
+// The divider call: one row of the table, and the two lists as it says.
+#[no_mangle]
+pub extern "C" fn ring_divide(
+    ring: &[i32],
+    chain: &[i32],
+    size: u32,
+    nodes: &mut [f64],
+    node_count: usize,
+    cells: &mut [NodeNumber],
+    cell_count: usize,
+) -> Values
+    ensures { λ v. ⌜ Promise delivered (record { ring = now (ring .entry); chain = now (chain .entry); size = size; nodes = now (nodes .entry); nodeCount = «node_count»; cells = now (cells .entry); cellCount = «cell_count» })
+        v (now (nodes .exit)) (now (cells .exit)) ⌝ }
+{
+    let a = divider::divide(ring, chain, size, nodes, node_count, cells, cell_count);
+    Values::new(a)
+}
+
+// A ring and its chain saved as blocks `number` and `number + 1`: 0, or the refusal 1, 2 or 12.
+#[no_mangle]
+pub extern "C" fn blocks_write(
+    ring: &[i32],
+    chain: &[i32],
+    size: u32,
+    number: u32,
+    out: &mut [u8],
+) -> u64
+    ensures { λ r. ⌜ (r ≡ Write.refusal (now (ring .entry)) (now (chain .entry)) size number (length (now (out .entry)))) × (now (out .exit) ≡ Write.written (now (ring .entry)) (now (chain .entry)) size number (now (out .entry))) ⌝ }
+{
+    writer::blocks_write(ring, chain, size, number, out)
+}
+
+// The square root, over bit patterns: a NaN that crosses as a double has bits that no promise names. `bench/root` runs it beside
+// the processor's own.
+#[no_mangle]
+pub extern "C" fn ring_root_bits(b: u64) -> u64
+    ensures { λ r. ⌜ r ≡ rootBits b ⌝ }
+{
+    root::root_bits(b)
+}
