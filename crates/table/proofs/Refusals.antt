@@ -1,6 +1,6 @@
 -- The laws of `firstOf`, by which every list of tests is taken apart. `first`: either a test of the list holds, and the result is its number; or none does, and the result
 -- is 0. `all-pass`: where each number of the list is a refusal's, the result is 0 only if none holds. `away`: then a result that is not 0 is a refusal's number. And the order
--- of all entries, by its numbers (`order`).
+-- of all entries, by its numbers (`order`) and by the names of its tests (`clear`).
 use Prim.Native.Nat.{ℕ}
 use mathlib.Core.Path.{_≡_, refl, sym, ap, _∙_, subst}
 use mathlib.Core.Bool.{Bool, true, false, _&&_, not, cond}
@@ -8,7 +8,7 @@ use mathlib.Core.List.{List, [], _∷_, map, List·Memᴰ, List·Memᴰ·head, L
 use lib.Dec.{T, eqb}
 use lib.Ieee.Fits.{and-l, and-r}
 use borrow.Author.Tests.{eq-eqb}
-use Rattle.table.specs.Refusals.{Refusal, firstOf, Tests, inOrder, Passes, turnsAway, numbered, First, holds, passes}
+use Rattle.table.specs.Refusals.{Refusal, firstOf, Tests, inOrder, Passes, Clear, turnsAway, numbered, First, holds, passes}
 
 -- with a first test r
 module _ (r : Refusal) (rs : List Refusal) where
@@ -56,5 +56,19 @@ away rs n z = go (first rs)
     go (passes p e) = absurd (z e)
 
 -- ---- "tested in rising order"
-pub order : (t : Tests) → map (λ (r : Refusal). r .number) (inOrder t) ≡ 1 ∷ 2 ∷ 3 ∷ 4 ∷ []
+pub order : (t : Tests) → map (λ (r : Refusal). r .number) (inOrder t) ≡ 1 ∷ 16 ∷ 2 ∷ 13 ∷ 14 ∷ 15 ∷ 3 ∷ 4 ∷ []
 order t = refl
+
+-- ---- where none holds, by their names
+pub clear : (t : Tests) → Passes (inOrder t) → Clear t
+clear t h =
+    record {
+      counts = h .0;
+      practice = h .1 .0;
+      units = h .1 .1 .0;
+      marks = h .1 .1 .1 .0;
+      outline = h .1 .1 .1 .1 .0;
+      limits = h .1 .1 .1 .1 .1 .0;
+      lists = h .1 .1 .1 .1 .1 .1 .0;
+      room = h .1 .1 .1 .1 .1 .1 .1 .0;
+    }
