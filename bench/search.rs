@@ -17,6 +17,12 @@ mod call;
 #[path = "../oracle/calls.rs"]
 mod calls;
 #[allow(dead_code)]
+#[path = "../oracle/desk.rs"]
+mod desk;
+#[allow(dead_code)]
+#[path = "../oracle/emit.rs"]
+mod emit;
+#[allow(dead_code)]
 #[path = "../oracle/forms.rs"]
 mod forms;
 #[allow(dead_code)]

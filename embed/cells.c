@@ -10,7 +10,7 @@ typedef struct {
 } Values;
 
 typedef struct {
-    uint16_t a, b, c, d;
+    uint32_t a, b, c, d;
 } Cell;
 
 Values ring_divide_cells(const int32_t *ring, size_t ring_length, const int32_t *chain, size_t chain_length, uint32_t size, double *nodes, size_t nodes_length, size_t node_count,
@@ -21,7 +21,7 @@ enum { NUMBERS = 1 << 17 };
 static FILE *list;
 static double nodes[NUMBERS], expected_nodes[NUMBERS];
 static Cell cells[NUMBERS / 4];
-static uint16_t expected_cells[NUMBERS];
+static uint32_t expected_cells[NUMBERS];
 static int32_t ring[NUMBERS], chain[NUMBERS];
 
 static uint32_t word(void) {
@@ -76,7 +76,7 @@ static int same_call(size_t places, size_t *used) {
     memset(expected_cells, 0xff, sizeof expected_cells);
     size_t first = count(), written = count();
     for (size_t i = 0; i < written; i++) {
-        uint16_t x = (uint16_t)word();
+        uint32_t x = word();
         if (first + i < NUMBERS) expected_cells[first + i] = x;
     }
     memset(cells, 0xff, sizeof cells);

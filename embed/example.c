@@ -8,7 +8,7 @@
 #define CELLS 124
 
 static double nodes[2 * NODES];
-static uint16_t cells[4 * CELLS];
+static uint32_t cells[4 * CELLS];
 static size_t node_count, cell_count; /* used places of the two lists, carried from call to call */
 
 static struct ring_row divide(const int32_t *ring, size_t ring_len) {
@@ -22,8 +22,8 @@ static struct ring_row divide(const int32_t *ring, size_t ring_len) {
 static void print(struct ring_row row, size_t first) {
     printf("code %d corners %d cuts %d pieces %d nodes %d cells %d\n", (int)row.code, (int)row.corners, (int)row.cuts, (int)row.pieces, (int)row.nodes, (int)row.cells);
     for (size_t i = first; i < row.cells; i++) {
-        const uint16_t *c = cells + 4 * i;
-        printf("quad %d %d %d %d\n", c[0], c[1], c[2], c[3]);
+        const uint32_t *c = cells + 4 * i;
+        printf("quad %u %u %u %u\n", c[0], c[1], c[2], c[3]);
     }
 }
 

@@ -27,7 +27,7 @@ extern "C" {
         nodes: *mut f64,
         nodes_len: usize,
         node_count: usize,
-        cells: *mut u16,
+        cells: *mut u32,
         cells_len: usize,
         cell_count: usize,
     ) -> Row;
@@ -37,7 +37,7 @@ extern "C" {
 struct Lists {
     nodes: Vec<f64>,
     node_count: usize,
-    cells: Vec<u16>,
+    cells: Vec<u32>,
     cell_count: usize,
 }
 

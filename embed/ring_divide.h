@@ -8,7 +8,7 @@
  *
  *   ring, chain   coordinates in units of 1/8192 mm, x and y in turn, two numbers a point
  *   size          sheet size in whole mm, 1 to 2,048
- *   nodes         the node list, x and y in mm in turn; node_count of its places are used
+ *   nodes         the node list, x and y in mm in turn, at most 1,000,000 places; node_count of them are used
  *   cells         the cell list, four node numbers a cell; cell_count of its places are used
  *
  * With code 0 the new nodes and cells follow the used ones; 1 to 7 leave all as found; 8 leaves its new nodes and zeros
@@ -44,7 +44,7 @@
 extern "C" {
 #endif
 
-#define RING_DIVIDE_STACK 18472
+#define RING_DIVIDE_STACK 19304
 #define BLOCKS_WRITE_STACK 40
 #define RING_ROOT_BITS_STACK 8
 
@@ -67,7 +67,7 @@ struct ring_row ring_divide(const int32_t *ring, size_t ring_len,
                             const int32_t *chain, size_t chain_len,
                             uint32_t size,
                             double *nodes, size_t nodes_len, size_t node_count,
-                            uint16_t *cells, size_t cells_len, size_t cell_count);
+                            uint32_t *cells, size_t cells_len, size_t cell_count);
 
 uint64_t blocks_write(const int32_t *ring, size_t ring_len,
                       const int32_t *chain, size_t chain_len,

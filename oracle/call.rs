@@ -9,12 +9,13 @@ pub const UNITS: f64 = 8192.0;
 pub const FARTHEST: i32 = 8_388_608;
 const FARTHEST_MM: f64 = 1024.0;
 const LARGEST_SHEET: u32 = 2048;
-const MOST_PLACES: usize = 65_535;
+const MOST_PLACES: usize = 1_000_000;
 const MOST_CUTS: usize = 32;
 
-pub type Cell = [u16; 4];
+pub type NodeNumber = u32;
+pub type Cell = [NodeNumber; 4];
 /// What a place of a cell list holds that no call has written.
-pub const UNTOUCHED: Cell = [0xFFFF; 4];
+pub const UNTOUCHED: Cell = [NodeNumber::MAX; 4];
 
 /// A node list: the listed nodes with their pool, its places, and the used
 /// count that the caller names.
@@ -164,7 +165,7 @@ fn write_cells(
         };
     }
     for (place, quad) in free.iter_mut().zip(&quads) {
-        *place = quad.map(|number| number as u16);
+        *place = quad.map(|number| number as NodeNumber);
     }
     let notes = notes::look();
     Answer {

@@ -1,7 +1,7 @@
 //! A call of the exported divider over guarded lists, compared with the Rust;
 //! and a call of the exported writer, compared with our own writing of blocks.
 
-use crate::call::{Answer, Cell, NodeList, UNTOUCHED};
+use crate::call::{Answer, Cell, NodeList, NodeNumber, UNTOUCHED};
 use crate::desk::answer;
 use crate::forms::run;
 use crate::job::Job;
@@ -32,7 +32,7 @@ extern "C" {
         nodes: *mut f64,
         nodes_len: usize,
         node_count: usize,
-        cells: *mut u16,
+        cells: *mut NodeNumber,
         cells_len: usize,
         cell_count: usize,
     ) -> Returned;
@@ -101,8 +101,8 @@ pub fn node_image(list: &NodeList, odd: usize) -> Guarded<f64> {
 }
 
 /// A cell list of `places`, with `odd` more numbers.
-pub fn cell_image(places: usize, odd: usize) -> Guarded<u16> {
-    Guarded::new(4 * places + odd, |place| 0x9000 ^ place as u16)
+pub fn cell_image(places: usize, odd: usize) -> Guarded<NodeNumber> {
+    Guarded::new(4 * places + odd, |place| 0x9000_0000 ^ place as NodeNumber)
 }
 
 /// Calls the library with these lengths and counts.
@@ -111,7 +111,7 @@ pub fn call(
     job: &Job,
     nodes: &mut [f64],
     node_count: usize,
-    cells: &mut [u16],
+    cells: &mut [NodeNumber],
     cell_count: usize,
 ) -> Returned {
     assert!(lengths.0 <= 2 * job.ring.len() && lengths.1 <= 2 * job.chain.len());
@@ -185,7 +185,7 @@ pub fn compared(
 }
 
 /// The cells that the Rust wrote, over what was there.
-fn overlay(numbers: &mut [u16], cells: &[Cell]) {
+fn overlay(numbers: &mut [NodeNumber], cells: &[Cell]) {
     for (place, cell) in numbers.chunks_exact_mut(4).zip(cells) {
         if *cell != UNTOUCHED {
             place.copy_from_slice(cell);

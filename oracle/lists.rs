@@ -106,6 +106,7 @@ fn places(random: &mut Random, used: usize, ring: usize) -> (usize, usize) {
         5..=8 => (used + room + random.below(40), used),
         9 => (used, used),
         10 => (used, used + 1 + random.below(3)),
+        11 if used % 2 == 0 => (1_000_001, used),
         11 => (65_536, used),
         12..=15 => (1_536, used),
         _ => (65_535, used),

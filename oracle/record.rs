@@ -36,7 +36,7 @@ mod stage;
 mod standin;
 
 use blocks::Jobs;
-use call::{NodeList, UNTOUCHED};
+use call::{Cell, NodeList, UNTOUCHED};
 use forms::{run, Run, CELL_PLACES, NODE_PLACES};
 use job::{Job, BLOCK};
 use std::io::{Read, Write};
@@ -99,7 +99,7 @@ impl Words {
         for x in new.iter().flatten() {
             self.long(x.to_bits());
         }
-        let written = |cell: &[u16; 4]| *cell != UNTOUCHED;
+        let written = |cell: &Cell| *cell != UNTOUCHED;
         let first = run.cells.iter().position(written).unwrap_or(0);
         let end = run.cells.iter().rposition(written).map_or(0, |k| k + 1);
         self.count(first * 4);

@@ -2,7 +2,7 @@
 //! beside the Rust's.
 
 use crate::blocks::Jobs;
-use crate::call::{Answer, NodeList};
+use crate::call::{Answer, NodeList, NodeNumber};
 use crate::calls;
 use crate::forms::{answer_line, line, CELL_PLACES, NODE_PLACES};
 use crate::job::Job;
@@ -74,9 +74,9 @@ fn detail_of_calls(text: &str) -> String {
     out
 }
 
-fn places(before: &[u16], after: &[u16]) -> String {
+fn places(before: &[NodeNumber], after: &[NodeNumber]) -> String {
     let pairs = before.chunks_exact(4).zip(after.chunks_exact(4));
-    let sign = |(old, new): (&[u16], &[u16])| match new {
+    let sign = |(old, new): (&[NodeNumber], &[NodeNumber])| match new {
         _ if old == new => '-',
         [0, 0, 0, 0] => 'z',
         _ => 'c',
@@ -90,7 +90,7 @@ fn detail(
     job: &Job,
     image: &mut Guarded<f64>,
     used: &mut usize,
-    cells: &mut Guarded<u16>,
+    cells: &mut Guarded<NodeNumber>,
     cell_count: usize,
 ) -> Returned {
     let before = *used;

@@ -20,7 +20,7 @@ use Rattle.divider.specs.Promise.{Promise}
 use Rattle.blocks.specs.declared.Reading.{Reading}
 use Rattle.blocks.specs.Blocks.{readBlock}
 use Rattle.blocks.proofs.Counts.{points, few-points, all-places}
-use Rattle.report.specs.Report.{Printed, holds, fewCells, ringText, refusedRing}
+use Rattle.report.specs.Report.{mostText, Printed, holds, fewCells, ringText, refusedRing}
 use Rattle.job.specs.Row.{rowText, Shown}
 
 module _ (l : Lent) (v : Values) (m : List Float) (p : List ℕ) (q : Promise delivered l v m p) (e : length p ≡ length (l .cells)) where
@@ -65,11 +65,11 @@ module _ (n used : ℕ) (v : Values) (cells : List ℕ) where
   unfolding rowText
   row-accepted h = rw (eq-eqb (v .code) 0 h)
 
-pub has-room : (l : List ℕ) → 4096 ≤ length l → holds l ≡ true
-has-room l h = rw (le-ltb (length l) 4096 h)
+pub has-room : (l : List ℕ) → mostText ≤ length l → holds l ≡ true
+has-room l h = rw (le-ltb (length l) mostText h)
 
-pub has-both : (l cells : List ℕ) (k : ℕ) → 4096 ≤ length l → length cells ≤ 496 → k ≤ length cells → (holds l && fewCells (take k cells)) ≡ true
-has-both l cells k h f e = let d = length-take-le k cells e in rw (le-ltb (length l) 4096 h, le-ltb 496 (length (take k cells)) (omega arith))
+pub has-both : (l cells : List ℕ) (k : ℕ) → mostText ≤ length l → length cells ≤ 496 → k ≤ length cells → (holds l && fewCells (take k cells)) ≡ true
+has-both l cells k h f e = let d = length-take-le k cells e in rw (le-ltb (length l) mostText h, le-ltb 496 (length (take k cells)) (omega arith))
 
 -- an answer's points are in its places
 module _ (b : List ℕ) (n : ℕ) (r : Reading) (e : r ≡ readBlock b n) (k : ℕ) (d : points (r .block) ≡ k) where

@@ -17,7 +17,7 @@ use Rattle.demand.specs.Lent.{divideLent}
 use Rattle.table.specs.declared.Values.{Values}
 use Rattle.divider.specs.Promise.{Promise}
 use Rattle.report.specs.Text.{put}
-use Rattle.report.specs.Report.{Printed, holds, refusedBlock}
+use Rattle.report.specs.Report.{mostText, Printed, holds, refusedBlock}
 use Rattle.job.specs.declared.State.{State}
 use Rattle.job.specs.declared.Stepped.{Stepped}
 use Rattle.job.specs.Row.{rowText}
@@ -31,7 +31,7 @@ no-text t = record { bytes = refl; list = refl; room = omega arith }
 
 module _ (s : State) (ps : List ℤ) (l : List Float) where
   -- a refused block
-  pub refuses : (qs : List ℤ) (a : Block) (code n : ℕ) (q : State) (k : ℕ) (t u : List ℕ) → a ≡ Refused code n → q ≡ closed s → 4096 ≤ length t
+  pub refuses : (qs : List ℤ) (a : Block) (code n : ℕ) (q : State) (k : ℕ) (t u : List ℕ) → a ≡ Refused code n → q ≡ closed s → mostText ≤ length t
       → Printed (holds t) t (refusedBlock n code) k u
       → Steps (taken s ps l qs a) (record { state = q; count = k }) ps l t u
   unfolding taken ends

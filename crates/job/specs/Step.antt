@@ -16,7 +16,7 @@ use Rattle.blocks.proofs.Counts.{points}
 use Rattle.blocks.specs.declared.Block.{Block}
 use Rattle.blocks.specs.declared.Block.the-variants.{Ring, Chain, Refused}
 use Rattle.blocks.specs.Blocks.{readBlock}
-use Rattle.report.specs.Report.{Printed, refusedBlock}
+use Rattle.report.specs.Report.{mostText, Printed, refusedBlock}
 use Rattle.job.specs.declared.State.{State}
 use Rattle.job.specs.declared.Stepped.{Stepped}
 use Rattle.job.specs.Row.{rowText}
@@ -106,4 +106,4 @@ pub record Answered (n : ℕ) (a : Block) (qs : List ℤ) : Type 0 where
 pub record CanStep (s : State) (ps : List ℤ) (t : List ℕ) : Type 0 where
   pub few : s .count ≤ 60
   pub long : length ps ≡ 120
-  pub room : 4096 ≤ length t
+  pub room : mostText ≤ length t

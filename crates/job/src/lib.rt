@@ -12,11 +12,12 @@ ghost use lib.ListN.{length, take};
 ghost use lib.Dec.{eqb};
 ghost use lib.IntN.{ℤ};
 ghost use lib.Ieee.{Float};
-ghost use Rattle.report.specs.Report.{Printed};
+ghost use Rattle.report.specs.Report.{Printed, mostText};
 ghost use Rattle.job.specs.Row.{rowText, Shown};
 ghost use Rattle.job.specs.Step.{closed, divides, taken, stepOf, Refusal, Steps, Answered, CanStep};
 ghost use Rattle.job.specs.Run.{Bytes, start};
 use blocks::Block;
+use nodes::NodeNumber;
 use report::Divided;
 use table::Values;
 
@@ -66,8 +67,8 @@ impl State {
 }
 
 // The lines of a ring's row.
-fn print_row(text: &mut [u8], ring: u64, used: usize, v: Values, cells: &[u16]) -> usize
-    requires { ⌜ Shown used v (now cells) × (length (now cells) ≤ 496) × (4096 ≤ length (now text)) ⌝ }
+fn print_row(text: &mut [u8], ring: u64, used: usize, v: Values, cells: &[NodeNumber]) -> usize
+    requires { ⌜ Shown used v (now cells) × (length (now cells) ≤ 496) × (mostText ≤ length (now text)) ⌝ }
     ensures { λ r. ⌜ Printed true (now (text .entry)) (rowText ring used v (now (cells .entry))) r (now (text .exit)) ⌝ }
 {
     if v.code != 0 {
@@ -102,7 +103,7 @@ fn divide_ring(
     let end = s.count * 2;
     let stop = run * 2;
     let used = s.used;
-    let mut cells = [0u16; 496];
+    let mut cells = [0; 496];
     let v = Values::new(divider::divide(
         &ring[..end],
         &chain[..stop],
@@ -126,7 +127,7 @@ fn divide_ring(
 
 // The line of a refused block, which is the last.
 fn refuse(s: State, block: Block, text: &mut [u8]) -> Stepped
-    requires { ⌜ Refusal block × (4096 ≤ length (now text)) ⌝ }
+    requires { ⌜ Refusal block × (mostText ≤ length (now text)) ⌝ }
     ensures { λ r. ⌜ ((ps qs : List ℤ) (l : List Float) → Steps (taken s ps l qs block) r ps l (now (text .entry)) (now (text .exit))) ⌝ }
 {
     let Block::Refused { code, block } = block else {

@@ -26,10 +26,10 @@ pub use nearby::collect;
 use vector::Point;
 
 // The number of a node: its place in the list.
-pub type NodeNumber = u16;
+pub type NodeNumber = u32;
 
 // A node list has no more places than this, so that every place is a number.
-pub const MOST_PLACES: usize = 65535;
+pub const MOST_PLACES: usize = 1000000;
 
 // A point's number, and how many places are then used.
 pub struct Placed {

@@ -6,6 +6,7 @@ mod same;
 mod words;
 
 use libc::STDOUT_FILENO;
+use nodes::NodeNumber;
 
 // How many calls and blocks were run, and on how many the two differ.
 pub struct Tally {
@@ -72,7 +73,7 @@ fn replay_call(fd: i32, nodes: &mut [f64], s: State) -> State {
     if nodes.len() < end {
         return s.ran(false, used);
     }
-    let mut cells = [65535u16; 2048];
+    let mut cells = [65535u32; 2048];
     compared(
         fd,
         &ring[..r],
@@ -93,7 +94,7 @@ fn compared(
     size: u32,
     nodes: &mut [f64],
     s: State,
-    cells: &mut [u16],
+    cells: &mut [NodeNumber],
     cell_count: usize,
 ) -> State {
     let used = s.used;

@@ -51,13 +51,13 @@ pub fn cell_before(fd: i32, i: usize, at: usize, n: usize) -> u32 {
     65535
 }
 
-pub fn same_cells(fd: i32, cells: &[u16]) -> bool {
+pub fn same_cells(fd: i32, cells: &[u32]) -> bool {
     let at = words::count(fd);
     let n = words::count(fd);
     let mut same = true;
     for i in 0..cells.len() {
         let x = cell_before(fd, i, at, n);
-        same = same & (words::wider(cells[i]) == x);
+        same = same & (cells[i] == x);
     }
     same
 }

@@ -8,10 +8,6 @@ pub fn wide(x: u8) -> u32
     x as u32
 }
 
-pub fn wider(x: u16) -> u32 {
-    x as u32
-}
-
 // The next word of the file; zero past its end.
 pub fn word(fd: i32) -> u32 {
     let mut b = [0u8; 4];

@@ -60,7 +60,7 @@ pub at-most-20 : (n : ℕ) → length (decimal n) ≤ 20
 unfolding decimal
 at-most-20 n = length-digits 20 n
 
--- a number of 16 bits
-pub at-most-5 : (n : ℕ) → n < 2 ^ 16 → length (decimal n) ≤ 5
+-- a number of 32 bits
+pub at-most-10 : (n : ℕ) → n < 2 ^ 32 → length (decimal n) ≤ 10
 unfolding decimal
-at-most-5 n h = few-digits 20 4 n (omega arith)
+at-most-10 n h = few-digits 20 9 n (omega arith)

@@ -1,7 +1,7 @@
 // Report: the printed lines of an answer, as bytes in a list that the caller lends; the last step in the way of a ring.
 //
 // Each function that writes takes the place to write at and returns the place after it. The three public ones write from
-// the front and return the count of bytes: a list of 4,096 bytes holds every text.
+// the front and return the count of bytes: a list of 6,400 bytes holds every text.
 
 ghost use mathlib.Core.Path.{_≡_};
 ghost use mathlib.Core.Bool.{_&&_, cond};
@@ -12,6 +12,9 @@ ghost use lib.Dec.{eqb};
 ghost use Rattle.report.specs.Text.{decimal, part, filled, Written};
 ghost use Rattle.report.specs.Report as Report;
 ghost use Rattle.report.specs.Report.{Printed, holds, fewCells};
+
+// No text is longer, whatever the numbers.
+pub const MOST_TEXT: usize = 6400;
 
 // What is printed of an accepted ring, its cells aside: its number, corners after cleaning and cuts, the turned area and
 // the ring's own, both doubled and in units squared, the nodes listed and those added.
@@ -125,13 +128,13 @@ fn put_nodes(out: &mut [u8], at: usize, nodes: u64, added: u64) -> usize
     put_filled(out, at, b"nodes # new #\n", &numbers)
 }
 
-fn wide(x: u16) -> u64
+fn wide(x: u32) -> u64
     ensures { λ r. ⌜ r ≡ x ⌝ }
 {
     x as u64
 }
 
-fn put_quad(out: &mut [u8], at: usize, cells: &[u16], i: usize) -> usize
+fn put_quad(out: &mut [u8], at: usize, cells: &[u32], i: usize) -> usize
     requires { ⌜ (i * 4 + 3 < length (now cells)) × (at + length (Report.quadLine (now cells) i) ≤ length (now out)) ⌝ }
     ensures { λ r. ⌜ Written (now (out .entry)) at (Report.quadLine (now (cells .entry)) i) r (now (out .exit)) ⌝ }
 {
@@ -145,7 +148,7 @@ fn put_quad(out: &mut [u8], at: usize, cells: &[u16], i: usize) -> usize
     put_filled(out, at, b"quad # # # #\n", &numbers)
 }
 
-fn put_quads(out: &mut [u8], at: usize, cells: &[u16]) -> usize
+fn put_quads(out: &mut [u8], at: usize, cells: &[u32]) -> usize
     requires { ⌜ at + length (Report.quadLines (now cells) (length (now cells) / 4)) ≤ length (now out) ⌝ }
     ensures { λ r. ⌜ Written (now (out .entry)) at (Report.quadLines (now (cells .entry)) (length (now (cells .entry)) / 4)) r (now (out .exit)) ⌝ }
 {
@@ -158,10 +161,10 @@ fn put_quads(out: &mut [u8], at: usize, cells: &[u16]) -> usize
 }
 
 // The lines of an accepted ring and its cells, four node numbers a cell and at most 124 of them.
-pub fn print_ring(out: &mut [u8], a: Divided, cells: &[u16]) -> usize
+pub fn print_ring(out: &mut [u8], a: Divided, cells: &[u32]) -> usize
     ensures { λ r. ⌜ Printed (holds (now (out .entry)) && fewCells (now (cells .entry))) (now (out .entry)) (Report.ringText a (now (cells .entry))) r (now (out .exit)) ⌝ }
 {
-    if out.len() < 4096 {
+    if out.len() < MOST_TEXT {
         return 0;
     }
     if 496 < cells.len() {
@@ -175,7 +178,7 @@ pub fn print_ring(out: &mut [u8], a: Divided, cells: &[u16]) -> usize
 pub fn print_refused_ring(out: &mut [u8], ring: u64, code: u64, corners: u64, k: u64) -> usize
     ensures { λ r. ⌜ Printed (holds (now (out .entry))) (now (out .entry)) (Report.refusedRing ring code corners k) r (now (out .exit)) ⌝ }
 {
-    if out.len() < 4096 {
+    if out.len() < MOST_TEXT {
         return 0;
     }
     let numbers = [ring, code, corners, k];
@@ -185,7 +188,7 @@ pub fn print_refused_ring(out: &mut [u8], ring: u64, code: u64, corners: u64, k:
 pub fn print_refused_block(out: &mut [u8], block: u64, code: u64) -> usize
     ensures { λ r. ⌜ Printed (holds (now (out .entry))) (now (out .entry)) (Report.refusedBlock block code) r (now (out .exit)) ⌝ }
 {
-    if out.len() < 4096 {
+    if out.len() < MOST_TEXT {
         return 0;
     }
     let numbers = [block, code];

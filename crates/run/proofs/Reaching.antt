@@ -12,6 +12,7 @@ use lib.Seq.{take-at}
 use lib.IntN.{ℤ}
 use lib.Ieee.{Float, binary64, ofBits}
 use Rattle.laws.specs.Double.{naught}
+use Rattle.report.specs.Report.{mostText}
 use Rattle.report.specs.Text.{put}
 use Rattle.job.specs.declared.State.{State}
 use Rattle.job.specs.declared.Stepped.{Stepped}
@@ -35,7 +36,7 @@ begun-so s e = subst (λ (x : Float). Reached s noPoints (replicate 3072 x) 0) (
 
 module _ (s : State) (ps : List ℤ) (l : List Float) (sent : ℕ) (r : Reached s ps l sent) where
   -- a step can be made
-  pub can-step : (t : List ℕ) → length t ≡ 4096 → CanStep s ps t
+  pub can-step : (t : List ℕ) → length t ≡ mostText → CanStep s ps t
   can-step t e =
       let h = ran-held (readTo (r .input) (r .blocks)) in
       record { few = omega (arith, ap (λ (z : State). z .count) (r .state), h .few); long = ap length (r .points) ∙ h .long; room = omega arith }

@@ -7,6 +7,7 @@ use mathlib.Core.List.{List}
 use lib.ListN.{length}
 use lib.IntN.{ℤ}
 use lib.Ieee.{Float}
+use Rattle.report.specs.Report.{mostText}
 use Rattle.job.specs.declared.State.{State}
 use Rattle.job.specs.Step.{stepOf}
 use Rattle.job.specs.Run.{Bytes, ran, readTo, printed}
@@ -22,8 +23,8 @@ pub record Reached (s : State) (ps : List ℤ) (l : List Float) (sent : ℕ) : T
   -- these are bytes; and while the run goes on, all of the blocks were whole
   pub bytes : Bytes input
   pub whole : s .ended ≡ false → length input ≡ 512 * blocks
-  -- no text is longer than 4,096 bytes
-  pub bound : sent ≤ 4096 * blocks
+  -- no text is longer than 6,400 bytes
+  pub bound : sent ≤ mostText * blocks
 
 -- t is the text that the run owes after `sent` bytes: that of one more block, in a run that has not ended
 pub record Owed (sent : ℕ) (t : List ℕ) : Type 0 where
@@ -34,7 +35,7 @@ pub record Owed (sent : ℕ) (t : List ℕ) : Type 0 where
   pub reached : Reached state points nodes sent
   pub going : state .ended ≡ false
   pub text : t ≡ stepOf state points nodes block .text
-  pub short : length t ≤ 4096
+  pub short : length t ≤ mostText
 
 -- the run of an input has ended, and all that is printed of it was written
 pub record Finished (sent : ℕ) : Type 0 where

@@ -12,6 +12,7 @@ ghost use Prim.Native.Nat.{_+_, _≤_, _<_};
 ghost use lib.ListN.{length};
 ghost use Rattle.run.specs.Reached.{Owed, Finished};
 use job::State;
+use report::MOST_TEXT;
 
 // How many bytes were written in all; and whether writing has failed, in which case some of the last text may be written too.
 pub struct Sent {
@@ -94,7 +95,7 @@ pub fn run(input: i32, output: i32) -> Sent
     let mut ring = [0i32; 120];
     let mut nodes = [0.0f64; 3072];
     let mut bytes = [0u8; 512];
-    let mut text = [0u8; 4096];
+    let mut text = [0u8; MOST_TEXT];
     let mut s = State::new();
     let mut sent: u64 = 0;
     while goes_on(s) {

@@ -78,7 +78,7 @@ unfolding Nodes.rounded Nodes.key Nodes.hasKey Nodes.number Nodes.addNode Nodes.
 in-cells = tt
 
 unfoldable pub in-divider : Unit {0}
-unfolding Call.countsOut Call.outside Call.anyOutside Call.unitsOut Call.held Call.usable Call.listsOut Call.roomOut Divide.refused Divide.answered Divide.core Divide.divide
+unfolding Call.countsOut Call.outside Call.anyOutside Call.unitsOut Call.held Call.usable Call.listsOver Call.roomOut Divide.refused Divide.answered Divide.core Divide.divide
 in-divider = tt
 
 -- the program: blocks, the call over lent lists, the printed lines, and the run

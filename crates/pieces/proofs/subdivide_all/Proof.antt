@@ -80,7 +80,7 @@ collect-requires c κs =
 -- the places to be cleared begin within the list
 low : (c : tie.Then1 Inv-loop μ-loop)
     → let o = c .before .before .before .before .before .before .before .before .before .before .before .before .before .before .before in
-    begin o .args .first * 8 < 2 ^ 64
+    begin o .args .first * 16 < 2 ^ 64
 low c = let o = c .before .before .before .before .before .before .before .before .before .before .before .before .before .before .before in omega (arith, begin o .pre .places, begin o .good .1 .1 .0)
 
 loop-holds : tie.Need-loop-holds Inv-loop μ-loop

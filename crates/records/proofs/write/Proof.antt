@@ -168,7 +168,7 @@ module _ {M : Type 1} (𝓤 : URA M) (H : Heap 𝓤) (A : Atoms 𝓤) (W : Given
         let place-fits : i + k < 2 ^ 64 = omega (arith, room .0) in
         let lz : length (zs k) ≡ length ys = length-written ys i (x .numbers) k in
         let in-row : i + k < length (zs k) = omega arith in
-        let offset-fits : (i + k) * 8 < 2 ^ 64 = omega (arith, room .1) in
+        let offset-fits : (i + k) * 16 < 2 ^ 64 = omega (arith, room .1) in
         let next-fits : k + 1 < 2 ^ 64 = omega arith in
         qed W (At k) ∵ exec ! C Λ En mirs.turn-1 (anyQ (afterTurn 𝓤 H X Left)) $
         assigns ! (bin ! (load ! (from ! (stop !)) (look ! 1 refl)) (load ! (from ! (stop !)) (look ! 10 refl)) tt) (from ! (stop !)) (init ! 3 refl (tt, tt)) $
@@ -186,7 +186,7 @@ module _ {M : Type 1} (𝓤 : URA M) (H : Heap 𝓤) (A : Atoms 𝓤) (W : Given
         assigns ! (bin ! (load ! (from ! (stop !)) (look ! 9 refl)) (load ! (from ! (stop !)) (look ! 2 refl)) (record { fits = place-fits })) (from ! (stop !)) (init ! 5 refl (tt, record { fits = place-fits })) $
         assigns ! (bin ! (load ! (from ! (stop !)) (look ! 5 refl)) (lit ! tt) (record { fits = offset-fits })) (from ! (stop !)) (init ! 6 refl (tt, record { fits = offset-fits })) $
         assigns ! (bin ! (load ! (from ! (fld ! refl (stop !))) (look-in ! 8 (sub ! 0 refl (whole !)))) (load ! (from ! (stop !)) (look ! 6 refl)) tt) (from ! (stop !)) (init ! 7 refl (tt, tt)) $
-        rewrite ! 7 (λ (p : ℕ). ‵ (fat fullShare tyPtr l₁₀ 0 (vptr b p))) (sym (place-is 8 o (i + k))) refl $
+        rewrite ! 7 (λ (p : ℕ). ‵ (fat fullShare tyPtr l₁₀ 0 (vptr b p))) (sym (place-is 16 o (i + k))) refl $
         move ! (1 ∷ []) $ elem-out ! T.the-row (Is T.the-row) (shows 𝓤 H A T.the-row) (LL.vals T.the-type T′.the-laws) (LL.tells T.the-type T′.the-laws) fullShare (zs k) (i + k) r b o in-row (λ _.
         -- [the element; what it owns; the others; what r owns; _5; _6; _7; _8; _9; _10; …]
         assigns ! (of-opd ! (load ! (from ! (stop !)) (look ! 5 refl))) (from ! (hop ! (look ! 9 refl) (stop !))) (store-raw ! 0 refl (LL.lawful T.the-type T′.the-laws 𝓤 H A W .typed r _ is .0)) $

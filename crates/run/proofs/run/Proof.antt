@@ -4,6 +4,7 @@ use mathlib.Core.Path.{_≡_, refl, sym, subst, _∙_}
 use mathlib.Core.Bool.{cond}
 use lib.ListN.{length, take, length-take}
 use borrow.Author.Tests.{not-true, not-false}
+use Rattle.report.specs.Report.{mostText}
 use Rattle.job.proofs.Rows.{part-length}
 use Rattle.job.proofs.Runs.{not-both}
 use Rattle.run.specs.Reached.{Reached}
@@ -15,7 +16,7 @@ use Rattle.run.proofs.run.Tie as tie
 
 abbrev Inv-loop : tie.InvT-loop
 Inv-loop input output ring₀ nodes₀ bytes₀ text₀ s₀ sent₀ ring nodes bytes text s sent =
-    Reached s ring nodes sent × (length ring ≡ 120) × (length nodes ≡ 3072) × (length bytes ≡ 512) × (length text ≡ 4096)
+    Reached s ring nodes sent × (length ring ≡ 120) × (length nodes ≡ 3072) × (length bytes ≡ 512) × (length text ≡ mostText)
 
 abbrev μ-loop : tie.MeasureT-loop
 μ-loop input output ring₀ nodes₀ bytes₀ text₀ s₀ sent₀ ring nodes bytes text s sent = cond (s .ended) 0 (65537 - s .block)
@@ -57,7 +58,7 @@ array-share-prefix-text : tie.Need-array-share-prefix-text Inv-loop μ-loop
 array-share-prefix-text c = let p = c .before .before .before .step in omega (arith, p .ensures .0 .text .room, p .kept .1 .1 .1 .1 .0, c .before .before .before .before .before .before .before .before .before .before .before .before .before .loop .inv .4)
 
 slice-aggregate-send : tie.Need-slice-aggregate-send Inv-loop μ-loop
-slice-aggregate-send c = let p = c .before .before .before .before .step in part-length _ 4096 _ (p .kept .1 .1 .1 .1 .0 ∙ c .before .before .before .before .before .before .before .before .before .before .before .before .before .before .loop .inv .4) (p .ensures .0 .text .room)
+slice-aggregate-send c = let p = c .before .before .before .before .step in part-length _ mostText _ (p .kept .1 .1 .1 .1 .0 ∙ c .before .before .before .before .before .before .before .before .before .before .before .before .before .before .loop .inv .4) (p .ensures .0 .text .room)
 
 send-requires : tie.Need-send-requires Inv-loop μ-loop
 send-requires c κs =
@@ -94,7 +95,7 @@ loop-again c =
     let b = take (q .result) (q .last .1 .0) in
     let h : length b ≤ 512 = omega (arith, length-take (q .result) (q .last .1 .0), q .ensures) in
     let t = turned (l .s) (l .ring) (l .nodes) (l .sent) (l .inv .0) e b (p .ensures .1) h (p .result) _ _ _ _ (p .ensures .0) in
-    let n = part-length (p .result .count) 4096 (p .last .1 .1 .1 .1 .0) (p .kept .1 .1 .1 .1 .0 ∙ l .inv .4) (p .ensures .0 .text .room) in
+    let n = part-length (p .result .count) mostText (p .last .1 .1 .1 .1 .0) (p .kept .1 .1 .1 .1 .0 ∙ l .inv .4) (p .ensures .0 .text .room) in
     let o = c .before .before .send in
     let w : l .sent + p .result .count ≡ o .result .bytes = omega (arith, n, o .ensures (c .before .if2 .left)) in
     (subst (λ (k : ℕ). Reached (p .result .state) (p .last .1 .1 .0) (p .last .1 .1 .1 .0) k) w t, p .kept .1 .1 .0 ∙ l .inv .1, p .kept .1 .1 .1 .0 ∙ l .inv .2, q .kept .1 .0 ∙ l .inv .3, p .kept .1 .1 .1 .1 .0 ∙ l .inv .4)

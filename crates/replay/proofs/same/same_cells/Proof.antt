@@ -24,14 +24,11 @@ loop-holds c = search needs
 cell-before-requires : tie.Need-cell-before-requires Inv-loop μ-loop
 cell-before-requires c κs = search needs
 
-mul-wider : tie.Need-mul-wider Inv-loop μ-loop
-mul-wider c = search needs
+mul-same : tie.Need-mul-same Inv-loop μ-loop
+mul-same c = search needs
 
-shared-slice-read-wider : tie.Need-shared-slice-read-wider Inv-loop μ-loop
-shared-slice-read-wider c = search needs
-
-wider-requires : tie.Need-wider-requires Inv-loop μ-loop
-wider-requires c κs = search needs
+shared-slice-read-same : tie.Need-shared-slice-read-same Inv-loop μ-loop
+shared-slice-read-same c = search needs
 
 add-i : tie.Need-add-i Inv-loop μ-loop
 add-i c = search needs
@@ -55,9 +52,8 @@ same-cells-spec =
     count-requires-2
     loop-holds
     cell-before-requires
-    mul-wider
-    shared-slice-read-wider
-    wider-requires
+    mul-same
+    shared-slice-read-same
     add-i
     loop-less
     loop-again
