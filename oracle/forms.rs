@@ -103,7 +103,7 @@ fn print(out: &mut String, number: usize, run: &Run) {
         );
         return;
     }
-    let area = run.answer.area * 100 / DOUBLED_MM2;
+    let area = (run.answer.area * 100 + DOUBLED_MM2 / 2) / DOUBLED_MM2;
     line(
         out,
         format_args!("ring {number} corners {n} cuts {cuts} turned {turned} area {area}"),

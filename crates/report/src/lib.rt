@@ -100,11 +100,11 @@ fn put_filled(out: &mut [u8], at: usize, form: &[u8], numbers: &[u64]) -> usize
     next
 }
 
-// In two steps, so that no area is too large for 64 bits.
+// To the nearest, halves up; in two steps, so that no area is too large for 64 bits.
 fn hundredths(area: u64) -> u64
     ensures { λ r. ⌜ r ≡ Report.hundredths area ⌝ }
 {
-    area / 134217728 * 100 + area % 134217728 * 100 / 134217728
+    area / 134217728 * 100 + (area % 134217728 * 100 + 67108864) / 134217728
 }
 
 fn put_ring(out: &mut [u8], at: usize, a: Divided) -> usize
