@@ -115,30 +115,19 @@ fn lists_out(nodes: &[f64], node_count: usize, cell_places: usize, cell_count: u
     !usable(nodes, node_count)
 }
 
-// The most cuts of a ring of r points.
-fn most_cuts(limits: Limits, r: usize) -> usize
-    requires { ⌜ (3 ≤ r) × (r ≤ 60) ⌝ }
-    ensures { λ m. ⌜ (m ≡ Call.mostCuts limits r) × (m ≤ 60) ⌝ }
-{
-    if limits.cuts < r - 3 {
-        return limits.cuts;
-    }
-    r - 3
-}
-
 // The node places and the cell places that a ring of r points may take.
 pub fn node_reserve(limits: Limits, r: usize) -> usize
     requires { ⌜ (3 ≤ r) × (r ≤ 60) ⌝ }
     ensures { λ n. ⌜ n ≡ Call.nodeReserve limits r ⌝ }
 {
-    3 * r + 2 * most_cuts(limits, r) + 1
+    reserve::node_places(limits.cuts, r)
 }
 
 pub fn cell_reserve(limits: Limits, r: usize) -> usize
     requires { ⌜ (3 ≤ r) × (r ≤ 60) ⌝ }
     ensures { λ n. ⌜ n ≡ Call.cellReserve limits r ⌝ }
 {
-    r + 2 * most_cuts(limits, r)
+    reserve::cell_places(limits.cuts, r)
 }
 
 // 4: too few free places.

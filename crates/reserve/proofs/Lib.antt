@@ -1,0 +1,2 @@
+-- The theorem on the sheet's rows.
+pub mod Rows

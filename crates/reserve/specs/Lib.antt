@@ -1,0 +1,3 @@
+-- The rule of the reserve, and the printed sheet.
+pub mod Reserve
+pub mod Sheet
