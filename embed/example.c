@@ -1,5 +1,6 @@
 /* Divides the square of 1 mm, has the same square clockwise refused, and divides the square beside the first over the
- * same two lists. Compiles as C and as C++. */
+ * same two lists; then the square above the first with given marks, one edge snapped to a point and one to a lead line.
+ * Compiles as C and as C++. */
 #include "ring_divide.h"
 #include <stdio.h>
 
@@ -14,6 +15,14 @@ static size_t node_count, cell_count; /* used places of the two lists, carried f
 static struct ring_row divide(const int32_t *ring, size_t ring_len) {
     const int32_t none[] = {0};
     struct ring_row row = ring_divide(ring, ring_len, none, 0, 1, nodes, 2 * NODES, node_count, cells, 4 * CELLS, cell_count);
+    node_count = row.nodes;
+    cell_count = row.cells;
+    return row;
+}
+
+/* The same with one mark an edge: straight, snapped to the point beside it, or to the lead line. */
+static struct ring_row divide_marked(const int32_t *ring, size_t ring_len, const uint8_t *kinds, const double *snaps, const int32_t *outline, size_t outline_len, const uint32_t *loops, size_t loops_len) {
+    struct ring_row row = ring_divide_marked(ring, ring_len, kinds, ring_len / 2, snaps, ring_len, outline, outline_len, loops, loops_len, 1, nodes, 2 * NODES, node_count, cells, 4 * CELLS, cell_count);
     node_count = row.nodes;
     cell_count = row.cells;
     return row;
@@ -36,5 +45,13 @@ int main(void) {
     printf("node 8 at %g %g\n", nodes[16], nodes[17]);
     print(divide(clockwise, 8), 4);
     print(divide(beside, 8), 4);
+
+    const int32_t above[] = {0, MM, MM, MM, MM, 2 * MM, 0, 2 * MM};
+    const uint8_t kinds[] = {0, 1, 2, 0};
+    const double snaps[] = {0, 0, 1.125, 1.5, 0, 0, 0, 0};
+    const int32_t lead[] = {-MM, 2 * MM + MM / 8, 2 * MM, 2 * MM + MM / 8, 0, 8 * MM};
+    const uint32_t loops[] = {3};
+    print(divide_marked(above, 8, kinds, snaps, lead, 6, loops, 1), 8);
+    printf("node 17 at %g %g, node 18 at %g %g\n", nodes[34], nodes[35], nodes[36], nodes[37]);
     return 0;
 }

@@ -1,5 +1,5 @@
 //! Divides the square of 1 mm, has the same square clockwise refused, and divides the square beside the first over the
-//! same two lists.
+//! same two lists; then the square above the first with given marks, one edge snapped to a point and one to a lead line.
 
 /// A row of the table, as in ring_divide.h.
 #[repr(C)]
@@ -31,6 +31,34 @@ extern "C" {
         cells_len: usize,
         cell_count: usize,
     ) -> Row;
+
+    fn ring_divide_marked(
+        ring: *const i32,
+        ring_len: usize,
+        kinds: *const u8,
+        kinds_len: usize,
+        snaps: *const f64,
+        snaps_len: usize,
+        outline: *const i32,
+        outline_len: usize,
+        loops: *const u32,
+        loops_len: usize,
+        size: u32,
+        nodes: *mut f64,
+        nodes_len: usize,
+        node_count: usize,
+        cells: *mut u32,
+        cells_len: usize,
+        cell_count: usize,
+    ) -> Row;
+}
+
+/// The marks of a ring's edges: straight, snapped to the point beside it, or to the outline.
+struct Marking<'a> {
+    kinds: &'a [u8],
+    snaps: &'a [f64],
+    outline: &'a [i32],
+    loops: &'a [u32],
 }
 
 /// The node list and the cell list, with how many places of each are used.
@@ -50,6 +78,35 @@ fn divide(ring: &[i32], chain: &[i32], size: u32, lists: &mut Lists) -> Row {
             ring.len(),
             chain.as_ptr(),
             chain.len(),
+            size,
+            nodes.as_mut_ptr(),
+            nodes.len(),
+            lists.node_count,
+            cells.as_mut_ptr(),
+            cells.len(),
+            lists.cell_count,
+        )
+    };
+    lists.node_count = row.nodes as usize;
+    lists.cell_count = row.cells as usize;
+    row
+}
+
+/// The same with given marks.
+fn divide_marked(ring: &[i32], marks: &Marking, size: u32, lists: &mut Lists) -> Row {
+    let (nodes, cells) = (&mut lists.nodes, &mut lists.cells);
+    let row = unsafe {
+        ring_divide_marked(
+            ring.as_ptr(),
+            ring.len(),
+            marks.kinds.as_ptr(),
+            marks.kinds.len(),
+            marks.snaps.as_ptr(),
+            marks.snaps.len(),
+            marks.outline.as_ptr(),
+            marks.outline.len(),
+            marks.loops.as_ptr(),
+            marks.loops.len(),
             size,
             nodes.as_mut_ptr(),
             nodes.len(),
@@ -92,4 +149,15 @@ fn main() {
 
     let row = divide(&[MM, 0, 2 * MM, 0, 2 * MM, MM, MM, MM], &[], 1, &mut lists);
     print(&row, &lists, 4);
+
+    let marks = Marking {
+        kinds: &[0, 1, 2, 0],
+        snaps: &[0.0, 0.0, 1.125, 1.5, 0.0, 0.0, 0.0, 0.0],
+        outline: &[-MM, 2 * MM + MM / 8, 2 * MM, 2 * MM + MM / 8, 0, 8 * MM],
+        loops: &[3],
+    };
+    let row = divide_marked(&[0, MM, MM, MM, MM, 2 * MM, 0, 2 * MM], &marks, 1, &mut lists);
+    print(&row, &lists, 8);
+    let n = &lists.nodes;
+    println!("node 17 at {} {}, node 18 at {} {}", n[34], n[35], n[36], n[37]);
 }

@@ -14,6 +14,19 @@
  * With code 0 the new nodes and cells follow the used ones; 1 to 7 leave all as found; 8 leaves its new nodes and zeros
  * the cell places that the ring had reserved. The row has both counts as they are afterwards: hand them to the next call.
  *
+ * ring_divide_marked takes the marks of the ring's edges in place of a chain, and is ring_divide in all else.
+ *
+ *   kinds     a byte for each point of the ring, of the edge from it to the next: 0 straight, 1 snapped to its given point,
+ *             2 snapped to the nearest point of the outline
+ *   snaps     x and y in mm in turn, two numbers a mark; looked at where its kind is 1: finite and within 1,024 either way
+ *   outline   the points of all loops one after the other, in units, the rim first, then the holes; at most 60 points
+ *   loops     how many points each loop has, 3 or more
+ *
+ * A mark survives if both points of its edge stay in cleaning; an edge that joins two points over dropped ones is straight.
+ * 13, after 2: the marks are not as many as the points, a kind is above 2, a given point is out of limits, or the snaps are
+ * not two numbers a mark. 14, after 13, where some kind is 2: the outline is empty, over 60 points or of odd length, a loop has
+ * under 3 points, the loops do not add up to the points, or a coordinate is out of limits. Both leave all as found.
+ *
  * blocks_write saves a ring and its chain as the two blocks that the program `divide` takes. It fills the first
  * BLOCKS_WRITE_BYTES bytes of out, the ring's block with the given number, which is even and at most 65,534, and the chain's
  * with the next; the bytes after them stay. It answers 0, or leaves all as found and answers 1 (ring or chain count), 2
@@ -44,14 +57,15 @@
 extern "C" {
 #endif
 
-#define RING_DIVIDE_STACK 19304
+#define RING_DIVIDE_STACK 29144
+#define RING_DIVIDE_MARKED_STACK 26232
 #define BLOCKS_WRITE_STACK 40
 #define RING_ROOT_BITS_STACK 8
 
 #define BLOCKS_WRITE_BYTES 1024
 
 struct ring_row {
-    uint64_t code;    /* 0, or the refusal 1 to 8 */
+    uint64_t code;    /* 0, or the refusal 1 to 8, 13 or 14 */
     uint64_t corners; /* of the cleaned ring; with 8, of the piece that fails */
     uint64_t k;       /* with 8, the failing cell */
     uint64_t marked;  /* marked edges */
@@ -68,6 +82,15 @@ struct ring_row ring_divide(const int32_t *ring, size_t ring_len,
                             uint32_t size,
                             double *nodes, size_t nodes_len, size_t node_count,
                             uint32_t *cells, size_t cells_len, size_t cell_count);
+
+struct ring_row ring_divide_marked(const int32_t *ring, size_t ring_len,
+                                   const uint8_t *kinds, size_t kinds_len,
+                                   const double *snaps, size_t snaps_len,
+                                   const int32_t *outline, size_t outline_len,
+                                   const uint32_t *loops, size_t loops_len,
+                                   uint32_t size,
+                                   double *nodes, size_t nodes_len, size_t node_count,
+                                   uint32_t *cells, size_t cells_len, size_t cell_count);
 
 uint64_t blocks_write(const int32_t *ring, size_t ring_len,
                       const int32_t *chain, size_t chain_len,

@@ -1,13 +1,14 @@
 //! A divider call: the tests that the scope adds, around the extracted Rust.
 
-use crate::job::{Job, POINTS};
+use crate::job::{Job, Marking, POINTS};
 use crate::notes;
 use crate::stage::{self, Builder, Poly};
+use crate::traced;
 
 /// Units in a mm, and the largest coordinate in units and in mm.
 pub const UNITS: f64 = 8192.0;
 pub const FARTHEST: i32 = 8_388_608;
-const FARTHEST_MM: f64 = 1024.0;
+pub const FARTHEST_MM: f64 = 1024.0;
 const LARGEST_SHEET: u32 = 2048;
 const MOST_PLACES: usize = 1_000_000;
 const MOST_CUTS: usize = 32;
@@ -96,6 +97,17 @@ pub fn divide(
     cells: &mut [Cell],
     cell_count: usize,
 ) -> (Answer, Vec<Poly>) {
+    divide_with(job, None, list, cells, cell_count)
+}
+
+/// The same with given marks, in place of the job's chain, where there are some.
+pub fn divide_with(
+    job: &Job,
+    marking: Option<&Marking>,
+    list: &mut NodeList,
+    cells: &mut [Cell],
+    cell_count: usize,
+) -> (Answer, Vec<Poly>) {
     notes::take();
     let kept = Answer {
         nodes: list.used,
@@ -103,11 +115,10 @@ pub fn divide(
         ..Answer::default()
     };
     let refused = |code| (Answer { code, ..kept }, Vec::new());
-    let code = first_tests(job, list, cells.len(), cell_count);
+    let code = first_tests(job, marking, list, cells.len(), cell_count);
     if code != 0 {
         return refused(code);
     }
-    let (simplified, run_mids) = stage::simplify_chain(&in_mm(&job.chain));
     let points = match stage::cleaned(&in_mm(&job.ring), f64::from(job.size)) {
         Ok(points) => points,
         Err(text) if text.contains("collapsed") => return refused(5),
@@ -117,7 +128,13 @@ pub fn divide(
     if area <= 0 {
         return refused(7);
     }
-    let ring = stage::marked(points, &simplified, &run_mids);
+    let ring = match marking {
+        Some(marking) => traced::marked(&job.ring, job.size, points, marking),
+        None => {
+            let (simplified, run_mids) = stage::simplify_chain(&in_mm(&job.chain));
+            stage::marked(points, &simplified, &run_mids)
+        }
+    };
     let pieces = stage::split_bad_vertices(&ring).expect("the split never fails");
     let accepted = Answer {
         n: ring.points.len(),
@@ -192,8 +209,14 @@ fn number_after(text: &str, name: &str) -> usize {
         .expect("a number follows")
 }
 
-/// Refusals 1 to 4, or 0.
-fn first_tests(job: &Job, list: &NodeList, cell_places: usize, cell_count: usize) -> u8 {
+/// Refusals 1 to 4, with given marks also 13 and 14 after 2, or 0.
+fn first_tests(
+    job: &Job,
+    marking: Option<&Marking>,
+    list: &NodeList,
+    cell_places: usize,
+    cell_count: usize,
+) -> u8 {
     let r = job.ring.len();
     if !(3..=POINTS).contains(&r) || job.chain.len() > POINTS {
         return 1;
@@ -202,6 +225,10 @@ fn first_tests(job: &Job, list: &NodeList, cell_places: usize, cell_count: usize
     let within = |c: &i32| (-FARTHEST..=FARTHEST).contains(c);
     if !coordinates.all(within) || !(1..=LARGEST_SHEET).contains(&job.size) {
         return 2;
+    }
+    let code = marking.map_or(0, |m| traced::refusal(r, m));
+    if code != 0 {
+        return code;
     }
     if list.used > list.places || cell_count > cell_places || list.places > MOST_PLACES {
         return 3;

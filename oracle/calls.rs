@@ -3,8 +3,10 @@
 //! list PLACES USED            then a line for each used node, PLACES at most:
 //! put BX BY                   its two doubles as bits
 //! call SIZE CELL_PLACES CELL_COUNT R C x y ..   R ring points, C chain points
+//! marked SIZE CELL_PLACES CELL_COUNT R K S O L ..   R ring points, then K kinds,
+//!                             S numbers of snaps as bits, O of the outline, L loops
 
-use crate::job::{Call, Given, Job};
+use crate::job::{Call, Given, Job, Marking};
 
 pub fn read(text: &str) -> Vec<Given> {
     let mut lists: Vec<Given> = Vec::new();
@@ -20,6 +22,7 @@ pub fn read(text: &str) -> Vec<Given> {
             "list" => (list.places, list.used) = (number(words[0]), number(words[1])),
             "put" => list.nodes.push([double(words[0]), double(words[1])]),
             "call" => list.calls.push(call(&words)),
+            "marked" => list.calls.push(marked(&words)),
             _ => panic!("no such line: {line}"),
         }
     }
@@ -42,6 +45,37 @@ fn call(words: &[&str]) -> Call {
     };
     Call {
         job,
+        marking: None,
+        cell_places: head[1],
+        cell_count: head[2],
+    }
+}
+
+fn marked(words: &[&str]) -> Call {
+    let head: Vec<usize> = words[..8].iter().map(|w| number(w)).collect();
+    let mut rest = words[8..].iter();
+    let mut part = |n: usize| rest.by_ref().take(n).copied().collect::<Vec<&str>>();
+    let whole = |words: Vec<&str>| -> Vec<i32> {
+        let parsed = words.iter().map(|w| w.parse().expect("a coordinate"));
+        parsed.collect()
+    };
+    let ring = whole(part(2 * head[3]));
+    let kinds = part(head[4]).iter().map(|w| number(w) as u8).collect();
+    let snaps = part(head[5]).iter().map(|w| double(w)).collect();
+    let outline = whole(part(head[6]));
+    let loops = part(head[7]).iter().map(|w| number(w) as u32).collect();
+    Call {
+        job: Job {
+            ring: ring.chunks(2).map(|p| [p[0], p[1]]).collect(),
+            chain: Vec::new(),
+            size: head[0] as u32,
+        },
+        marking: Some(Marking {
+            kinds,
+            snaps,
+            outline,
+            loops,
+        }),
         cell_places: head[1],
         cell_count: head[2],
     }

@@ -27,6 +27,9 @@ mod library;
 mod memory;
 #[allow(dead_code)]
 mod notes;
+#[path = "../target/oracle/outline.rs"]
+#[allow(dead_code)]
+mod outline;
 mod sides;
 #[path = "../target/oracle/stage.rs"]
 #[allow(dead_code)]
@@ -34,6 +37,8 @@ mod stage;
 mod standin;
 #[allow(dead_code)]
 mod time;
+#[allow(dead_code)]
+mod traced;
 
 use blocks::Jobs;
 use call::NodeList;
@@ -41,6 +46,7 @@ use forms::{CELL_PLACES, NODE_PLACES};
 use job::Job;
 use library::{compared, node_image, refused, whole, written};
 use std::io::Read;
+use traced::Met;
 
 /// Differences shown before the rest are only counted.
 const SHOWN: usize = 10;
@@ -110,9 +116,17 @@ fn over_blocks(bytes: &[u8]) -> ! {
     for (number, job) in Jobs::new(bytes).flatten().enumerate() {
         let (mut fresh, odd) = (NodeList::empty(NODE_PLACES), number % 4);
         let mut fresh_image = node_image(&fresh, odd % 2);
-        let alone = compared(&job, &mut fresh, &mut fresh_image, CELL_PLACES, 0, odd);
+        let alone = compared(
+            &job,
+            None,
+            &mut fresh,
+            &mut fresh_image,
+            CELL_PLACES,
+            0,
+            odd,
+        );
         tally.add(&format!("ring {number} alone"), &job, alone);
-        let shared = compared(&job, &mut list, &mut image, CELL_PLACES, 0, 0);
+        let shared = compared(&job, None, &mut list, &mut image, CELL_PLACES, 0, 0);
         tally.add(&format!("ring {number} on one list"), &job, shared);
         if number % 64 == 0 {
             wrong_lengths(&mut tally, number, &job);
@@ -144,15 +158,27 @@ fn wrong_lengths(tally: &mut Tally, number: usize, job: &Job) {
 }
 
 fn over_calls(text: &str) -> ! {
-    let mut tally = Tally::default();
+    let (mut tally, mut met) = (Tally::default(), Met::default());
     for (list_number, given) in calls::read(text).iter().enumerate() {
         let mut list = NodeList::holding(given.places, given.used, &given.nodes);
         let mut image = node_image(&list, list_number % 2);
         for call in &given.calls {
             let (places, count, odd) = (call.cell_places, call.cell_count, list_number % 4);
-            let result = compared(&call.job, &mut list, &mut image, places, count, odd);
+            let marking = call.marking.as_ref();
+            let result = compared(
+                &call.job, marking, &mut list, &mut image, places, count, odd,
+            );
+            if let (Some(marking), Ok(0 | 8)) = (marking, result.as_ref().map(|r| r.code)) {
+                met.add(&call.job.ring, marking);
+            }
             tally.add(&format!("list {list_number}"), &call.job, result);
         }
+    }
+    if met.sought > 0 {
+        println!(
+            "{} marks sought an outline: {} with ties, {} at distance 0, {} on a hole, {} on a segment of no length",
+            met.sought, met.ties, met.on, met.holes, met.flat
+        );
     }
     tally.end()
 }

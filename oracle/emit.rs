@@ -1,6 +1,6 @@
 //! Writing job blocks and calls.
 
-use crate::job::{check, Call, Given, Job, BLOCK, CHECKED};
+use crate::job::{check, Call, Given, Job, Marking, BLOCK, CHECKED};
 
 /// The two blocks of a job, the ring's number first.
 pub fn blocks(job: &Job, number: usize) -> Vec<u8> {
@@ -34,18 +34,44 @@ pub fn calls(given: &Given) -> String {
     for [x, y] in &given.nodes {
         text += &format!("put {:016x} {:016x}\n", x.to_bits(), y.to_bits());
     }
-    for Call {
-        job,
-        cell_places,
-        cell_count,
-    } in &given.calls
-    {
-        let (r, c) = (job.ring.len(), job.chain.len());
-        text += &format!("call {} {cell_places} {cell_count} {r} {c}", job.size);
-        for value in job.ring.iter().chain(&job.chain).flatten() {
-            text += &format!(" {value}");
-        }
+    for call in &given.calls {
+        text += &match &call.marking {
+            Some(marking) => marked(call, marking),
+            None => chained(call),
+        };
         text.push('\n');
     }
+    text
+}
+
+fn chained(call: &Call) -> String {
+    let (job, places, count) = (&call.job, call.cell_places, call.cell_count);
+    let (r, c) = (job.ring.len(), job.chain.len());
+    let mut text = format!("call {} {places} {count} {r} {c}", job.size);
+    for value in job.ring.iter().chain(&job.chain).flatten() {
+        text += &format!(" {value}");
+    }
+    text
+}
+
+fn marked(call: &Call, m: &Marking) -> String {
+    let (job, places, count) = (&call.job, call.cell_places, call.cell_count);
+    let lengths = [
+        job.ring.len(),
+        m.kinds.len(),
+        m.snaps.len(),
+        m.outline.len(),
+        m.loops.len(),
+    ];
+    let mut text = format!("marked {} {places} {count}", job.size);
+    let mut put = |word: String| text += &format!(" {word}");
+    lengths.iter().for_each(|n| put(n.to_string()));
+    job.ring.iter().flatten().for_each(|c| put(c.to_string()));
+    m.kinds.iter().for_each(|k| put(k.to_string()));
+    m.snaps
+        .iter()
+        .for_each(|x| put(format!("{:016x}", x.to_bits())));
+    m.outline.iter().for_each(|c| put(c.to_string()));
+    m.loops.iter().for_each(|n| put(n.to_string()));
     text
 }

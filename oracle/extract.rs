@@ -3,6 +3,9 @@
 //!
 //! extract PATH_OF_alt_quadtree.rs OUTPUT [WRONG]
 //!
+//! Beside OUTPUT it writes outline.rs: the nearest point of an outline, from the
+//! same file and from two_d.rs, which stands beside it.
+//!
 //! WRONG names one further edit, of wrong.rs, that spoils the stage: it shows
 //! whether the generated rings tell a wrong divider from a right one.
 //!
@@ -13,6 +16,7 @@ mod edits;
 mod wrong;
 
 use edits::{all_edits, Edit};
+use std::path::Path;
 use std::process::exit;
 
 /// Constants of the original that the stage keeps.
@@ -66,6 +70,44 @@ pub struct Builder {
 
 ";
 
+/// What stands around the outline's text: the two fields of `Domain` that its
+/// methods use.
+const OUTLINE_HEAD: &str = "\
+// Written by oracle/extract.rs. Not kept in the repository.
+use crate::stage::{dot, lerp, sub};
+
+pub struct Domain {
+    pub outer: Vec<[f64; 2]>,
+    pub holes: Vec<Vec<[f64; 2]>>,
+}
+
+impl Domain {
+";
+
+/// Cleaning once more, over points that carry their place as a third number,
+/// which none of its steps looks at.
+const PLACED_HEAD: &str = "\
+pub mod placed {
+    use crate::stage::{self, dot};
+
+    fn flat(p: [f64; 3]) -> [f64; 2] {
+        [p[0], p[1]]
+    }
+
+    fn sub(a: [f64; 3], b: [f64; 3]) -> [f64; 2] {
+        stage::sub(flat(a), flat(b))
+    }
+
+    fn dist(a: [f64; 3], b: [f64; 3]) -> f64 {
+        stage::dist(flat(a), flat(b))
+    }
+
+    fn point_segment_distance(p: [f64; 3], a: [f64; 3], b: [f64; 3]) -> f64 {
+        stage::point_segment_distance(flat(p), flat(a), flat(b))
+    }
+
+";
+
 fn main() {
     let arguments: Vec<String> = std::env::args().skip(1).collect();
     let words: Vec<&str> = arguments.iter().map(String::as_str).collect();
@@ -83,7 +125,8 @@ fn named(name: &str) -> &'static Edit {
 }
 
 fn write(source: &str, output: &str, wrong: Vec<&'static Edit>) {
-    let text = std::fs::read_to_string(source).unwrap_or_else(|e| fail(&format!("{source}: {e}")));
+    let text = read(Path::new(source));
+    let domain = read(&Path::new(source).with_file_name("two_d.rs"));
     let mut edits = Edits {
         all: all_edits().chain(wrong).collect(),
         made: 0,
@@ -92,7 +135,19 @@ fn write(source: &str, output: &str, wrong: Vec<&'static Edit>) {
     if edits.made != edits.all.len() {
         fail("an edit names a place that is not cut");
     }
-    std::fs::write(output, stage).unwrap_or_else(|e| fail(&format!("{output}: {e}")));
+    save(Path::new(output), stage);
+    save(
+        &Path::new(output).with_file_name("outline.rs"),
+        outline(&text, &domain),
+    );
+}
+
+fn read(path: &Path) -> String {
+    std::fs::read_to_string(path).unwrap_or_else(|e| fail(&format!("{}: {e}", path.display())))
+}
+
+fn save(path: &Path, text: String) {
+    std::fs::write(path, text).unwrap_or_else(|e| fail(&format!("{}: {e}", path.display())));
 }
 
 /// The edits to make, and how many were made.
@@ -131,6 +186,24 @@ fn extract(source: &str, edits: &mut Edits) -> String {
     out
 }
 
+/// The nearest point of an outline: what two_d.rs has of it, with that file's
+/// own distance, and what the stage's file has; and cleaning by places.
+fn outline(stage: &str, domain: &str) -> String {
+    let (stage, domain): (Vec<&str>, Vec<&str>) =
+        (stage.lines().collect(), domain.lines().collect());
+    let mut out = OUTLINE_HEAD.to_string();
+    for name in ["segments", "nearest_segment"] {
+        out.push_str(&item(&domain, &format!("    pub fn {name}(")));
+    }
+    out.push_str("}\n\n");
+    out.push_str(&item(&domain, "fn point_segment_distance("));
+    out.push_str(&item(&stage, "fn nearest_boundary_point("));
+    out.push_str(PLACED_HEAD);
+    out.push_str(&item(&stage, "fn clean_polygon(").replace("[f64; 2]", "[f64; 3]"));
+    out.push_str("}\n");
+    out
+}
+
 /// The number of the only line that begins with `start`.
 fn only_line(lines: &[&str], start: &str) -> usize {
     let found: Vec<usize> = (0..lines.len())
@@ -152,7 +225,9 @@ fn item(lines: &[&str], start: &str) -> String {
     let Some(length) = length else {
         fail(&format!("'{start}' is not closed"));
     };
-    let head = format!("{}pub {}", " ".repeat(indent), lines[first].trim_start());
+    let own = lines[first].trim_start();
+    let own = own.strip_prefix("pub ").unwrap_or(own);
+    let head = format!("{}pub {own}", " ".repeat(indent));
     let mut text = vec![head.as_str()];
     text.extend(&lines[first + 1..=first + length]);
     text.join("\n") + "\n\n"

@@ -2,8 +2,8 @@
 //! and of calls over prefilled lists.
 
 use crate::blocks::Jobs;
-use crate::call::{divide, doubled, Answer, Cell, NodeList, UNTOUCHED};
-use crate::job::Job;
+use crate::call::{divide_with, doubled, Answer, Cell, NodeList, UNTOUCHED};
+use crate::job::{Job, Marking};
 use crate::stage::{polygon_area, Poly};
 use std::fmt::Write;
 
@@ -24,9 +24,20 @@ pub struct Run {
 
 /// Runs a call over the node list and an untouched cell list.
 pub fn run(job: &Job, list: &mut NodeList, cell_places: usize, cell_count: usize) -> Run {
+    run_with(job, None, list, cell_places, cell_count)
+}
+
+/// The same with given marks, in place of the job's chain, where there are some.
+pub fn run_with(
+    job: &Job,
+    marking: Option<&Marking>,
+    list: &mut NodeList,
+    cell_places: usize,
+    cell_count: usize,
+) -> Run {
     let mut cells = vec![UNTOUCHED; cell_places];
     let nodes_before = list.used;
-    let (answer, pieces) = divide(job, list, &mut cells, cell_count);
+    let (answer, pieces) = divide_with(job, marking, list, &mut cells, cell_count);
     Run {
         answer,
         pieces,
@@ -172,7 +183,9 @@ pub fn called(text: &str) -> String {
         out.push_str("list\n");
         let mut list = NodeList::holding(given.places, given.used, &given.nodes);
         for call in &given.calls {
-            let run = run(&call.job, &mut list, call.cell_places, call.cell_count);
+            let marking = call.marking.as_ref();
+            let (cells, count) = (call.cell_places, call.cell_count);
+            let run = run_with(&call.job, marking, &mut list, cells, count);
             detail(&mut out, number, &run, &list);
             if matches!(run.answer.code, 0 | 8) {
                 line(&mut out, format_args!("places {}", places(&run.cells)));

@@ -5,6 +5,7 @@
 //! generate KIND SEED COUNT            COUNT jobs of a kind, as blocks
 //! generate grid SET COUNT             the first COUNT jobs of a complete grid
 //! generate calls SEED COUNT           COUNT lists with their calls, as text
+//! generate leads SEED COUNT           the same, most calls with given marks
 //! generate damaged SEED COUNT FOLDER  COUNT damaged files
 
 mod damage;
@@ -15,13 +16,14 @@ mod grid;
 mod job;
 mod kinds;
 mod known;
+mod leads;
 mod lists;
 mod marked;
 mod place;
 mod random;
 mod shapes;
 
-use job::Job;
+use job::{Given, Job};
 use kinds::KINDS;
 use random::Random;
 use std::io::Write;
@@ -31,7 +33,10 @@ fn main() {
     let words: Vec<&str> = arguments.iter().map(String::as_str).collect();
     let out = match words.as_slice() {
         ["list"] => list().into_bytes(),
-        ["calls", seed, count] => calls(number(seed), number(count)).into_bytes(),
+        ["calls", seed, count] => calls(number(seed), number(count), lists::given).into_bytes(),
+        ["leads", seed, count] => {
+            calls(number(seed), number(count), lists::with_marks).into_bytes()
+        }
         ["grid", set, count] => file(grid::jobs(number(set)), number(count)),
         ["damaged", seed, count, folder] => damaged(number(seed), number(count), folder),
         [kind, seed, count] => blocks(kind, number(seed), number(count)),
@@ -61,6 +66,7 @@ fn list() -> String {
         text += &format!("{name:9} {what}\n");
     }
     text += "calls     lists with nodes in them and calls over each\n";
+    text += "leads     the same, most calls with given marks\n";
     text + "damaged   damaged block files, into a folder\n"
 }
 
@@ -89,10 +95,12 @@ fn any_job(random: &mut Random, place: usize) -> Job {
     kind(random, place)
 }
 
-fn calls(seed: usize, count: usize) -> String {
+type Jobs = fn(&mut Random, usize) -> Job;
+
+fn calls(seed: usize, count: usize, given: fn(&mut Random, Jobs) -> Given) -> String {
     let mut random = Random::new(seed as u64);
     (0..count)
-        .map(|_| emit::calls(&lists::given(&mut random, any_job)))
+        .map(|_| emit::calls(&given(&mut random, any_job)))
         .collect()
 }
 

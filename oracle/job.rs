@@ -13,9 +13,20 @@ pub struct Job {
     pub size: u32,
 }
 
-/// A job with the places of its cell list and the used count.
+/// The marks of a ring's edges, given in place of a chain, as they are lent.
+#[derive(Clone, Default, PartialEq, Debug)]
+pub struct Marking {
+    pub kinds: Vec<u8>,
+    pub snaps: Vec<f64>,
+    pub outline: Vec<i32>,
+    pub loops: Vec<u32>,
+}
+
+/// A job, with given marks or its chain, the places of its cell list and the
+/// used count.
 pub struct Call {
     pub job: Job,
+    pub marking: Option<Marking>,
     pub cell_places: usize,
     pub cell_count: usize,
 }

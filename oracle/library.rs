@@ -3,8 +3,8 @@
 
 use crate::call::{Answer, Cell, NodeList, NodeNumber, UNTOUCHED};
 use crate::desk::answer;
-use crate::forms::run;
-use crate::job::Job;
+use crate::forms::run_with;
+use crate::job::{Job, Marking};
 
 /// What `ring_divide` answers; `corners` is n, or with 8 the piece's.
 #[repr(C)]
@@ -28,6 +28,26 @@ extern "C" {
         ring_len: usize,
         chain: *const i32,
         chain_len: usize,
+        size: u32,
+        nodes: *mut f64,
+        nodes_len: usize,
+        node_count: usize,
+        cells: *mut NodeNumber,
+        cells_len: usize,
+        cell_count: usize,
+    ) -> Returned;
+
+    fn ring_divide_marked(
+        ring: *const i32,
+        ring_len: usize,
+        kinds: *const u8,
+        kinds_len: usize,
+        snaps: *const f64,
+        snaps_len: usize,
+        outline: *const i32,
+        outline_len: usize,
+        loops: *const u32,
+        loops_len: usize,
         size: u32,
         nodes: *mut f64,
         nodes_len: usize,
@@ -133,6 +153,40 @@ pub fn call(
     }
 }
 
+/// Calls the library with given marks and so many numbers of the ring.
+pub fn call_marked(
+    length: usize,
+    (job, m): (&Job, &Marking),
+    nodes: &mut [f64],
+    node_count: usize,
+    cells: &mut [NodeNumber],
+    cell_count: usize,
+) -> Returned {
+    assert!(length <= 2 * job.ring.len());
+    // Each pointer comes with the length of its own list, which outlives the call.
+    unsafe {
+        ring_divide_marked(
+            job.ring.as_ptr().cast(),
+            length,
+            m.kinds.as_ptr(),
+            m.kinds.len(),
+            m.snaps.as_ptr(),
+            m.snaps.len(),
+            m.outline.as_ptr(),
+            m.outline.len(),
+            m.loops.as_ptr(),
+            m.loops.len(),
+            job.size,
+            nodes.as_mut_ptr(),
+            nodes.len(),
+            node_count,
+            cells.as_mut_ptr(),
+            cells.len(),
+            cell_count,
+        )
+    }
+}
+
 pub fn whole(job: &Job) -> (usize, usize) {
     (2 * job.ring.len(), 2 * job.chain.len())
 }
@@ -141,6 +195,7 @@ pub fn whole(job: &Job) -> (usize, usize) {
 /// and guard. `odd` numbers more than its places stand at each list's end.
 pub fn compared(
     job: &Job,
+    marking: Option<&Marking>,
     list: &mut NodeList,
     image: &mut Guarded<f64>,
     cell_places: usize,
@@ -151,16 +206,13 @@ pub fn compared(
     let mut expected_cells = cells.clone();
     let mut expected_nodes = image.clone();
     let used = list.used;
-    let returned = call(
-        whole(job),
-        job,
-        image.list(),
-        used,
-        cells.list(),
-        cell_count,
-    );
+    let lent = (image.list(), cells.list());
+    let returned = match marking {
+        Some(m) => call_marked(whole(job).0, (job, m), lent.0, used, lent.1, cell_count),
+        None => call(whole(job), job, lent.0, used, lent.1, cell_count),
+    };
 
-    let run = run(job, list, cell_places, cell_count);
+    let run = run_with(job, marking, list, cell_places, cell_count);
     for (number, value) in list.nodes.points.iter().flatten().enumerate() {
         expected_nodes.list()[number] = *value;
     }

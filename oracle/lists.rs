@@ -2,6 +2,7 @@
 //! bits, lists with too little room, nodes that cannot be used.
 
 use crate::job::{Call, Given, Job};
+use crate::leads;
 use crate::place::Ring;
 use crate::random::Random;
 
@@ -31,6 +32,17 @@ pub fn given(random: &mut Random, job: impl Fn(&mut Random, usize) -> Job) -> Gi
         nodes,
         calls,
     }
+}
+
+/// The same, two calls of three with given marks.
+pub fn with_marks(random: &mut Random, job: impl Fn(&mut Random, usize) -> Job) -> Given {
+    let mut given = given(random, job);
+    for call in &mut given.calls {
+        if !call.job.ring.is_empty() && !random.one_in(3) {
+            call.marking = Some(leads::marking(random, &call.job));
+        }
+    }
+    given
 }
 
 /// Corners, straight middles and mean of a ring, in mm.
@@ -135,6 +147,7 @@ fn call(random: &mut Random, job: Job) -> Call {
     };
     Call {
         job,
+        marking: None,
         cell_places,
         cell_count,
     }

@@ -15,11 +15,16 @@ mod census;
 mod forms;
 mod job;
 mod notes;
+#[path = "../target/oracle/outline.rs"]
+#[allow(dead_code)]
+mod outline;
 #[path = "../target/oracle/stage.rs"]
 mod stage;
 mod stages;
 mod standin;
 mod time;
+#[allow(dead_code)]
+mod traced;
 
 use std::io::{Read, Write};
 

@@ -11,6 +11,9 @@
 //!   code corners k marked cuts pieces, turned and area (two words each),
 //!   nodes cells, the count of new node numbers and two words for each,
 //!   the first cell number that is written, how many, and a word for each
+//! 5 SIZE CELL_NUMBERS CELL_COUNT RING_NUMBERS KINDS SNAPS OUTLINE LOOPS, the
+//!   ring, the kinds, two words for each number of the snaps, the outline, the
+//!   loops, and as in 2 what is left
 //! 3 NUMBER LENGTH, a word for each byte, code, and if it is 0 kind, count,
 //!   size and the 120 coordinates
 //! 4 SIZE NUMBER ROOM RING_NUMBERS CHAIN_NUMBERS, the coordinates, code, and
@@ -30,15 +33,20 @@ mod forms;
 mod job;
 #[allow(dead_code)]
 mod notes;
+#[path = "../target/oracle/outline.rs"]
+#[allow(dead_code)]
+mod outline;
 #[path = "../target/oracle/stage.rs"]
 #[allow(dead_code)]
 mod stage;
 mod standin;
+#[allow(dead_code)]
+mod traced;
 
 use blocks::Jobs;
 use call::{Cell, NodeList, UNTOUCHED};
-use forms::{run, Run, CELL_PLACES, NODE_PLACES};
-use job::{Job, BLOCK};
+use forms::{run, run_with, Run, CELL_PLACES, NODE_PLACES};
+use job::{Job, Marking, BLOCK};
 use std::io::{Read, Write};
 
 /// Numbers of a ring or chain, and places of the lists, that `replay` holds.
@@ -81,6 +89,29 @@ impl Words {
         for x in job.ring.iter().chain(&job.chain).flatten() {
             self.put(*x as u32);
         }
+        self.left(run, list);
+    }
+
+    fn marked(&mut self, job: &Job, m: &Marking, run: &Run, list: &NodeList) {
+        self.put(5);
+        self.put(job.size);
+        self.count(run.cells.len() * 4);
+        self.count(run.cells_before);
+        for n in [job.ring.len() * 2, m.kinds.len(), m.snaps.len()] {
+            self.count(n);
+        }
+        self.count(m.outline.len());
+        self.count(m.loops.len());
+        job.ring.iter().flatten().for_each(|x| self.put(*x as u32));
+        m.kinds.iter().for_each(|k| self.put((*k).into()));
+        m.snaps.iter().for_each(|x| self.long(x.to_bits()));
+        m.outline.iter().for_each(|x| self.put(*x as u32));
+        m.loops.iter().for_each(|n| self.put(*n));
+        self.left(run, list);
+    }
+
+    /// What a call returned and left.
+    fn left(&mut self, run: &Run, list: &NodeList) {
         let a = &run.answer;
         let corners = a.n.max(a.corners);
         for value in [a.code.into(), corners, a.k, a.marked, a.cuts, a.pieces] {
@@ -173,8 +204,13 @@ fn lists(text: &str) -> Words {
         let mut list = NodeList::holding(given.places, given.used, &given.nodes);
         words.list(given.places, given.used, &given.nodes);
         for call in &given.calls {
-            let ran = run(&call.job, &mut list, call.cell_places, call.cell_count);
-            words.call(&call.job, &ran, &list);
+            let marking = call.marking.as_ref();
+            let (places, count) = (call.cell_places, call.cell_count);
+            let ran = run_with(&call.job, marking, &mut list, places, count);
+            match marking {
+                Some(marking) => words.marked(&call.job, marking, &ran, &list),
+                None => words.call(&call.job, &ran, &list),
+            }
         }
     }
     words

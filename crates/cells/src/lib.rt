@@ -60,7 +60,7 @@ pub struct Tried {
 }
 
 // A straight middle.
-fn halfway(a: Point, b: Point) -> Point
+pub fn halfway(a: Point, b: Point) -> Point
     ensures { λ r. ⌜ r ≡ Cells.middle a b ⌝ }
 {
     Point {

@@ -1,6 +1,7 @@
 -- A mark that survives stays on its edge: the edge of the cleaned ring that carries it has the two ring points that it had
--- (`surviving-edge`). There are as many marks as points (`surviving-many`). Assumes nothing.
-use Prim.Native.Nat.{ℕ, suc, _%_, _<_}
+-- (`surviving-edge`). There are as many marks as points (`surviving-many`). Whether a kept place's mark survives is told
+-- by the next kept place alone (`survives-next`). Assumes nothing.
+use Prim.Native.Nat.{ℕ, zero, suc, _%_, _<_}
 use native.Mathlib.Nat.{mod-eq-of-lt, mod-self, mod-lt}
 use native.Mathlib.Decide.{decLe}
 use native.Mathlib.Omega.{arith}
@@ -9,6 +10,8 @@ use mathlib.Core.Bool.{Bool, true, false, _&&_, _||_, cond}
 use mathlib.Core.List.{List, [], _∷_}
 use lib.ListN.{length, getD, length-map}
 use lib.Dec.{T, eqb, eqb→eq}
+use borrow.Author.Tests.{eq-eqb, ne-eqb}
+use Rattle.laws.proofs.Booleans.{or-r}
 use Rattle.vector.specs.declared.GridPoint.{GridPoint}
 use Rattle.vector.specs.Grid.{origin, at}
 use Rattle.clean.specs.Clean.{cleanPolygon}
@@ -38,6 +41,17 @@ found i (k ∷ ks) h = go (eqb i k) refl (λ t. found i ks t) h
     go : (b : Bool) → eqb i k ≡ b → (T (isIn i ks) → Found i ks) → T (b || isIn i ks) → Found i (k ∷ ks)
     go true e more t = record { place = 0; low = omega arith; is = sym (eqb→eq i k (subst T (sym e) tt)) }
     go false e more t = let f = more t in record { place = suc (f .place); low = omega (arith, f .low); is = f .is }
+
+-- what stands in some place of a list is in it
+is-in : (i m : ℕ) (ks : List ℕ) → m < length ks → getD ks m 0 ≡ i → T (isIn i ks)
+unfolding isIn
+is-in i m [] l e = absurd (omega (arith, l))
+is-in i zero (k ∷ ks) l e = rw (eq-eqb i k (sym e)) tt
+is-in i (suc m) (k ∷ ks) l e = or-r (eqb i k) (isIn i ks) (is-in i m ks (omega (arith, l)) e)
+
+both : (a b : Bool) → T a → T b → T (a && b)
+both true b h k = k
+both false b h k = absurd h
 
 second : (a b : Bool) → T (a && b) → T b
 second true b h = h
@@ -116,6 +130,21 @@ module _ (n : ℕ) (ks : List ℕ) (h : Rising n ks) (j : ℕ) (l : j < length k
               go5 : Dec (0 < m) → m ≡ 0
               go5 (yes u) = let a = h .rising 0 m u (f .low) in absurd (omega (arith, e, a))
               go5 (no u) = omega (arith, u)
+
+  -- the mark of a kept place survives exactly if the next kept place is the next place of the ring
+  pub survives-next : survives n ks (getD ks j 0) ≡ eqb (getD ks (suc j % length ks) 0) (suc (getD ks j 0) % n)
+  unfolding survives
+  survives-next = go (survives n ks (getD ks j 0)) refl
+    where
+      q : ℕ
+      q = getD ks j 0
+
+      m : ℕ
+      m = suc j % length ks
+
+      go : (b : Bool) → survives n ks q ≡ b → b ≡ eqb (getD ks m 0) (suc q % n)
+      go true e = sym (eq-eqb (getD ks m 0) (suc q % n) (after (subst T (sym e) tt)))
+      go false e = sym (ne-eqb (getD ks m 0) (suc q % n) (λ d. subst T e (both (isIn q ks) (isIn (suc q % n) ks) (is-in q j ks l refl) (is-in (suc q % n) m ks (mod-lt (suc j) (omega (arith, l))) d))))
 
 -- ---- the edge
 module _ (size : ℕ) (r : List GridPoint) (j : ℕ) (l : j < length (keptPlaces size r)) where

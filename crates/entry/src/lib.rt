@@ -59,7 +59,7 @@ fn outside(p: GridPoint) -> bool
 }
 
 // A coordinate of a ring or a chain is beyond the limits.
-fn any_outside(l: &[i32]) -> bool
+pub fn any_outside(l: &[i32]) -> bool
     ensures { λ r. ⌜ r ≡ Call.anyOutside (pointsIn (now (l .entry)) (length (now (l .entry)) / 2)) ⌝ }
 {
     for i in 0..l.len() / 2 {
@@ -99,7 +99,7 @@ fn usable(nodes: &[f64], used: usize) -> bool
 }
 
 // 3: a used count, the number of places, or a used node. The nodes are looked at last, when all of them are there.
-fn lists_out(nodes: &[f64], node_count: usize, cell_places: usize, cell_count: usize) -> bool
+pub fn lists_out(nodes: &[f64], node_count: usize, cell_places: usize, cell_count: usize) -> bool
     ensures { λ r. ⌜ ((cells : List Cell) → length cells ≡ «cell_places» → r ≡ Call.listsOut (record { nodes = nodesIn (now (nodes .entry)) (length (now (nodes .entry)) / 2); nodeCount = «node_count»; cells = cells; cellCount = «cell_count» })) ⌝ }
 {
     let places = nodes.len() / 2;
@@ -131,7 +131,7 @@ pub fn cell_reserve(limits: Limits, r: usize) -> usize
 }
 
 // 4: too few free places.
-fn room_out(limits: Limits, r: usize, nodes: usize, cells: usize) -> bool
+pub fn room_out(limits: Limits, r: usize, nodes: usize, cells: usize) -> bool
     requires { ⌜ (3 ≤ r) × (r ≤ 60) ⌝ }
     ensures { λ b. ⌜ b ≡ Call.roomOut limits r nodes cells ⌝ }
 {

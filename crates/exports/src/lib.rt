@@ -8,6 +8,7 @@ ghost use lib.ListN.{length};
 ghost use Rattle.root.specs.Root.{rootBits};
 ghost use Rattle.corner.specs.Limits.{delivered};
 ghost use Rattle.divider.specs.Promise.{Promise};
+ghost use Rattle.marked.specs.Promise.{MarkedPromise};
 ghost use Rattle.writer.specs.Write as Write;
 use nodes::NodeNumber;
 use table::Values;
@@ -27,6 +28,38 @@ pub extern "C" fn ring_divide(
         v (now (nodes .exit)) (now (cells .exit)) ⌝ }
 {
     let a = divider::divide(ring, chain, size, nodes, node_count, cells, cell_count);
+    Values::new(a)
+}
+
+// The divider call with given marks: 0 straight, 1 snapped to its given point, 2 snapped to the outline.
+#[no_mangle]
+pub extern "C" fn ring_divide_marked(
+    ring: &[i32],
+    kinds: &[u8],
+    snaps: &[f64],
+    outline: &[i32],
+    loops: &[u32],
+    size: u32,
+    nodes: &mut [f64],
+    node_count: usize,
+    cells: &mut [NodeNumber],
+    cell_count: usize,
+) -> Values
+    ensures { λ v. ⌜ MarkedPromise delivered (record { ring = now (ring .entry); marking = record { kinds = now (kinds .entry); snaps = now (snaps .entry); outline = now (outline .entry); loops = now (loops .entry) }; size = size; nodes = now (nodes .entry); nodeCount = «node_count»; cells = now (cells .entry); cellCount = «cell_count» })
+        v (now (nodes .exit)) (now (cells .exit)) ⌝ }
+{
+    let a = marked::divide_marked(
+        ring,
+        kinds,
+        snaps,
+        outline,
+        loops,
+        size,
+        nodes,
+        node_count,
+        cells,
+        cell_count,
+    );
     Values::new(a)
 }
 

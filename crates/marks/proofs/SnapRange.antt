@@ -34,13 +34,13 @@ marked-many ss r = marks-many ss r (length r)
 abbrev InSheet : Point → Type 0
 InSheet p = Within 1024 (p .x) × Within 1024 (p .y)
 
-abbrev InSheetEdge : EdgeMark → Type 0
+abbrev pub InSheetEdge : EdgeMark → Type 0
 InSheetEdge m = (q : Point) → m ≡ Snap q → InSheet q
 
-straight-in : InSheetEdge Straight
+pub straight-in : InSheetEdge Straight
 straight-in q e = let z : _≡_ {A = ℕ} 0 1 = cc in absurd (omega arith)
 
-snap-in : (p : Point) → InSheet p → InSheetEdge (Snap p)
+pub snap-in : (p : Point) → InSheet p → InSheetEdge (Snap p)
 snap-in p h q e = let z : p ≡ q = cc in subst InSheet z h
 
 mark-in : (ss : List Stretch) (a b : GridPoint) → SnapsInRange ss → InSheetEdge (mark ss a b)

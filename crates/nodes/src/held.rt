@@ -9,7 +9,8 @@ ghost use Rattle.laws.specs.Bounded.{any};
 ghost use Rattle.nodes.specs.Flat as Flat;
 use super::nearby;
 
-fn is_held(x: f64) -> bool
+// Whether a number is such a coordinate: finite and within 1,024 mm.
+pub fn is_held(x: f64) -> bool
     ensures { λ r. ⌜ r ≡ Flat.held x ⌝ }
 {
     (-1024.0 <= x) & (x <= 1024.0)

@@ -18,6 +18,7 @@ ghost use Rattle.nodes.specs.Growth.{InRange};
 ghost use Rattle.nodes.specs.Flat.{pointAt, nodesIn, over, Usable, placed, Sought, near, hasAt};
 ghost use Rattle.nodes.specs.Nearby.{Held};
 pub use held::all_held;
+pub use held::is_held;
 use keys::SoughtKey;
 pub use nearby::MOST_NEARBY;
 pub use nearby::Nearby;

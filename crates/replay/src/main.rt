@@ -1,6 +1,7 @@
 // Replay: runs the fixed lists of data/, calls and blocks with what the original Rust answers, and compares every returned
 // value, every node bit, every cell place, every byte read and every byte written. docs/REPLAY.md has the form of the lists.
 
+mod leads;
 mod pairs;
 mod same;
 mod words;
@@ -23,7 +24,7 @@ pub struct State {
 
 impl State {
     // One more call or block.
-    fn ran(self, same: bool, used: usize) -> State {
+    pub fn ran(self, same: bool, used: usize) -> State {
         let t = self.tally;
         let differ = if same { 0 } else { 1 };
         State {
@@ -159,6 +160,9 @@ fn step(fd: i32, kind: u32, nodes: &mut [f64], s: State) -> State {
     if kind == 4 {
         return replay_pair(fd, s);
     }
+    if kind == 5 {
+        return leads::replay_marked(fd, nodes, s);
+    }
     let used = s.used;
     s.ran(false, used)
 }
@@ -216,5 +220,9 @@ fn main() {
     let calls = file(b"calls.list");
     let read = file(b"blocks.list");
     let written = file(b"pairs.list");
-    print(b"total", plus(plus(plus(rings, calls), read), written));
+    let marked = file(b"marks.list");
+    print(
+        b"total",
+        plus(plus(plus(plus(rings, calls), read), written), marked),
+    );
 }

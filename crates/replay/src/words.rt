@@ -26,11 +26,20 @@ pub fn count(fd: i32) -> usize
     65536
 }
 
-pub fn smaller(a: usize, b: usize) -> usize {
+pub fn smaller(a: usize, b: usize) -> usize
+    ensures { λ r. ⌜ (r ≤ a) × (r ≤ b) ⌝ }
+{
     if a < b {
         return a;
     }
     b
+}
+
+// A count of a list that has no more places than these.
+pub fn count_to(fd: i32, most: usize) -> usize
+    ensures { λ r. ⌜ r ≤ most ⌝ }
+{
+    smaller(count(fd), most)
 }
 
 // The numbers of n places.
@@ -88,6 +97,12 @@ pub fn put_byte(bytes: &mut [u8], i: usize, x: u8) {
     }
 }
 
+pub fn put_word(words: &mut [u32], i: usize, x: u32) {
+    if i < words.len() {
+        words[i] = x;
+    }
+}
+
 pub fn put_double(doubles: &mut [f64], i: usize, x: f64) {
     if i < doubles.len() {
         doubles[i] = x;
@@ -97,6 +112,12 @@ pub fn put_double(doubles: &mut [f64], i: usize, x: f64) {
 pub fn read_numbers(fd: i32, numbers: &mut [i32], n: usize) {
     for i in 0..n {
         put_number(numbers, i, blocks::signed(word(fd)));
+    }
+}
+
+pub fn read_words(fd: i32, words: &mut [u32], n: usize) {
+    for i in 0..n {
+        put_word(words, i, word(fd));
     }
 }
 

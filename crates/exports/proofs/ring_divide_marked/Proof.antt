@@ -1,0 +1,23 @@
+-- `ring_divide_marked` has the promise of `divide_marked`. Assumes nothing.
+use borrow.Author.Needs.{needs}
+use Rattle.exports.proofs.ring_divide_marked.Statement.{statement}
+use Rattle.exports.proofs.ring_divide_marked.Tie as tie
+
+divide-marked-requires : tie.Need-divide-marked-requires
+divide-marked-requires c κs = search needs
+
+new-requires : tie.Need-new-requires
+new-requires c κs = search needs
+
+same-length : tie.Need-same-length
+same-length c = search needs
+
+same-length-2 : tie.Need-same-length-2
+same-length-2 c = search needs
+
+returns : tie.Need-returns
+returns c = rw (c .new .ensures) (c .before .before .before .before .before .divide-marked .ensures)
+
+pub ring-divide-marked-spec : {M : Type 1} → statement M
+ring-divide-marked-spec =
+    tie.close (tie.spec divide-marked-requires new-requires same-length same-length-2 returns)

@@ -1,0 +1,134 @@
+-- Marks laid edge by edge into an array, and that those laid are the ones that survive: the next kept place decides it.
+use Prim.Native.Nat.{ℕ, suc, _+_, _%_, _≤_, _<_}
+use native.Mathlib.Nat.{mod-lt}
+use native.Mathlib.Omega.{arith}
+use native.Mathlib.Numerals.{add-one}
+use mathlib.Core.Path.{_≡_, refl, sym, ap, _∙_}
+use mathlib.Core.Bool.{Bool, true, false, cond}
+use mathlib.Core.List.{List, _∷_, [], _++_, map}
+use lib.Ieee.{Float}
+use lib.ListN.{length, getD, set, replicate, take, length-set}
+use lib.Dec.{eqb}
+use borrow.Author.Tests.{eq-eqb, eqb-true}
+use lib.Seq.{length-take-le, getD-take, take-set-le, getD-set-same, getD-set-other}
+use Rattle.laws.specs.Table.{tab}
+use Rattle.laws.proofs.Lists.{all-same}
+use Rattle.laws.proofs.Search.{any-hit}
+use Rattle.laws.proofs.Table.{getD-tab, is-tab}
+use Rattle.vector.specs.declared.GridPoint.{GridPoint}
+use Rattle.vector.specs.declared.Point.{Point}
+use Rattle.vector.specs.Grid.{origin, at}
+use Rattle.vector.proofs.Rings as rings
+use Rattle.marks.specs.declared.Edge.{Edge}
+use Rattle.marks.specs.declared.EdgeMark.{EdgeMark}
+use Rattle.marks.specs.declared.EdgeMark.the-variants.{Straight, Snap}
+use Rattle.marks.specs.Edges.{marksIn, straightEdge}
+use Rattle.marks.proofs.Edges.{marks-more}
+use Rattle.clean.specs.declared.Ring.{Ring}
+use Rattle.clean.specs.Places.{survives, surviving}
+use Rattle.clean.proofs.Survivors.{surviving-many, surviving-at, survives-next}
+use Rattle.outline.specs.Outline.{Segment}
+use Rattle.nodes.specs.Flat.{pointAt}
+use Rattle.demand.specs.Marked.{Marking, markOf, leadPoint, leadLine, givenMark, calledFor}
+use Rattle.given.specs.declared.LeadLine.{LeadLine}
+use Rattle.given.specs.Steps.{sought, Traced, placesIn, MarksOf, markLeft, Laid, Survive}
+
+-- a kept place is one of the ring's
+module _ (ring : List GridPoint) (n : ℕ) (kinds : List ℕ) (snaps : List Float) (c : Ring) (h : MarksOf ring n kinds snaps c) where
+  pub places-many : length (placesIn c) ≡ c .count
+  places-many = length-take-le (c .count) (c .places) (omega (arith, h .count, h .room))
+
+  pub place-low : (j : ℕ) → j < c .count → getD (c .places) j 0 < n
+  place-low j l =
+      let e = getD-take (c .count) (c .places) j 0 l in
+      let b = h .kept .below j (omega (arith, l, places-many)) in
+      omega (arith, e, b)
+
+pub laid-none : (f : ℕ → EdgeMark) → Laid f 0 (replicate 60 straightEdge)
+unfolding tab
+laid-none f = record { marks = refl; unused = λ k h. all-same (λ x. x ≡ straightEdge) straightEdge 60 straightEdge refl refl k; places = refl }
+
+pub laid-more : (f : ℕ → EdgeMark) (i : ℕ) (es : List Edge) (e : Edge) → Laid f i es → i < 60 → e .mark ≡ f i → Laid f (i + 1) (set es i e)
+unfolding tab
+laid-more f i es e so l q =
+    let m = ap (map (λ (e : Edge). e .mark)) (take-set-le i es i e (omega arith)) ∙ so .marks in
+    let g = ap (λ (d : Edge). d .mark) (getD-set-same es i e straightEdge (omega (arith, so .places))) ∙ q in
+    record {
+      marks = marks-more (set es i e) i (rw (length-set es i e) (omega (arith, so .places))) ∙ (λ j. m j ++ (g j ∷ [])) ∙ ap (tab f) (sym (add-one i));
+      unused = λ k h. getD-set-other es i k e straightEdge (λ q. omega arith) ∙ so .unused k (omega arith);
+      places = length-set es i e ∙ so .places;
+    }
+
+-- the mark that the code lays, with the next places that it found
+pub mark-next : (ring : List GridPoint) (n : ℕ) (ks : List ℕ) (count : ℕ) (kinds : List ℕ) (snaps : List Float) (ss : List Segment) (j m after : ℕ) → m ≡ (j + 1) % count → after ≡ (getD ks j 0 + 1) % n
+    → (let k = getD ks j 0 in cond (eqb (getD ks m 0) after) (markOf (getD kinds k 0) (pointAt snaps k) (leadPoint ss (getD ring k origin) (getD ring after origin))) Straight) ≡ markLeft ring n ks count kinds snaps ss j
+mark-next ring n ks count kinds snaps ss j m after d e =
+    let k = getD ks j 0 in
+    λ i. cond (eqb (getD ks (d i) 0) (e i)) (markOf (getD kinds k 0) (pointAt snaps k) (leadPoint ss (getD ring k origin) (getD ring (e i) origin))) Straight
+
+-- the outline's nearest point is looked at where the kind is 2 alone
+mark-same : (kind : ℕ) (p q u : Point) → (kind ≡ 2 → q ≡ u) → markOf kind p q ≡ markOf kind p u
+unfolding markOf
+mark-same kind p q u h = go (eqb kind 1) (eqb kind 2) refl
+  where
+    go : (a b : Bool) → eqb kind 2 ≡ b → cond a (Snap p) (cond b (Snap q) Straight) ≡ cond a (Snap p) (cond b (Snap u) Straight)
+    go true b e = refl
+    go false true e = ap Snap (h (eqb-true kind 2 e))
+    go false false e = refl
+
+module _ (ring : List GridPoint) (n : ℕ) (c : Ring) (g : Marking) (o : LeadLine) (h : MarksOf ring n (g .kinds) (g .snaps) c) (t : Traced (g .kinds) (g .outline) (g .loops) o) where
+  abbrev r : List GridPoint
+  r = take n ring
+
+  abbrev ks : List ℕ
+  ks = placesIn c
+
+  abbrev ms : List EdgeMark
+  ms = tab (givenMark g r) n
+
+  abbrev many : length ks ≡ c .count
+  many = places-many ring n (g .kinds) (g .snaps) c h
+
+  points-many : length r ≡ n
+  points-many = length-take-le n ring (omega (arith, h .few, h .array))
+
+  -- the mark given to the edge from place k
+  given-is : (k : ℕ) → k < n → markOf (getD (g .kinds) k 0) (pointAt (g .snaps) k) (leadPoint (sought o) (getD ring k origin) (getD ring ((k + 1) % n) origin)) ≡ givenMark g r k
+  unfolding givenMark calledFor
+  given-is k l =
+      let f : n ≤ length ring = omega (arith, h .few, h .array) in
+      let a = rings.at-in ring n f (omega (arith, l)) k l in
+      let b = rings.at-next ring n f (omega (arith, l)) k ((k + 1) % n) refl in
+      mark-same (getD (g .kinds) k 0) (pointAt (g .snaps) k) (leadPoint (sought o) (getD ring k origin) (getD ring ((k + 1) % n) origin)) (leadPoint (leadLine g) (at r k) (at r (suc k)))
+      (λ e.
+      let s = t .is (any-hit (λ i. eqb (getD (g .kinds) i 0) 2) k (length (g .kinds)) (omega (arith, l, h .marks)) (eq-eqb (getD (g .kinds) k 0) 2 e)) in
+      λ i. leadPoint (s i) (sym a i) (sym b i))
+
+  -- edge j after cleaning
+  left-is : (j : ℕ) → j < c .count
+      → markLeft ring n (c .places) (c .count) (g .kinds) (g .snaps) (sought o) j ≡ cond (survives n ks (getD ks j 0)) (getD ms (getD ks j 0) Straight) Straight
+  left-is j l =
+      let k = getD (c .places) j 0 in
+      let low = place-low ring n (g .kinds) (g .snaps) c h j l in
+      let z : 1 ≤ c .count = omega (arith, l) in
+      let a : getD ks j 0 ≡ k = getD-take (c .count) (c .places) j 0 l in
+      let b : getD ks ((j + 1) % c .count) 0 ≡ getD (c .places) ((j + 1) % c .count) 0 = getD-take (c .count) (c .places) ((j + 1) % c .count) 0 (mod-lt (j + 1) z) in
+      let d : suc j % length ks ≡ (j + 1) % c .count = (λ i. (sym (add-one j) i) % (many i)) in
+      let s : survives n ks (getD ks j 0) ≡ eqb (getD (c .places) ((j + 1) % c .count) 0) ((k + 1) % n) =
+      survives-next n ks (h .kept) j (omega (arith, l, many))
+      ∙ (λ i. eqb ((ap (λ (x : ℕ). getD ks x 0) d ∙ b) i) ((ap (λ (x : ℕ). suc x % n) a ∙ ap (λ (x : ℕ). x % n) (sym (add-one k))) i)) in
+      let m : getD ms (getD ks j 0) Straight ≡ givenMark g r k = ap (λ (x : ℕ). getD ms x Straight) a ∙ getD-tab (givenMark g r) n k Straight low in
+      λ i. cond (sym s i) ((given-is k low ∙ sym m) i) Straight
+
+  pub survive : (es : List Edge) → Laid (markLeft ring n (c .places) (c .count) (g .kinds) (g .snaps) (sought o)) (c .count) es → Survive g r ks es
+  survive es so =
+      let f = markLeft ring n (c .places) (c .count) (g .kinds) (g .snaps) (sought o) in
+      let u : surviving Straight n ks ms ≡ tab f (c .count) =
+      is-tab (surviving Straight n ks ms) f (c .count) Straight (surviving-many Straight n ks ms ∙ many)
+      (λ j l. surviving-at Straight n ks ms j (omega (arith, l, many)) ∙ sym (left-is j l)) in
+      let v : surviving Straight n ks ms ≡ surviving Straight (length r) ks (tab (givenMark g r) (length r)) = ap (λ (x : ℕ). surviving Straight x ks (tab (givenMark g r) x)) (sym points-many) in
+      record {
+        marks = ap (marksIn es) many ∙ so .marks ∙ sym u ∙ v;
+        unused = λ k l. so .unused k (omega (arith, l, many));
+        places = so .places;
+      }

@@ -1,0 +1,3 @@
+-- Laws for the code of this crate.
+pub mod Scans
+pub mod Laying

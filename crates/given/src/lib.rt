@@ -1,0 +1,235 @@
+// Given: the marks that a caller gives in place of a chain. Refusals 13 and 14, and the ring of a call, cleaned, with the
+// marks that survive.
+//
+// It stands beside `chain` and `marks` in the way of a ring: they mark the edges along a drawn chain, this crate takes the
+// marks as they are lent, 0 straight, 1 snapped to a given point, 2 snapped to the nearest point of an outline with holes.
+// Nothing is asked of what is lent until it is tested. The definitions are those of demand's specs/Marked.
+
+ghost use mathlib.Core.Path.{_≡_};
+ghost use mathlib.Core.Bool.{false, cond};
+ghost use Prim.Native.Nat.{_≤_};
+ghost use lib.ListN.{length, take};
+ghost use Rattle.marks.specs.declared.EdgeMark.the-variants.{Straight};
+ghost use Rattle.demand.specs.Marked as Marked;
+ghost use Rattle.given.specs.Steps.{Fits, sought, Traced, placesIn, MarksOf, markLeft, Laid, Survive};
+use clean::Ring;
+use marks::Edge;
+use marks::EdgeMark;
+use vector::GridPoint;
+use vector::Point;
+
+// An outline as it is sought: the points of its loops one after the other, and how many each of the first count loops has.
+struct LeadLine {
+    points: [GridPoint; 60],
+    loops: [usize; 20],
+    count: usize,
+}
+
+// A mark that is of no kind, or whose given point is out of limits.
+fn mark_out(kind: u8, p: Point) -> bool
+    ensures { λ r. ⌜ r ≡ Marked.markOut kind p ⌝ }
+{
+    if 2 < kind {
+        return true;
+    }
+    if kind != 1 {
+        return false;
+    }
+    if nodes::is_held(p.x) {
+        return !nodes::is_held(p.y);
+    }
+    true
+}
+
+// 13: the marks of a ring of n points. The given point of a mark that is not of kind 1 may be anything.
+pub fn marks_out(n: usize, kinds: &[u8], snaps: &[f64]) -> bool
+    requires { ⌜ n ≤ 60 ⌝ }
+    ensures { λ r. ⌜ r ≡ Marked.marksOut (now (kinds .entry)) (now (snaps .entry)) n ⌝ }
+{
+    if kinds.len() != n {
+        return true;
+    }
+    if snaps.len() != n * 2 {
+        return true;
+    }
+    for i in 0..n {
+        let p = Point {
+            x: snaps[i * 2],
+            y: snaps[i * 2 + 1],
+        };
+        if mark_out(kinds[i], p) {
+            return true;
+        }
+    }
+    false
+}
+
+// Whether some mark snaps to the outline.
+pub fn called_for(kinds: &[u8]) -> bool
+    ensures { λ r. ⌜ r ≡ Marked.calledFor (now (kinds .entry)) ⌝ }
+{
+    for i in 0..kinds.len() {
+        if kinds[i] == 2 {
+            return true;
+        }
+    }
+    false
+}
+
+// Loops that have under 3 points, or do not add up to n, at most 60. The sum stops past 60, so that it does not wrap.
+fn loops_out(loops: &[u32], n: usize) -> bool
+    requires { ⌜ n ≤ 60 ⌝ }
+    ensures { λ r. ⌜ r ≡ Marked.loopsOut (now (loops .entry)) n ⌝ }
+{
+    let mut total: usize = 0;
+    for i in 0..loops.len() {
+        let m = loops[i] as usize;
+        if m < 3 {
+            return true;
+        }
+        total += m;
+        if 60 < total {
+            return true;
+        }
+    }
+    total != n
+}
+
+// 14: the outline, where it is called for. Where it is not, it may be anything.
+pub fn outline_out(kinds: &[u8], outline: &[i32], loops: &[u32]) -> bool
+    ensures { λ r. ⌜ r ≡ Marked.outlineOut (now (kinds .entry)) (now (outline .entry)) (now (loops .entry)) ⌝ }
+{
+    if !called_for(kinds) {
+        return false;
+    }
+    let n = outline.len() / 2;
+    if outline.len() % 2 != 0 {
+        return true;
+    }
+    if n == 0 {
+        return true;
+    }
+    if 60 < n {
+        return true;
+    }
+    if loops_out(loops, n) {
+        return true;
+    }
+    entry::any_outside(outline)
+}
+
+// How many points each loop has, in the first places.
+fn loop_counts(loops: &[u32]) -> [usize; 20]
+    requires { ⌜ length (now loops) ≤ 20 ⌝ }
+    ensures { λ r. ⌜ take (length (now (loops .entry))) r ≡ now (loops .entry) ⌝ }
+{
+    let mut out = [0usize; 20];
+    for i in 0..loops.len() {
+        out[i] = loops[i] as usize;
+    }
+    out
+}
+
+// The outline that is sought: the one lent where it is called for, and else none.
+fn lead_line(kinds: &[u8], outline: &[i32], loops: &[u32]) -> LeadLine
+    requires { ⌜ Marked.outlineOut (now kinds) (now outline) (now loops) ≡ false ⌝ }
+    ensures { λ r. ⌜ Traced (now (kinds .entry)) (now (outline .entry)) (now (loops .entry)) r ⌝ }
+{
+    if !called_for(kinds) {
+        return LeadLine {
+            points: [GridPoint::ORIGIN; 60],
+            loops: [0; 20],
+            count: 0,
+        };
+    }
+    LeadLine {
+        points: entry::points(outline, outline.len() / 2),
+        loops: loop_counts(loops),
+        count: loops.len(),
+    }
+}
+
+// The mark of the edge from a to b, of a kind and with its given point.
+fn given_mark(kind: u8, p: Point, a: GridPoint, b: GridPoint, lead: LeadLine) -> EdgeMark
+    requires { ⌜ Fits lead ⌝ }
+    ensures { λ r. ⌜ r ≡ Marked.markOf kind p (Marked.leadPoint (sought lead) a b) ⌝ }
+{
+    if kind == 1 {
+        return EdgeMark::Snap(p);
+    }
+    if kind == 2 {
+        let m = cells::halfway(Point::new(a), Point::new(b));
+        let points = lead.points;
+        let loops = lead.loops;
+        let q = outline::nearest_boundary_point(m, points, loops, lead.count);
+        return EdgeMark::Snap(q);
+    }
+    EdgeMark::Straight
+}
+
+// The same where the edge stays, and else straight: it joins two kept points over dropped ones.
+fn surviving_mark(
+    stays: bool,
+    kind: u8,
+    p: Point,
+    a: GridPoint,
+    b: GridPoint,
+    lead: LeadLine,
+) -> EdgeMark
+    requires { ⌜ Fits lead ⌝ }
+    ensures { λ r. ⌜ r ≡ cond stays (Marked.markOf kind p (Marked.leadPoint (sought lead) a b)) Straight ⌝ }
+{
+    if stays {
+        return given_mark(kind, p, a, b, lead);
+    }
+    EdgeMark::Straight
+}
+
+// The marks of the ring of the first n points after cleaning. The edge from a kept place stays exactly if the next kept
+// place is the next place of the ring.
+fn marks_left(
+    ring: [GridPoint; 60],
+    n: usize,
+    clean: Ring,
+    kinds: &[u8],
+    snaps: &[f64],
+    lead: LeadLine,
+) -> [Edge; 60]
+    requires { ⌜ Fits lead × MarksOf ring n (now kinds) (now snaps) clean ⌝ }
+    ensures { λ r. ⌜ Laid (markLeft ring n (clean .places) (clean .count) (now (kinds .entry)) (now (snaps .entry)) (sought lead)) (clean .count) r ⌝ }
+{
+    let count = clean.count;
+    let straight = Edge {
+        mark: EdgeMark::Straight,
+    };
+    let mut edges = [straight; 60];
+    for j in 0..count {
+        let k = clean.places[j] as usize;
+        let after = vector::next(k, n);
+        let kept = clean.places[vector::next(j, count)] as usize;
+        let p = Point {
+            x: snaps[k * 2],
+            y: snaps[k * 2 + 1],
+        };
+        let mark = surviving_mark(kept == after, kinds[k], p, ring[k], ring[after], lead);
+        edges[j] = Edge { mark: mark };
+    }
+    edges
+}
+
+// The marks of a cleaned ring, which came of the first n points: those given that survive.
+pub fn surviving_marks(
+    ring: [GridPoint; 60],
+    n: usize,
+    clean: Ring,
+    kinds: &[u8],
+    snaps: &[f64],
+    outline: &[i32],
+    loops: &[u32],
+) -> [Edge; 60]
+    requires { ⌜ MarksOf ring n (now kinds) (now snaps) clean × (Marked.outlineOut (now kinds) (now outline) (now loops) ≡ false) ⌝ }
+    ensures { λ r. ⌜ Survive (record { kinds = now (kinds .entry); snaps = now (snaps .entry); outline = now (outline .entry); loops = now (loops .entry) }) (take n ring) (placesIn clean) r ⌝ }
+{
+    let lead = lead_line(kinds, outline, loops);
+    marks_left(ring, n, clean, kinds, snaps, lead)
+}

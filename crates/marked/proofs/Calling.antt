@@ -1,0 +1,87 @@
+-- The call with given marks by the outcome of its tests: refused, or what the core does; and the promise from what was left. As a call of a list of calls it leaves what demand's
+-- specs/LentCalls says (`as-called`).
+use Prim.Native.Nat.{ℕ, _/_, _≤_}
+use native.Mathlib.Omega.{arith}
+use mathlib.Core.Path.{_≡_, refl, sym, ap, _∙_, subst}
+use mathlib.Core.List.{List}
+use lib.ListN.{length}
+use lib.Ieee.{Float}
+use Rattle.laws.proofs.Table.{length-tab}
+use Rattle.marks.specs.declared.MarkedRing.{MarkedRing}
+use Rattle.marks.specs.Part.{Part}
+use Rattle.corner.specs.declared.Limits.{Limits}
+use Rattle.table.specs.declared.Values.{Values}
+use Rattle.table.specs.Answers.{refusedRow}
+use Rattle.table.specs.Refusals.{firstOf}
+use Rattle.table.proofs.Refusals.{all-pass}
+use Rattle.demand.specs.Call.{Lists}
+use Rattle.demand.specs.Divide.{Answer, core}
+use Rattle.demand.specs.Demand.{Prepared}
+use Rattle.demand.specs.Lent.{pointIn}
+use Rattle.demand.specs.Marked.{Marking, allPoints, marksOut, LentMarked, markedLists, markedStart, markedTests, divideMarked}
+use Rattle.demand.specs.LentCalls.{GivenMarked, marked, Pool, lendMarked, answerOf, leaves}
+use Rattle.demand.proofs.Course as Course
+use Rattle.demand.proofs.Marked.{MarkedPassed, marked-passed, marked-prepared, demand3-marked}
+use Rattle.divider.specs.Promise.{Leaves}
+use Rattle.divider.specs.Steps.{partIn, CanDivide}
+use Rattle.divider.proofs.Leaving.{refused-leaves}
+use Rattle.marked.specs.Promise.{MarkedPromise}
+use Rattle.marked.specs.Steps.{Tested, Prepares}
+
+module _ (L : Limits) (l : LentMarked) where
+  abbrev x : Lists
+  x = markedLists l
+
+  abbrev r : ℕ
+  r = length (allPoints (l .ring))
+
+  abbrev core-of : Answer
+  core-of = core L r (markedStart l) x
+
+  own : r ≡ length (l .ring) / 2
+  own = length-tab (pointIn (l .ring)) (length (l .ring) / 2)
+
+  pub call-refused : (n : ℕ) → n ≡ firstOf (markedTests L l) → (n ≡ 0 → ⊥) → Leaves (divideMarked L l) (refusedRow n (l .nodeCount) (l .cellCount)) (l .nodes) (l .nodes) (l .cells) (l .cells)
+  unfolding divideMarked
+  call-refused n e z =
+      rw (Course.turned-away x (markedTests L l) core-of (λ f. z (e ∙ f)), ← e) (refused-leaves (l .nodes) (l .nodeCount) (l .cells) (l .cellCount) n)
+
+  module _ (n : ℕ) (e : n ≡ firstOf (markedTests L l)) (z : n ≡ 0) where
+    through : MarkedPassed L l
+    through = marked-passed L l (all-pass (markedTests L l) tt (sym e ∙ z))
+
+    pub tested : Tested (l .ring) (l .marking)
+    tested =
+        record {
+          paper = record { few = omega (arith, through .to, own); sheet = through .ring };
+          marks = ap (marksOut (l .marking .kinds) (l .marking .snaps)) (sym own) ∙ through .marks;
+          outline = through .outline;
+        }
+
+    -- the ring that was prepared
+    module _ (m : MarkedRing) (b : Prepares (l .ring) (l .marking) (l .size) m) (c : L .cuts ≤ 32) where
+      pub can-divide : CanDivide L (length (l .ring) / 2) m (l .nodes) (l .nodeCount) (l .cells) (l .cellCount)
+      can-divide =
+          record {
+            cuts = c;
+            held = b .held;
+            prepared = subst (λ (r : ℕ). Prepared L r (partIn m) x) own (subst (λ (p : Part). Prepared L r p x) (sym (b .part)) (marked-prepared L l through));
+          }
+
+      pub call-divided : (v : Values) (n : List Float) (o : List ℕ) → Leaves (core L (length (l .ring) / 2) (partIn m) x) v (l .nodes) n (l .cells) o → Leaves (divideMarked L l) v (l .nodes) n (l .cells) o
+      unfolding divideMarked
+      call-divided v n o f =
+          rw (Course.goes-on x (markedTests L l) core-of (sym e ∙ z))
+          (subst (λ (r : ℕ). Leaves (core L r (markedStart l) x) v (l .nodes) n (l .cells) o) (sym own) (subst (λ (p : Part). Leaves (core L (length (l .ring) / 2) p x) v (l .nodes) n (l .cells) o) (b .part) f))
+
+-- ---- the promise
+promised : (L : Limits) (l : LentMarked) (v : Values) (m : List Float) (p : List ℕ) → Leaves (divideMarked L l) v (l .nodes) m (l .cells) p → MarkedPromise L l v m p
+promised L l v m p h = record { leaves = h; accepted = λ z. demand3-marked L l (sym (ap (λ (v : Values). v .code) (h .values)) ∙ z) }
+
+-- the set of limits, by another name
+pub own-promise : (M L : Limits) → M ≡ L → (l : LentMarked) (v : Values) (m : List Float) (p : List ℕ) → Leaves (divideMarked M l) v (l .nodes) m (l .cells) p → MarkedPromise L l v m p
+own-promise M L d l v m p h = subst (λ (L : Limits). MarkedPromise L l v m p) d (promised M l v m p h)
+
+-- ---- the node list that it leaves is that of a list of calls
+pub as-called : (s : Pool) (g : GivenMarked) (v : Values) (m : List Float) (p : List ℕ) → MarkedPromise (g .limits) (lendMarked s g) v m p → _≡_ {A = Pool} (record { doubles = m; count = v .nodes }) (leaves s (answerOf s (marked g)))
+as-called s g v m p h = λ j. record { doubles = h .leaves .nodes j; count = h .leaves .values j .nodes }

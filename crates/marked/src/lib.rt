@@ -1,0 +1,180 @@
+// Marked: the divider call with given marks, from a ring and its marks to its cells over the lists that a caller lends.
+//
+// It is an entry beside that of `divider`: it tests, prepares the ring with the marks that survive cleaning, and hands it to
+// the core. Whatever is handed over, the call ends, returns one row of the table and says of every place of both lists what
+// is left there. specs/Promise has the promise, in which stands what holds of every accepted ring.
+
+ghost use mathlib.Core.Path.{_≡_};
+ghost use mathlib.Core.List.{List, []};
+ghost use Prim.Native.Nat.{ℕ, _/_, _≤_};
+ghost use lib.ListN.{length};
+ghost use Rattle.corner.specs.Limits.{delivered};
+ghost use Rattle.table.specs.Answers as Answers;
+ghost use Rattle.table.specs.Refusals.{firstOf};
+ghost use Rattle.demand.specs.Call as Call;
+ghost use Rattle.demand.specs.Marked.{allPoints, markedTests, divideMarked};
+ghost use Rattle.divider.specs.Promise.{Leaves};
+ghost use Rattle.marked.specs.Promise.{MarkedPromise};
+ghost use Rattle.marked.specs.Steps.{Tested, Prepares};
+use corner::Limits;
+use marks::MarkedRing;
+use nodes::NodeNumber;
+use table::Answer;
+
+// 2 of a ring with no chain: a coordinate or the sheet size.
+fn units_out(ring: &[i32], size: u32) -> bool
+    ensures { λ r. ⌜ r ≡ Call.unitsOut (allPoints (now (ring .entry))) [] size ⌝ }
+{
+    if entry::any_outside(ring) {
+        return true;
+    }
+    if size == 0 {
+        return true;
+    }
+    2048 < size
+}
+
+// The first refusal, or 0: 1 and 2 of the ring, 13 and 14 of its marks, 3 and 4 of the lists. Of the cell list only the
+// number of its places is looked at.
+fn refusal(
+    limits: Limits,
+    ring: &[i32],
+    kinds: &[u8],
+    snaps: &[f64],
+    outline: &[i32],
+    loops: &[u32],
+    size: u32,
+    nodes: &[f64],
+    node_count: usize,
+    cell_places: usize,
+    cell_count: usize,
+) -> u32
+    ensures { λ r. ⌜ ((q : List ℕ) → length q / 4 ≡ «cell_places»
+        → r ≡ firstOf (markedTests limits (record { ring = now (ring .entry); marking = record { kinds = now (kinds .entry); snaps = now (snaps .entry); outline = now (outline .entry); loops = now (loops .entry) }; size = size; nodes = now (nodes .entry); nodeCount = «node_count»; cells = q; cellCount = «cell_count» }))) ⌝ }
+{
+    if entry::counts_out(ring.len(), 0) {
+        return 1;
+    }
+    if units_out(ring, size) {
+        return 2;
+    }
+    if given::marks_out(ring.len() / 2, kinds, snaps) {
+        return 13;
+    }
+    if given::outline_out(kinds, outline, loops) {
+        return 14;
+    }
+    if entry::lists_out(nodes, node_count, cell_places, cell_count) {
+        return 3;
+    }
+    if entry::room_out(
+        limits,
+        ring.len() / 2,
+        nodes.len() / 2 - node_count,
+        cell_places - cell_count,
+    ) {
+        return 4;
+    }
+    0
+}
+
+// The ring of a call, cleaned, with the marks that survive.
+fn marked_ring(
+    ring: &[i32],
+    kinds: &[u8],
+    snaps: &[f64],
+    outline: &[i32],
+    loops: &[u32],
+    size: u32,
+) -> MarkedRing
+    requires { ⌜ Tested (now ring) (record { kinds = now kinds; snaps = now snaps; outline = now outline; loops = now loops }) ⌝ }
+    ensures { λ r. ⌜ Prepares (now (ring .entry)) (record { kinds = now (kinds .entry); snaps = now (snaps .entry); outline = now (outline .entry); loops = now (loops .entry) }) size r ⌝ }
+{
+    let n = ring.len() / 2;
+    let own = entry::points(ring, n);
+    let clean = clean::clean_polygon(own, n, size);
+    let count = clean.count;
+    let points = clean.points;
+    let edges = given::surviving_marks(own, n, clean, kinds, snaps, outline, loops);
+    MarkedRing {
+        points: points,
+        edges: edges,
+        count: count,
+    }
+}
+
+// The divider call with given marks and a set of limits.
+pub fn divide_marked_with(
+    limits: Limits,
+    ring: &[i32],
+    kinds: &[u8],
+    snaps: &[f64],
+    outline: &[i32],
+    loops: &[u32],
+    size: u32,
+    nodes: &mut [f64],
+    node_count: usize,
+    cells: &mut [NodeNumber],
+    cell_count: usize,
+) -> Answer
+    requires { ⌜ limits .cuts ≤ 32 ⌝ }
+    ensures { λ a. ⌜ Leaves (divideMarked limits (record { ring = now (ring .entry); marking = record { kinds = now (kinds .entry); snaps = now (snaps .entry); outline = now (outline .entry); loops = now (loops .entry) }; size = size; nodes = now (nodes .entry); nodeCount = «node_count»; cells = now (cells .entry); cellCount = «cell_count» }))
+        (Answers.values a) (now (nodes .entry)) (now (nodes .exit)) (now (cells .entry)) (now (cells .exit)) ⌝ }
+{
+    let places = cells.len() / 4;
+    let code = refusal(
+        limits,
+        ring,
+        kinds,
+        snaps,
+        outline,
+        loops,
+        size,
+        nodes,
+        node_count,
+        places,
+        cell_count,
+    );
+    if code != 0 {
+        return Answer::Refused {
+            code: code,
+            nodes: node_count,
+            cells: cell_count,
+        };
+    }
+    let own = ring.len() / 2;
+    let marked = marked_ring(ring, kinds, snaps, outline, loops, size);
+    divider::divide_core(limits, marked, own, nodes, node_count, cells, cell_count)
+}
+
+// The divider call with given marks, over the lists that the caller lends.
+pub fn divide_marked(
+    ring: &[i32],
+    kinds: &[u8],
+    snaps: &[f64],
+    outline: &[i32],
+    loops: &[u32],
+    size: u32,
+    nodes: &mut [f64],
+    node_count: usize,
+    cells: &mut [NodeNumber],
+    cell_count: usize,
+) -> Answer
+    ensures { λ a. ⌜ MarkedPromise delivered (record { ring = now (ring .entry); marking = record { kinds = now (kinds .entry); snaps = now (snaps .entry); outline = now (outline .entry); loops = now (loops .entry) }; size = size; nodes = now (nodes .entry); nodeCount = «node_count»; cells = now (cells .entry); cellCount = «cell_count» })
+        (Answers.values a) (now (nodes .exit)) (now (cells .exit)) ⌝ }
+{
+    let limits = Limits::new();
+    divide_marked_with(
+        limits,
+        ring,
+        kinds,
+        snaps,
+        outline,
+        loops,
+        size,
+        nodes,
+        node_count,
+        cells,
+        cell_count,
+    )
+}
