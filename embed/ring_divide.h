@@ -27,6 +27,16 @@
  * not two numbers a mark. 14, after 13, where some kind is 2: the outline is empty, over 60 points or of odd length, a loop has
  * under 3 points, the loops do not add up to the points, or a coordinate is out of limits. Both leave all as found.
  *
+ * ring_divide_set and ring_divide_marked_set divide with the caller's set of limits:
+ *
+ *   corner           a corner with a measure above this is bad; from 1 (90 degrees) to 2 (180)
+ *   least, greatest  the cosines of a diagonal with its neighbours lie between these; from -1 to 1, least not above greatest
+ *   cuts             the most cuts of a ring, at most 32; the places that a ring reserves follow it
+ *   share            a snap point farther from the middle than this share of the chord is not taken; from 0 to 1
+ *
+ * The ends are allowed; a NaN is out of limits. Any other set is refused with 15, after 2 (after 14 where marks are given) and
+ * before 3, all as found. With the set on delivery (RING_SET_ and the name) they answer as ring_divide and ring_divide_marked do.
+ *
  * blocks_write saves a ring and its chain as the two blocks that the program `divide` takes. It fills the first
  * BLOCKS_WRITE_BYTES bytes of out, the ring's block with the given number, which is even and at most 65,534, and the chain's
  * with the next; the bytes after them stay. It answers 0, or leaves all as found and answers 1 (ring or chain count), 2
@@ -57,15 +67,24 @@
 extern "C" {
 #endif
 
-#define RING_DIVIDE_STACK 29144
-#define RING_DIVIDE_MARKED_STACK 26232
+#define RING_DIVIDE_STACK 27912
+#define RING_DIVIDE_SET_STACK 27912
+#define RING_DIVIDE_MARKED_SET_STACK 26536
+#define RING_DIVIDE_MARKED_STACK 26536
 #define BLOCKS_WRITE_STACK 40
 #define RING_ROOT_BITS_STACK 8
 
 #define BLOCKS_WRITE_BYTES 1024
 
+/* the set on delivery: corners of 160 degrees, diagonals of 160 and of 12 */
+#define RING_SET_CORNER (2.0 - 0.36397023426620236 / (1.0 + 0.36397023426620236))
+#define RING_SET_LEAST (-0.9396926207859084)
+#define RING_SET_GREATEST 0.9781476007338057
+#define RING_SET_CUTS 32
+#define RING_SET_SHARE 0.4
+
 struct ring_row {
-    uint64_t code;    /* 0, or the refusal 1 to 8, 13 or 14 */
+    uint64_t code;    /* 0, or the refusal: 1 to 8, 13 to 15 */
     uint64_t corners; /* of the cleaned ring; with 8, of the piece that fails */
     uint64_t k;       /* with 8, the failing cell */
     uint64_t marked;  /* marked edges */
@@ -91,6 +110,25 @@ struct ring_row ring_divide_marked(const int32_t *ring, size_t ring_len,
                                    uint32_t size,
                                    double *nodes, size_t nodes_len, size_t node_count,
                                    uint32_t *cells, size_t cells_len, size_t cell_count);
+
+struct ring_row ring_divide_set(double corner, double least, double greatest,
+                                uint32_t cuts, double share,
+                                const int32_t *ring, size_t ring_len,
+                                const int32_t *chain, size_t chain_len,
+                                uint32_t size,
+                                double *nodes, size_t nodes_len, size_t node_count,
+                                uint32_t *cells, size_t cells_len, size_t cell_count);
+
+struct ring_row ring_divide_marked_set(double corner, double least, double greatest,
+                                       uint32_t cuts, double share,
+                                       const int32_t *ring, size_t ring_len,
+                                       const uint8_t *kinds, size_t kinds_len,
+                                       const double *snaps, size_t snaps_len,
+                                       const int32_t *outline, size_t outline_len,
+                                       const uint32_t *loops, size_t loops_len,
+                                       uint32_t size,
+                                       double *nodes, size_t nodes_len, size_t node_count,
+                                       uint32_t *cells, size_t cells_len, size_t cell_count);
 
 uint64_t blocks_write(const int32_t *ring, size_t ring_len,
                       const int32_t *chain, size_t chain_len,

@@ -1,8 +1,9 @@
 //! A divider call: the tests that the scope adds, around the extracted Rust.
 
-use crate::job::{Job, Marking, POINTS};
+use crate::job::{Entry, Job, Marking, Set, POINTS};
 use crate::notes;
 use crate::stage::{self, Builder, Poly};
+use crate::standin;
 use crate::traced;
 
 /// Units in a mm, and the largest coordinate in units and in mm.
@@ -11,7 +12,7 @@ pub const FARTHEST: i32 = 8_388_608;
 pub const FARTHEST_MM: f64 = 1024.0;
 const LARGEST_SHEET: u32 = 2048;
 const MOST_PLACES: usize = 1_000_000;
-const MOST_CUTS: usize = 32;
+const MOST_CUTS: u32 = 32;
 
 pub type NodeNumber = u32;
 pub type Cell = [NodeNumber; 4];
@@ -83,9 +84,10 @@ pub fn doubled(area: f64) -> i64 {
     (area * 2.0 * UNITS * UNITS) as i64
 }
 
-/// Node places and cell places that a ring of `r` points must find free.
-pub fn room(r: usize) -> (usize, usize) {
-    let m = MOST_CUTS.min(r - 3);
+/// Node places and cell places that a ring of `r` points must find free, with
+/// so many cuts at most.
+pub fn room(r: usize, cuts: u32) -> (usize, usize) {
+    let m = (cuts as usize).min(r - 3);
     (3 * r + 2 * m + 1, r + 2 * m)
 }
 
@@ -97,11 +99,13 @@ pub fn divide(
     cells: &mut [Cell],
     cell_count: usize,
 ) -> (Answer, Vec<Poly>) {
-    divide_with(job, None, list, cells, cell_count)
+    divide_with(&Entry::Examination, job, None, list, cells, cell_count)
 }
 
-/// The same with given marks, in place of the job's chain, where there are some.
+/// The same of any entry, with given marks, in place of the job's chain, where
+/// there are some.
 pub fn divide_with(
+    entry: &Entry,
     job: &Job,
     marking: Option<&Marking>,
     list: &mut NodeList,
@@ -109,13 +113,15 @@ pub fn divide_with(
     cell_count: usize,
 ) -> (Answer, Vec<Poly>) {
     notes::take();
+    let set = entry.set();
+    standin::limited(set);
     let kept = Answer {
         nodes: list.used,
         cells: cell_count,
         ..Answer::default()
     };
     let refused = |code| (Answer { code, ..kept }, Vec::new());
-    let code = first_tests(job, marking, list, cells.len(), cell_count);
+    let code = first_tests(entry, job, marking, list, cells.len(), cell_count);
     if code != 0 {
         return refused(code);
     }
@@ -143,7 +149,7 @@ pub fn divide_with(
         area,
         ..kept
     };
-    let room = room(job.ring.len()).1;
+    let room = room(job.ring.len(), set.cuts).1;
     (
         write_cells(accepted, &pieces, list, &mut cells[cell_count..], room),
         pieces,
@@ -209,8 +215,20 @@ fn number_after(text: &str, name: &str) -> usize {
         .expect("a number follows")
 }
 
-/// Refusals 1 to 4, with given marks also 13 and 14 after 2, or 0.
+/// 15: a set of limits that is not taken. A NaN is not between.
+fn set_out(set: &Set) -> bool {
+    let between = |low: f64, high: f64, x: f64| (low..=high).contains(&x);
+    set.cuts > MOST_CUTS
+        || !between(1.0, 2.0, set.corner)
+        || !between(-1.0, 1.0, set.least)
+        || !between(-1.0, 1.0, set.greatest)
+        || set.least > set.greatest
+        || !between(0.0, 1.0, set.share)
+}
+
+/// Refusals 1 to 4, with given marks also 13 and 14 after 2, and then 15, or 0.
 fn first_tests(
+    entry: &Entry,
     job: &Job,
     marking: Option<&Marking>,
     list: &NodeList,
@@ -230,6 +248,10 @@ fn first_tests(
     if code != 0 {
         return code;
     }
+    let set = entry.set();
+    if set_out(&set) {
+        return 15;
+    }
     if list.used > list.places || cell_count > cell_places || list.places > MOST_PLACES {
         return 3;
     }
@@ -237,7 +259,7 @@ fn first_tests(
     if !list.nodes.points.iter().flatten().all(usable) {
         return 3;
     }
-    let (nodes, cells) = room(r);
+    let (nodes, cells) = room(r, set.cuts);
     if list.places - list.used < nodes || cell_places - cell_count < cells {
         return 4;
     }

@@ -2,14 +2,16 @@
 //!
 //! list PLACES USED            then a line for each used node, PLACES at most:
 //! put BX BY                   its two doubles as bits
+//! set CORNER LEAST GREATEST CUTS SHARE   the next call brings this set, doubles as bits
 //! call SIZE CELL_PLACES CELL_COUNT R C x y ..   R ring points, C chain points
 //! marked SIZE CELL_PLACES CELL_COUNT R K S O L ..   R ring points, then K kinds,
 //!                             S numbers of snaps as bits, O of the outline, L loops
 
-use crate::job::{Call, Given, Job, Marking};
+use crate::job::{Call, Entry, Given, Job, Marking, Set};
 
 pub fn read(text: &str) -> Vec<Given> {
     let mut lists: Vec<Given> = Vec::new();
+    let mut entry = Entry::Examination;
     for line in text.lines() {
         let mut words = line.split_whitespace();
         let kind = words.next().unwrap_or_default();
@@ -21,15 +23,26 @@ pub fn read(text: &str) -> Vec<Given> {
         match kind {
             "list" => (list.places, list.used) = (number(words[0]), number(words[1])),
             "put" => list.nodes.push([double(words[0]), double(words[1])]),
-            "call" => list.calls.push(call(&words)),
-            "marked" => list.calls.push(marked(&words)),
+            "set" => entry = Entry::Limited(set(&words)),
+            "call" => list.calls.push(call(std::mem::take(&mut entry), &words)),
+            "marked" => list.calls.push(marked(std::mem::take(&mut entry), &words)),
             _ => panic!("no such line: {line}"),
         }
     }
     lists
 }
 
-fn call(words: &[&str]) -> Call {
+fn set(words: &[&str]) -> Set {
+    Set {
+        corner: double(words[0]),
+        least: double(words[1]),
+        greatest: double(words[2]),
+        cuts: number(words[3]) as u32,
+        share: double(words[4]),
+    }
+}
+
+fn call(entry: Entry, words: &[&str]) -> Call {
     let head: Vec<usize> = words[..5].iter().map(|w| number(w)).collect();
     let numbers: Vec<i32> = words[5..]
         .iter()
@@ -44,6 +57,7 @@ fn call(words: &[&str]) -> Call {
         size: head[0] as u32,
     };
     Call {
+        entry,
         job,
         marking: None,
         cell_places: head[1],
@@ -51,7 +65,7 @@ fn call(words: &[&str]) -> Call {
     }
 }
 
-fn marked(words: &[&str]) -> Call {
+fn marked(entry: Entry, words: &[&str]) -> Call {
     let head: Vec<usize> = words[..8].iter().map(|w| number(w)).collect();
     let mut rest = words[8..].iter();
     let mut part = |n: usize| rest.by_ref().take(n).copied().collect::<Vec<&str>>();
@@ -65,6 +79,7 @@ fn marked(words: &[&str]) -> Call {
     let outline = whole(part(head[6]));
     let loops = part(head[7]).iter().map(|w| number(w) as u32).collect();
     Call {
+        entry,
         job: Job {
             ring: ring.chunks(2).map(|p| [p[0], p[1]]).collect(),
             chain: Vec::new(),

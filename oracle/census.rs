@@ -7,7 +7,7 @@ use crate::forms::{line, run, Run, CELL_PLACES, NODE_PLACES};
 use crate::job::Job;
 use crate::notes;
 use crate::stage::{self, Poly};
-use crate::standin::BAD_MEASURE;
+use crate::standin::limits;
 use std::collections::BTreeMap;
 
 type Census = BTreeMap<String, usize>;
@@ -109,7 +109,7 @@ fn accepted(census: &mut Census, run: &Run) {
     let bad = |piece: &&Poly| {
         stage::polygon_interior_angles(&piece.points)
             .iter()
-            .any(|&m| m > BAD_MEASURE)
+            .any(|&m| m > limits().corner)
     };
     let left = run.pieces.iter().filter(bad).count();
     count(

@@ -2,7 +2,7 @@
 //! bit, every cell place, and guards around each list.
 //!
 //! compare blocks < BLOCKS   each ring on an empty list, and all on one list
-//! compare calls < CALLS     calls over prefilled lists
+//! compare calls < CALLS     calls over prefilled lists, of any entry
 //! compare writes < BLOCKS   each ring saved by the writer, and wrong numbers and rooms
 //! compare desk FILE         the supplied calls of the writer
 //! compare details FOLDER    the detailed forms of a folder of vectors
@@ -43,7 +43,7 @@ mod traced;
 use blocks::Jobs;
 use call::NodeList;
 use forms::{CELL_PLACES, NODE_PLACES};
-use job::Job;
+use job::{Entry, Job, Set};
 use library::{compared, node_image, refused, whole, written};
 use std::io::Read;
 use traced::Met;
@@ -116,17 +116,14 @@ fn over_blocks(bytes: &[u8]) -> ! {
     for (number, job) in Jobs::new(bytes).flatten().enumerate() {
         let (mut fresh, odd) = (NodeList::empty(NODE_PLACES), number % 4);
         let mut fresh_image = node_image(&fresh, odd % 2);
-        let alone = compared(
-            &job,
-            None,
-            &mut fresh,
-            &mut fresh_image,
-            CELL_PLACES,
-            0,
-            odd,
-        );
+        let own = Entry::Examination;
+        let alone = compared(&own, &job, None, &mut fresh, &mut fresh_image, CELL_PLACES, 0, odd);
         tally.add(&format!("ring {number} alone"), &job, alone);
-        let shared = compared(&job, None, &mut list, &mut image, CELL_PLACES, 0, 0);
+        let (mut fresh, set) = (NodeList::empty(NODE_PLACES), Entry::Limited(Set::DELIVERED));
+        let mut fresh_image = node_image(&fresh, 0);
+        let handed = compared(&set, &job, None, &mut fresh, &mut fresh_image, CELL_PLACES, 0, odd);
+        tally.add(&format!("ring {number} with the set"), &job, handed);
+        let shared = compared(&own, &job, None, &mut list, &mut image, CELL_PLACES, 0, 0);
         tally.add(&format!("ring {number} on one list"), &job, shared);
         if number % 64 == 0 {
             wrong_lengths(&mut tally, number, &job);
@@ -165,13 +162,12 @@ fn over_calls(text: &str) -> ! {
         for call in &given.calls {
             let (places, count, odd) = (call.cell_places, call.cell_count, list_number % 4);
             let marking = call.marking.as_ref();
-            let result = compared(
-                &call.job, marking, &mut list, &mut image, places, count, odd,
-            );
+            let (entry, job) = (&call.entry, &call.job);
+            let result = compared(entry, job, marking, &mut list, &mut image, places, count, odd);
             if let (Some(marking), Ok(0 | 8)) = (marking, result.as_ref().map(|r| r.code)) {
-                met.add(&call.job.ring, marking);
+                met.add(&job.ring, marking);
             }
-            tally.add(&format!("list {list_number}"), &call.job, result);
+            tally.add(&format!("list {list_number} {entry:?}"), job, result);
         }
     }
     if met.sought > 0 {

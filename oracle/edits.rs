@@ -40,26 +40,30 @@ const ANGLES: [Edit; 14] = [
         "angle > SMOOTH_TURN_DEG",
         "angle < SMOOTH_COSINE",
     ),
-    edit("split_bad_vertices", "a > BAD_ANGLE_DEG", "a > BAD_MEASURE"),
+    edit(
+        "split_bad_vertices",
+        "a > BAD_ANGLE_DEG",
+        "a > limits().corner",
+    ),
     edit(
         "split_polygon_at",
         "angle1 < MIN_SPLIT_ANGLE_DEG",
-        "angle1 > MIN_SPLIT_COSINE",
+        "angle1 > limits().greatest",
     ),
     edit(
         "split_polygon_at",
         "angle2 < MIN_SPLIT_ANGLE_DEG",
-        "angle2 > MIN_SPLIT_COSINE",
+        "angle2 > limits().greatest",
     ),
     edit(
         "split_polygon_at",
         "angle1 > BAD_ANGLE_DEG",
-        "angle1 < BAD_COSINE",
+        "angle1 < limits().least",
     ),
     edit(
         "split_polygon_at",
         "angle2 > BAD_ANGLE_DEG",
-        "angle2 < BAD_COSINE",
+        "angle2 < limits().least",
     ),
     // A smaller angle is a larger cosine: the best diagonal turns round.
     edit(
@@ -109,14 +113,30 @@ const OUT_OF_STAGE: [Edit; 3] = [
     ),
 ];
 
+/// "The bad-corner limit, the least and greatest diagonal cosine, the number of
+/// cuts and the snap share become one set of values": the last two; the others
+/// are among the angles.
+const LIMITS: [Edit; 2] = [
+    edit(
+        "split_bad_vertices",
+        "splits >= MAX_SPLITS",
+        "splits >= limits().cuts as usize",
+    ),
+    edit(
+        "subdivide",
+        "dist(q, m) <= 0.4",
+        "dist(q, m) <= limits().share",
+    ),
+];
+
 /// Values that the caller is told and the Rust does not return (cuts, turned
 /// area), and what the census counts.
 const NOTED: [Edit; 6] = [
     edit("split_bad_vertices", "splits += 1;", "splits += 1;\n                notes::cut();"),
     edit(
         "split_bad_vertices",
-        "if splits >= MAX_SPLITS {",
-        "notes::worst(&angles, index);\n        if splits >= MAX_SPLITS {\n            notes::spent();",
+        "if splits >= limits().cuts as usize {",
+        "notes::worst(&angles, index);\n        if splits >= limits().cuts as usize {\n            notes::spent();",
     ),
     edit(
         "make_sub_polygon",
@@ -143,6 +163,7 @@ pub fn all_edits() -> impl Iterator<Item = &'static Edit> {
         .chain(&FLAT_NODES)
         .chain(&MIDDLES)
         .chain(&OUT_OF_STAGE)
+        .chain(&LIMITS)
         .chain(&NOTED)
         .chain(&PUBLIC)
 }

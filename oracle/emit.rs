@@ -1,6 +1,6 @@
 //! Writing job blocks and calls.
 
-use crate::job::{check, Call, Given, Job, Marking, BLOCK, CHECKED};
+use crate::job::{check, Call, Entry, Given, Job, Marking, Set, BLOCK, CHECKED};
 
 /// The two blocks of a job, the ring's number first.
 pub fn blocks(job: &Job, number: usize) -> Vec<u8> {
@@ -35,6 +35,7 @@ pub fn calls(given: &Given) -> String {
         text += &format!("put {:016x} {:016x}\n", x.to_bits(), y.to_bits());
     }
     for call in &given.calls {
+        text += &of_entry(&call.entry);
         text += &match &call.marking {
             Some(marking) => marked(call, marking),
             None => chained(call),
@@ -74,4 +75,22 @@ fn marked(call: &Call, m: &Marking) -> String {
     m.outline.iter().for_each(|c| put(c.to_string()));
     m.loops.iter().for_each(|n| put(n.to_string()));
     text
+}
+
+/// The line before a call that says which entry it is of.
+fn of_entry(entry: &Entry) -> String {
+    match entry {
+        Entry::Examination => String::new(),
+        Entry::Limited(Set {
+            corner,
+            least,
+            greatest,
+            cuts,
+            share,
+        }) => {
+            let [corner, least, greatest, share] =
+                [corner, least, greatest, share].map(|x| format!("{:016x}", x.to_bits()));
+            format!("set {corner} {least} {greatest} {cuts} {share}\n")
+        }
+    }
 }

@@ -20,7 +20,7 @@ use std::path::Path;
 use std::process::exit;
 
 /// Constants of the original that the stage keeps.
-const CONSTANTS: [&str; 2] = ["KEY_SCALE", "MAX_SPLITS"];
+const CONSTANTS: [&str; 1] = ["KEY_SCALE"];
 
 /// Functions of the stage, in the order they are written out.
 const FUNCTIONS: [&str; 20] = [
@@ -57,7 +57,7 @@ const METHODS: [&str; 3] = ["add_node", "subdivide", "subdivide_unsnapped"];
 const HEAD: &str = "\
 // Written by oracle/extract.rs. Not kept in the repository.
 use crate::notes;
-use crate::standin::{self, BAD_COSINE, BAD_MEASURE, MIN_SPLIT_COSINE, SMOOTH_COSINE};
+use crate::standin::{self, limits, SMOOTH_COSINE};
 use std::collections::HashMap;
 
 pub type Node = [f64; 2];

@@ -3,7 +3,7 @@
 
 use crate::blocks::Jobs;
 use crate::call::{divide_with, doubled, Answer, Cell, NodeList, UNTOUCHED};
-use crate::job::{Job, Marking};
+use crate::job::{Entry, Job, Marking};
 use crate::stage::{polygon_area, Poly};
 use std::fmt::Write;
 
@@ -24,11 +24,13 @@ pub struct Run {
 
 /// Runs a call over the node list and an untouched cell list.
 pub fn run(job: &Job, list: &mut NodeList, cell_places: usize, cell_count: usize) -> Run {
-    run_with(job, None, list, cell_places, cell_count)
+    run_with(&Entry::Examination, job, None, list, cell_places, cell_count)
 }
 
-/// The same with given marks, in place of the job's chain, where there are some.
+/// The same of any entry, with given marks, in place of the job's chain, where
+/// there are some.
 pub fn run_with(
+    entry: &Entry,
     job: &Job,
     marking: Option<&Marking>,
     list: &mut NodeList,
@@ -37,7 +39,7 @@ pub fn run_with(
 ) -> Run {
     let mut cells = vec![UNTOUCHED; cell_places];
     let nodes_before = list.used;
-    let (answer, pieces) = divide_with(job, marking, list, &mut cells, cell_count);
+    let (answer, pieces) = divide_with(entry, job, marking, list, &mut cells, cell_count);
     Run {
         answer,
         pieces,
@@ -185,7 +187,7 @@ pub fn called(text: &str) -> String {
         for call in &given.calls {
             let marking = call.marking.as_ref();
             let (cells, count) = (call.cell_places, call.cell_count);
-            let run = run_with(&call.job, marking, &mut list, cells, count);
+            let run = run_with(&call.entry, &call.job, marking, &mut list, cells, count);
             detail(&mut out, number, &run, &list);
             if matches!(run.answer.code, 0 | 8) {
                 line(&mut out, format_args!("places {}", places(&run.cells)));

@@ -6,6 +6,8 @@
 //! generate grid SET COUNT             the first COUNT jobs of a complete grid
 //! generate calls SEED COUNT           COUNT lists with their calls, as text
 //! generate leads SEED COUNT           the same, most calls with given marks
+//! generate sets SEED COUNT            the same, each call with a set of limits
+//! generate ends SEED COUNT            COUNT rings, each with every set at an end
 //! generate damaged SEED COUNT FOLDER  COUNT damaged files
 
 mod damage;
@@ -21,9 +23,10 @@ mod lists;
 mod marked;
 mod place;
 mod random;
+mod sets;
 mod shapes;
 
-use job::{Given, Job};
+use job::{Entry, Given, Job};
 use kinds::KINDS;
 use random::Random;
 use std::io::Write;
@@ -37,6 +40,8 @@ fn main() {
         ["leads", seed, count] => {
             calls(number(seed), number(count), lists::with_marks).into_bytes()
         }
+        ["sets", seed, count] => calls(number(seed), number(count), lists::with_sets).into_bytes(),
+        ["ends", seed, count] => ends(number(seed), number(count)).into_bytes(),
         ["grid", set, count] => file(grid::jobs(number(set)), number(count)),
         ["damaged", seed, count, folder] => damaged(number(seed), number(count), folder),
         [kind, seed, count] => blocks(kind, number(seed), number(count)),
@@ -67,6 +72,8 @@ fn list() -> String {
     }
     text += "calls     lists with nodes in them and calls over each\n";
     text += "leads     the same, most calls with given marks\n";
+    text += "sets      the same, each call with a set of limits\n";
+    text += "ends      rings, each with every set at an end of what is taken\n";
     text + "damaged   damaged block files, into a folder\n"
 }
 
@@ -101,6 +108,26 @@ fn calls(seed: usize, count: usize, given: fn(&mut Random, Jobs) -> Given) -> St
     let mut random = Random::new(seed as u64);
     (0..count)
         .map(|_| emit::calls(&given(&mut random, any_job)))
+        .collect()
+}
+
+/// COUNT rings of the kinds that a set bears on, each with every set at an end,
+/// on a list of its own.
+fn ends(seed: usize, count: usize) -> String {
+    let named = |name: &&str| KINDS.iter().find(|kind| kind.0 == *name);
+    let kinds: Vec<_> = ["angles", "cuts", "chains", "far", "saws"]
+        .iter()
+        .filter_map(named)
+        .collect();
+    let mut random = Random::new(seed as u64);
+    let jobs: Vec<Job> = (0..count)
+        .map(|k| (kinds[k % kinds.len()].1)(&mut random, k))
+        .collect();
+    let pairs = sets::ends()
+        .into_iter()
+        .flat_map(|set| jobs.iter().map(move |job| (set, job)));
+    pairs
+        .map(|(set, job)| emit::calls(&lists::alone(Entry::Limited(set), job)))
         .collect()
 }
 

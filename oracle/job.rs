@@ -22,9 +22,56 @@ pub struct Marking {
     pub loops: Vec<u32>,
 }
 
-/// A job, with given marks or its chain, the places of its cell list and the
-/// used count.
+/// A set of limits (Card 7): five values that the original has as constants.
+#[derive(Clone, Copy, PartialEq, Debug)]
+pub struct Set {
+    /// a corner with a measure above this is bad
+    pub corner: f64,
+    /// no new corner of a cut has a cosine below or above these
+    pub least: f64,
+    pub greatest: f64,
+    /// the most cuts
+    pub cuts: u32,
+    /// a snap point farther than this share of the chord is not taken
+    pub share: f64,
+}
+
+/// The tangent of 20 degrees.
+const TANGENT: f64 = 0.36397023426620236;
+
+impl Set {
+    /// Corners of 160 degrees, diagonals of 160 and 12 degrees.
+    pub const DELIVERED: Set = Set {
+        corner: 2.0 - TANGENT / (1.0 + TANGENT),
+        least: -0.9396926207859084,
+        greatest: 0.9781476007338057,
+        cuts: 32,
+        share: 0.4,
+    };
+}
+
+/// The entry that a call is of: the examination, or one that takes a set.
+#[derive(Clone, Copy, PartialEq, Debug, Default)]
+pub enum Entry {
+    #[default]
+    Examination,
+    Limited(Set),
+}
+
+impl Entry {
+    /// The set that it divides with.
+    pub fn set(&self) -> Set {
+        match self {
+            Entry::Examination => Set::DELIVERED,
+            Entry::Limited(set) => *set,
+        }
+    }
+}
+
+/// A job with its entry, with given marks or its chain, the places of its cell
+/// list and the used count.
 pub struct Call {
+    pub entry: Entry,
     pub job: Job,
     pub marking: Option<Marking>,
     pub cell_places: usize,

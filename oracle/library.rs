@@ -4,7 +4,7 @@
 use crate::call::{Answer, Cell, NodeList, NodeNumber, UNTOUCHED};
 use crate::desk::answer;
 use crate::forms::run_with;
-use crate::job::{Job, Marking};
+use crate::job::{Entry, Job, Marking};
 
 /// What `ring_divide` answers; `corners` is n, or with 8 the piece's.
 #[repr(C)]
@@ -38,6 +38,50 @@ extern "C" {
     ) -> Returned;
 
     fn ring_divide_marked(
+        ring: *const i32,
+        ring_len: usize,
+        kinds: *const u8,
+        kinds_len: usize,
+        snaps: *const f64,
+        snaps_len: usize,
+        outline: *const i32,
+        outline_len: usize,
+        loops: *const u32,
+        loops_len: usize,
+        size: u32,
+        nodes: *mut f64,
+        nodes_len: usize,
+        node_count: usize,
+        cells: *mut NodeNumber,
+        cells_len: usize,
+        cell_count: usize,
+    ) -> Returned;
+
+    fn ring_divide_set(
+        corner: f64,
+        least: f64,
+        greatest: f64,
+        cuts: u32,
+        share: f64,
+        ring: *const i32,
+        ring_len: usize,
+        chain: *const i32,
+        chain_len: usize,
+        size: u32,
+        nodes: *mut f64,
+        nodes_len: usize,
+        node_count: usize,
+        cells: *mut NodeNumber,
+        cells_len: usize,
+        cell_count: usize,
+    ) -> Returned;
+
+    fn ring_divide_marked_set(
+        corner: f64,
+        least: f64,
+        greatest: f64,
+        cuts: u32,
+        share: f64,
         ring: *const i32,
         ring_len: usize,
         kinds: *const u8,
@@ -125,7 +169,7 @@ pub fn cell_image(places: usize, odd: usize) -> Guarded<NodeNumber> {
     Guarded::new(4 * places + odd, |place| 0x9000_0000 ^ place as NodeNumber)
 }
 
-/// Calls the library with these lengths and counts.
+/// Calls the library's examination entry with these lengths and counts.
 pub fn call(
     lengths: (usize, usize),
     job: &Job,
@@ -134,27 +178,66 @@ pub fn call(
     cells: &mut [NodeNumber],
     cell_count: usize,
 ) -> Returned {
+    let entry = Entry::Examination;
+    call_by(&entry, lengths, job, nodes, node_count, cells, cell_count)
+}
+
+/// Calls the library's entry with these lengths and counts.
+pub fn call_by(
+    entry: &Entry,
+    lengths: (usize, usize),
+    job: &Job,
+    nodes: &mut [f64],
+    node_count: usize,
+    cells: &mut [NodeNumber],
+    cell_count: usize,
+) -> Returned {
     assert!(lengths.0 <= 2 * job.ring.len() && lengths.1 <= 2 * job.chain.len());
+    let (ring, chain) = (job.ring.as_ptr().cast(), job.chain.as_ptr().cast());
+    let (ring_len, chain_len) = lengths;
+    let (numbers, numbers_len) = (nodes.as_mut_ptr(), nodes.len());
+    let (places, places_len) = (cells.as_mut_ptr(), cells.len());
     // Each pointer comes with the length of its own list, which outlives the call.
     unsafe {
-        ring_divide(
-            job.ring.as_ptr().cast(),
-            lengths.0,
-            job.chain.as_ptr().cast(),
-            lengths.1,
-            job.size,
-            nodes.as_mut_ptr(),
-            nodes.len(),
-            node_count,
-            cells.as_mut_ptr(),
-            cells.len(),
-            cell_count,
-        )
+        match *entry {
+            Entry::Examination => ring_divide(
+                ring,
+                ring_len,
+                chain,
+                chain_len,
+                job.size,
+                numbers,
+                numbers_len,
+                node_count,
+                places,
+                places_len,
+                cell_count,
+            ),
+            Entry::Limited(set) => ring_divide_set(
+                set.corner,
+                set.least,
+                set.greatest,
+                set.cuts,
+                set.share,
+                ring,
+                ring_len,
+                chain,
+                chain_len,
+                job.size,
+                numbers,
+                numbers_len,
+                node_count,
+                places,
+                places_len,
+                cell_count,
+            ),
+        }
     }
 }
 
 /// Calls the library with given marks and so many numbers of the ring.
 pub fn call_marked(
+    entry: &Entry,
     length: usize,
     (job, m): (&Job, &Marking),
     nodes: &mut [f64],
@@ -163,27 +246,58 @@ pub fn call_marked(
     cell_count: usize,
 ) -> Returned {
     assert!(length <= 2 * job.ring.len());
+    let ring = job.ring.as_ptr().cast();
+    let (kinds, snaps) = (m.kinds.as_ptr(), m.snaps.as_ptr());
+    let (outline, loops) = (m.outline.as_ptr(), m.loops.as_ptr());
+    let (numbers, numbers_len) = (nodes.as_mut_ptr(), nodes.len());
+    let (places, places_len) = (cells.as_mut_ptr(), cells.len());
     // Each pointer comes with the length of its own list, which outlives the call.
     unsafe {
-        ring_divide_marked(
-            job.ring.as_ptr().cast(),
-            length,
-            m.kinds.as_ptr(),
-            m.kinds.len(),
-            m.snaps.as_ptr(),
-            m.snaps.len(),
-            m.outline.as_ptr(),
-            m.outline.len(),
-            m.loops.as_ptr(),
-            m.loops.len(),
-            job.size,
-            nodes.as_mut_ptr(),
-            nodes.len(),
-            node_count,
-            cells.as_mut_ptr(),
-            cells.len(),
-            cell_count,
-        )
+        match *entry {
+            Entry::Examination => ring_divide_marked(
+                ring,
+                length,
+                kinds,
+                m.kinds.len(),
+                snaps,
+                m.snaps.len(),
+                outline,
+                m.outline.len(),
+                loops,
+                m.loops.len(),
+                job.size,
+                numbers,
+                numbers_len,
+                node_count,
+                places,
+                places_len,
+                cell_count,
+            ),
+            Entry::Limited(set) => ring_divide_marked_set(
+                set.corner,
+                set.least,
+                set.greatest,
+                set.cuts,
+                set.share,
+                ring,
+                length,
+                kinds,
+                m.kinds.len(),
+                snaps,
+                m.snaps.len(),
+                outline,
+                m.outline.len(),
+                loops,
+                m.loops.len(),
+                job.size,
+                numbers,
+                numbers_len,
+                node_count,
+                places,
+                places_len,
+                cell_count,
+            ),
+        }
     }
 }
 
@@ -194,6 +308,7 @@ pub fn whole(job: &Job) -> (usize, usize) {
 /// Runs a call on both sides and compares every value, node bit, cell place
 /// and guard. `odd` numbers more than its places stand at each list's end.
 pub fn compared(
+    entry: &Entry,
     job: &Job,
     marking: Option<&Marking>,
     list: &mut NodeList,
@@ -208,11 +323,11 @@ pub fn compared(
     let used = list.used;
     let lent = (image.list(), cells.list());
     let returned = match marking {
-        Some(m) => call_marked(whole(job).0, (job, m), lent.0, used, lent.1, cell_count),
-        None => call(whole(job), job, lent.0, used, lent.1, cell_count),
+        Some(m) => call_marked(entry, whole(job).0, (job, m), lent.0, used, lent.1, cell_count),
+        None => call_by(entry, whole(job), job, lent.0, used, lent.1, cell_count),
     };
 
-    let run = run_with(job, marking, list, cell_places, cell_count);
+    let run = run_with(entry, job, marking, list, cell_places, cell_count);
     for (number, value) in list.nodes.points.iter().flatten().enumerate() {
         expected_nodes.list()[number] = *value;
     }

@@ -1,13 +1,23 @@
 //! Calls over prefilled lists: nodes that the rings will meet again with other
 //! bits, lists with too little room, nodes that cannot be used.
 
-use crate::job::{Call, Given, Job};
+use crate::job::{Call, Entry, Given, Job};
 use crate::leads;
 use crate::place::Ring;
 use crate::random::Random;
+use crate::sets;
 
 /// A list of one to four calls, the first ring called again at the end.
 pub fn given(random: &mut Random, job: impl Fn(&mut Random, usize) -> Job) -> Given {
+    given_by(random, job, |_| Entry::Examination)
+}
+
+/// The same, each call of some entry.
+fn given_by(
+    random: &mut Random,
+    job: impl Fn(&mut Random, usize) -> Job,
+    entry: impl Fn(&mut Random) -> Entry,
+) -> Given {
     let count = 1 + random.below(3);
     let mut jobs: Vec<Job> = (0..count).map(|k| job(random, k)).collect();
     if random.one_in(2) {
@@ -23,9 +33,12 @@ pub fn given(random: &mut Random, job: impl Fn(&mut Random, usize) -> Job) -> Gi
     }
     nodes.truncate(random.pick(&[0, 5, 20, 40, 80]));
     spoil(random, &mut nodes);
-    let (places, used) = places(random, nodes.len(), jobs[0].ring.len());
+    let entries: Vec<Entry> = jobs.iter().map(|_| entry(random)).collect();
+    let first = room(jobs[0].ring.len(), &entries[0]).0;
+    let (places, used) = places(random, nodes.len(), first);
     nodes.truncate(places);
-    let calls = jobs.into_iter().map(|job| call(random, job)).collect();
+    let calls = jobs.into_iter().zip(entries);
+    let calls = calls.map(|(job, entry)| call(random, entry, job)).collect();
     Given {
         places,
         used,
@@ -36,13 +49,39 @@ pub fn given(random: &mut Random, job: impl Fn(&mut Random, usize) -> Job) -> Gi
 
 /// The same, two calls of three with given marks.
 pub fn with_marks(random: &mut Random, job: impl Fn(&mut Random, usize) -> Job) -> Given {
-    let mut given = given(random, job);
+    let given = given(random, job);
+    marked(random, given)
+}
+
+/// The same, each call with a set of limits and two of three with given marks.
+pub fn with_sets(random: &mut Random, job: impl Fn(&mut Random, usize) -> Job) -> Given {
+    let given = given_by(random, job, sets::any);
+    marked(random, given)
+}
+
+fn marked(random: &mut Random, mut given: Given) -> Given {
     for call in &mut given.calls {
         if !call.job.ring.is_empty() && !random.one_in(3) {
             call.marking = Some(leads::marking(random, &call.job));
         }
     }
     given
+}
+
+/// One call on an empty list that has the room of the program's.
+pub fn alone(entry: Entry, job: &Job) -> Given {
+    let call = Call {
+        entry,
+        job: job.clone(),
+        marking: None,
+        cell_places: 124,
+        cell_count: 0,
+    };
+    Given {
+        places: 1_536,
+        calls: vec![call],
+        ..Given::default()
+    }
 }
 
 /// Corners, straight middles and mean of a ring, in mm.
@@ -110,8 +149,7 @@ fn spoil(random: &mut Random, nodes: &mut [[f64; 2]]) {
 
 /// Places and used count: most lists are long, some have just the room or one
 /// place less, some name a count above their places.
-fn places(random: &mut Random, used: usize, ring: usize) -> (usize, usize) {
-    let (room, _) = room(ring);
+fn places(random: &mut Random, used: usize, room: usize) -> (usize, usize) {
     match random.below(40) {
         0..=3 => (used + room, used),
         4 => ((used + room).saturating_sub(1), used),
@@ -126,13 +164,13 @@ fn places(random: &mut Random, used: usize, ring: usize) -> (usize, usize) {
 }
 
 /// Free node places and free cell places that a ring of `r` points needs.
-fn room(r: usize) -> (usize, usize) {
-    let m = r.saturating_sub(3).min(32);
+fn room(r: usize, entry: &Entry) -> (usize, usize) {
+    let m = r.saturating_sub(3).min(entry.set().cuts as usize);
     (3 * r + 2 * m + 1, r + 2 * m)
 }
 
-fn call(random: &mut Random, job: Job) -> Call {
-    let (_, room) = room(job.ring.len());
+fn call(random: &mut Random, entry: Entry, job: Job) -> Call {
+    let (_, room) = room(job.ring.len(), &entry);
     let cell_count = random.pick(&[0, 0, 1, 4]);
     let cell_places = match random.below(20) {
         0..=3 => cell_count + room,
@@ -146,6 +184,7 @@ fn call(random: &mut Random, job: Job) -> Call {
         cell_count
     };
     Call {
+        entry,
         job,
         marking: None,
         cell_places,

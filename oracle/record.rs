@@ -14,6 +14,8 @@
 //! 5 SIZE CELL_NUMBERS CELL_COUNT RING_NUMBERS KINDS SNAPS OUTLINE LOOPS, the
 //!   ring, the kinds, two words for each number of the snaps, the outline, the
 //!   loops, and as in 2 what is left
+//! 7 CORNER LEAST GREATEST (two words each) CUTS SHARE (two): the set of the
+//!   call that follows, a record 2 or 5
 //! 3 NUMBER LENGTH, a word for each byte, code, and if it is 0 kind, count,
 //!   size and the 120 coordinates
 //! 4 SIZE NUMBER ROOM RING_NUMBERS CHAIN_NUMBERS, the coordinates, code, and
@@ -46,7 +48,7 @@ mod traced;
 use blocks::Jobs;
 use call::{Cell, NodeList, UNTOUCHED};
 use forms::{run, run_with, Run, CELL_PLACES, NODE_PLACES};
-use job::{Job, Marking, BLOCK};
+use job::{Entry, Job, Marking, BLOCK};
 use std::io::{Read, Write};
 
 /// Numbers of a ring or chain, and places of the lists, that `replay` holds.
@@ -90,6 +92,18 @@ impl Words {
             self.put(*x as u32);
         }
         self.left(run, list);
+    }
+
+    /// Before a call, which entry it is of.
+    fn entry(&mut self, entry: &Entry) {
+        if let Entry::Limited(set) = entry {
+            self.put(7);
+            self.long(set.corner.to_bits());
+            self.long(set.least.to_bits());
+            self.long(set.greatest.to_bits());
+            self.put(set.cuts);
+            self.long(set.share.to_bits());
+        }
     }
 
     fn marked(&mut self, job: &Job, m: &Marking, run: &Run, list: &NodeList) {
@@ -206,7 +220,8 @@ fn lists(text: &str) -> Words {
         for call in &given.calls {
             let marking = call.marking.as_ref();
             let (places, count) = (call.cell_places, call.cell_count);
-            let ran = run_with(&call.job, marking, &mut list, places, count);
+            let ran = run_with(&call.entry, &call.job, marking, &mut list, places, count);
+            words.entry(&call.entry);
             match marking {
                 Some(marking) => words.marked(&call.job, marking, &ran, &list),
                 None => words.call(&call.job, &ran, &list),

@@ -7,7 +7,7 @@ use crate::forms::line;
 use crate::job::Job;
 use crate::notes;
 use crate::stage::{self, Poly};
-use crate::standin::BAD_MEASURE;
+use crate::standin::limits;
 
 pub fn all(bytes: &[u8]) -> String {
     let mut out = String::new();
@@ -76,7 +76,7 @@ fn worst(out: &mut String, points: &[[f64; 2]]) {
             at = k;
         }
     }
-    let bad = u8::from(measures[at] > BAD_MEASURE);
+    let bad = u8::from(measures[at] > limits().corner);
     line(
         out,
         format_args!("worst {at} {:016x} {bad}", measures[at].to_bits()),

@@ -1,16 +1,25 @@
-//! What stands in for `atan2`, `acos` and degrees, and the straight middle.
-//! The extracted Rust calls these in place of its own text.
+//! What stands in for `atan2`, `acos` and degrees, the straight middle, and the
+//! set of limits. The extracted Rust calls these in place of its own text.
+
+use crate::job::Set;
+use std::cell::Cell;
+
+thread_local! {
+    static LIMITS: Cell<Set> = const { Cell::new(Set::DELIVERED) };
+}
+
+/// The set of limits of the call that runs.
+pub fn limits() -> Set {
+    LIMITS.get()
+}
+
+/// A call with this set begins.
+pub fn limited(set: Set) {
+    LIMITS.set(set);
+}
 
 /// A chain point with a cosine below this is a corner: 25 degrees.
 pub const SMOOTH_COSINE: f64 = 0.9063077870366499;
-/// No new corner of a cut has a cosine above this: 12 degrees.
-pub const MIN_SPLIT_COSINE: f64 = 0.9781476007338057;
-/// No new corner of a cut has a cosine below this: 160 degrees.
-pub const BAD_COSINE: f64 = -0.9396926207859084;
-/// The tangent of 20 degrees.
-const TANGENT: f64 = 0.36397023426620236;
-/// A corner with a measure above this is bad: 160 degrees.
-pub const BAD_MEASURE: f64 = 2.0 - TANGENT / (1.0 + TANGENT);
 
 /// Measure of a corner whose steps in and out have cross `s` and dot `c`.
 /// Coordinates are whole numbers of units, so a zero has no sign.

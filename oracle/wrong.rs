@@ -6,11 +6,15 @@ use crate::edits::{edit, Edit};
 pub const NAMED: [(&str, Edit); 41] = [
     (
         "never_cuts",
-        edit("split_bad_vertices", "a > BAD_MEASURE", "a > 9.0"),
+        edit("split_bad_vertices", "a > limits().corner", "a > 9.0"),
     ),
     (
         "bad_or_equal",
-        edit("split_bad_vertices", "a > BAD_MEASURE", "a >= BAD_MEASURE"),
+        edit(
+            "split_bad_vertices",
+            "a > limits().corner",
+            "a >= limits().corner",
+        ),
     ),
     (
         "first_of_equals",
@@ -20,8 +24,8 @@ pub const NAMED: [(&str, Edit); 41] = [
         "one_cut_less",
         edit(
             "split_bad_vertices",
-            "splits >= MAX_SPLITS",
-            "splits + 1 >= MAX_SPLITS",
+            "splits >= limits().cuts as usize",
+            "splits + 1 >= limits().cuts as usize",
         ),
     ),
     (
@@ -58,26 +62,26 @@ pub const NAMED: [(&str, Edit); 41] = [
     ),
     (
         "no_least_angle",
-        edit("split_polygon_at", "angle1 > MIN_SPLIT_COSINE", "false"),
+        edit("split_polygon_at", "angle1 > limits().greatest", "false"),
     ),
     (
         "above_least_angle",
         edit(
             "split_polygon_at",
-            "angle1 > MIN_SPLIT_COSINE",
-            "angle1 >= MIN_SPLIT_COSINE",
+            "angle1 > limits().greatest",
+            "angle1 >= limits().greatest",
         ),
     ),
     (
         "no_most_angle",
-        edit("split_polygon_at", "angle2 < BAD_COSINE", "false"),
+        edit("split_polygon_at", "angle2 < limits().least", "false"),
     ),
     (
         "below_most_angle",
         edit(
             "split_polygon_at",
-            "angle2 < BAD_COSINE",
-            "angle2 <= BAD_COSINE",
+            "angle2 < limits().least",
+            "angle2 <= limits().least",
         ),
     ),
     (
@@ -207,11 +211,19 @@ pub const NAMED: [(&str, Edit); 41] = [
     ),
     (
         "snaps_all",
-        edit("subdivide", "dist(q, m) <= 0.4", "dist(q, m) <= 1.0e9"),
+        edit(
+            "subdivide",
+            "dist(q, m) <= limits().share",
+            "dist(q, m) <= 1.0e9",
+        ),
     ),
     (
         "snaps_below_share",
-        edit("subdivide", "dist(q, m) <= 0.4", "dist(q, m) < 0.4"),
+        edit(
+            "subdivide",
+            "dist(q, m) <= limits().share",
+            "dist(q, m) < limits().share",
+        ),
     ),
     (
         "far_straightens",

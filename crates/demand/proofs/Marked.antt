@@ -38,6 +38,7 @@ use Rattle.nodes.specs.Growth.{InRange}
 use Rattle.cells.specs.Cells.{middle}
 use Rattle.table.specs.Refusals.{Passes}
 use Rattle.table.proofs.Refusals.{clear}
+use Rattle.sets.proofs.Taken.{most-cuts}
 use Rattle.corner.specs.declared.Limits.{Limits}
 use Rattle.demand.specs.Call.{held, anyOutside, countsOut}
 use Rattle.demand.specs.Demand.{Ready, Prepared, Demand3}
@@ -150,6 +151,7 @@ marked-points size g r = refl
 
 -- ---- the call, where none of its tests holds
 pub record MarkedPassed (L : Limits) (l : LentMarked) : Type 0 where
+  pub cuts : L .cuts ≤ 32
   pub from : 3 ≤ length (allPoints (l .ring))
   pub to : length (allPoints (l .ring)) ≤ 60
   pub ring : AllOnSheet (allPoints (l .ring))
@@ -163,6 +165,7 @@ marked-passed L l h =
     let t = clear (markedMade L l) h in
     let c = counts-in n 0 (or-no (odd (l .ring)) (countsOut n 0) (t .counts) .1) in
     record {
+      cuts = most-cuts L (t .limits);
       from = c .0;
       to = c .1;
       ring = points-in (allPoints (l .ring)) [] (l .size) (t .units) .0;

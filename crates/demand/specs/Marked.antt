@@ -23,6 +23,7 @@ use Rattle.corner.specs.declared.Limits.{Limits}
 use Rattle.nodes.specs.Flat.{pointAt, nodesIn}
 use Rattle.cells.specs.Cells.{middle}
 use Rattle.table.specs.Refusals.{Refusal, Tests, inOrder}
+use Rattle.sets.specs.Sets.{limitsOut}
 use Rattle.demand.specs.Call.{Lists, held, anyOutside, countsOut, unitsOut, listsOut, roomOut}
 use Rattle.demand.specs.Divide.{Answer, refusedOr, core}
 use Rattle.demand.specs.Lent.{pointsIn, allCells, odd}
@@ -97,7 +98,7 @@ markedLists l = record { nodes = nodesIn (l .nodes) (length (l .nodes) / 2); nod
 abbrev pub markedStart : LentMarked → Part
 markedStart l = markedBy (l .size) (l .marking) (allPoints (l .ring))
 
--- its tests: 1 and 2 of a ring with no chain, 13 "after 2", 14 "after 13", and 3 and 4
+-- its tests: 1 and 2 of a ring with no chain, 13 "after 2", 14 "after 13", 15 after "14 where marks are given", and 3 and 4
 abbrev pub markedMade : Limits → LentMarked → Tests
 markedMade L l =
     let n = length (allPoints (l .ring)) in
@@ -108,7 +109,7 @@ markedMade L l =
       units = unitsOut (allPoints (l .ring)) [] (l .size);
       marks = marksOut (l .marking .kinds) (l .marking .snaps) n;
       outline = outlineOut (l .marking .kinds) (l .marking .outline) (l .marking .loops);
-      limits = false;
+      limits = limitsOut L;
       lists = listsOut x;
       room = roomOut L n (length (x .nodes) - x .nodeCount) (length (x .cells) - x .cellCount);
     }

@@ -99,7 +99,7 @@ module _ (L : Limits) (l : LentRecords) (q : List ℕ) (k : ℕ) where
       pub can-divide : CanDivide L (length (l .ring) / 2) m (l .nodes) (l .nodeCount) q k
       can-divide =
           record {
-            cuts = h .cuts;
+            cuts = through .cuts;
             held = b .held;
             prepared = subst (λ (r : ℕ). Prepared L r (partIn m) x) own (subst (λ (p : Part). Prepared L (length (c .ring)) p x) (sym (b .part)) prepared-here);
           }
@@ -118,10 +118,10 @@ promised L l v m p h = record { leaves = h; accepted = λ z. demand3-lent L l (s
 abbrev pub recorded : Lent → LentRecords
 recorded l = record { ring = l .ring; chain = l .chain; size = l .size; nodes = l .nodes; nodeCount = l .nodeCount; cells = allCells (l .cells); cellCount = l .cellCount }
 
--- the set of limits, by another name
-pub own-promise : (M L : Limits) → M ≡ L → (l : Lent) (v : Values) (m : List Float) (p : List ℕ) → Leaves (divideInto M (recorded l) (l .cells) (l .cellCount)) v (l .nodes) m (l .cells) p → Promise L l v m p
+-- with its cells written where they were lent
+pub own-promise : (L : Limits) (l : Lent) (v : Values) (m : List Float) (p : List ℕ) → Leaves (divideInto L (recorded l) (l .cells) (l .cellCount)) v (l .nodes) m (l .cells) p → Promise L l v m p
 unfolding divideLent
-own-promise M L d l v m p h = subst (λ (L : Limits). Promise L l v m p) d (promised M l v m p h)
+own-promise L l v m p h = promised L l v m p h
 
 pub cell-places : (q : List ℕ) → length (allCells q) ≡ length q / 4
 cell-places q = length-tab (cellIn q) (length q / 4)

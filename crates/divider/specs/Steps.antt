@@ -74,5 +74,4 @@ divideInto L l q k =
 
 -- where the tested list has room for a ring, the numbers do
 pub record HasRoom (L : Limits) (w : CellRoom) (q : List ℕ) : Type 0 where
-  pub cuts : L .cuts ≤ 32
   pub reserve : (r : ℕ) → r ≤ 60 → w .used + cellReserve L r ≤ w .places → w .at + cellReserve L r ≤ length q / 4

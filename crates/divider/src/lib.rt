@@ -207,7 +207,29 @@ pub fn divide_with(
     divide_core(limits, marked, own, nodes, node_count, cells, room.at)
 }
 
-// The divider call over the lists that the caller lends.
+// The divider call with the caller's set of limits, over the lists that the caller lends.
+pub fn divide_set(
+    limits: Limits,
+    ring: &[i32],
+    chain: &[i32],
+    size: u32,
+    nodes: &mut [f64],
+    node_count: usize,
+    cells: &mut [NodeNumber],
+    cell_count: usize,
+) -> Answer
+    ensures { λ a. ⌜ Promise limits (record { ring = now (ring .entry); chain = now (chain .entry); size = size; nodes = now (nodes .entry); nodeCount = «node_count»; cells = now (cells .entry); cellCount = «cell_count» })
+        (Answers.values a) (now (nodes .exit)) (now (cells .exit)) ⌝ }
+{
+    let room = CellRoom {
+        places: cells.len() / 4,
+        used: cell_count,
+        at: cell_count,
+    };
+    divide_with(limits, ring, chain, size, nodes, node_count, cells, room)
+}
+
+// The divider call with the set on delivery.
 pub fn divide(
     ring: &[i32],
     chain: &[i32],
@@ -220,11 +242,15 @@ pub fn divide(
     ensures { λ a. ⌜ Promise delivered (record { ring = now (ring .entry); chain = now (chain .entry); size = size; nodes = now (nodes .entry); nodeCount = «node_count»; cells = now (cells .entry); cellCount = «cell_count» })
         (Answers.values a) (now (nodes .exit)) (now (cells .exit)) ⌝ }
 {
-    let room = CellRoom {
-        places: cells.len() / 4,
-        used: cell_count,
-        at: cell_count,
-    };
     let limits = Limits::new();
-    divide_with(limits, ring, chain, size, nodes, node_count, cells, room)
+    divide_set(
+        limits,
+        ring,
+        chain,
+        size,
+        nodes,
+        node_count,
+        cells,
+        cell_count,
+    )
 }

@@ -1,5 +1,5 @@
-// Entry: the tests that a divider call makes of its input before it touches it, refusals 1 to 4, and the points that it
-// reads once they have passed.
+// Entry: the tests that a divider call makes of its input before it touches it, refusals 1 to 4 and 15, and the points that
+// it reads once they have passed.
 //
 // It is the first step in the way of a ring. What a caller lends are flat lists: a ring and a chain are numbers, x and y in
 // turn, and so are the nodes; a cell is four numbers. Nothing is asked of them: every count and every number is tested.
@@ -141,7 +141,7 @@ pub fn room_out(limits: Limits, r: usize, nodes: usize, cells: usize) -> bool
     cells < cell_reserve(limits, r)
 }
 
-// The first of refusals 1 to 4, or 0. Of the cell list only the number of its places is looked at.
+// The first refusal of the tests, in their order, or 0. Of the cell list only the number of its places is looked at.
 pub fn refusal(
     limits: Limits,
     ring: &[i32],
@@ -159,6 +159,9 @@ pub fn refusal(
     }
     if units_out(ring, chain, size) {
         return 2;
+    }
+    if sets::limits_out(limits) {
+        return 15;
     }
     if lists_out(nodes, node_count, cell_places, cell_count) {
         return 3;

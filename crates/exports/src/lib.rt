@@ -10,6 +10,7 @@ ghost use Rattle.corner.specs.Limits.{delivered};
 ghost use Rattle.divider.specs.Promise.{Promise};
 ghost use Rattle.marked.specs.Promise.{MarkedPromise};
 ghost use Rattle.writer.specs.Write as Write;
+use corner::Limits;
 use nodes::NodeNumber;
 use table::Values;
 
@@ -31,6 +32,54 @@ pub extern "C" fn ring_divide(
     Values::new(a)
 }
 
+// The five values of a set, held together.
+fn set_of(corner: f64, least: f64, greatest: f64, cuts: u32, share: f64) -> Limits
+    ensures { λ r. ⌜ r ≡ record { cuts = cuts; corner = corner; least = least; greatest = greatest; share = share } ⌝ }
+{
+    Limits {
+        cuts: cuts as usize,
+        corner: corner,
+        least: least,
+        greatest: greatest,
+        share: share,
+    }
+}
+
+// The same with the caller's set of limits: the bad-corner limit, the least and the greatest cosine of a diagonal, the
+// number of cuts and the snap share.
+#[no_mangle]
+pub extern "C" fn ring_divide_set(
+    corner: f64,
+    least: f64,
+    greatest: f64,
+    cuts: u32,
+    share: f64,
+    ring: &[i32],
+    chain: &[i32],
+    size: u32,
+    nodes: &mut [f64],
+    node_count: usize,
+    cells: &mut [NodeNumber],
+    cell_count: usize,
+) -> Values
+    ensures { λ v. ⌜ Promise (record { cuts = cuts; corner = corner; least = least; greatest = greatest; share = share })
+        (record { ring = now (ring .entry); chain = now (chain .entry); size = size; nodes = now (nodes .entry); nodeCount = «node_count»; cells = now (cells .entry); cellCount = «cell_count» })
+        v (now (nodes .exit)) (now (cells .exit)) ⌝ }
+{
+    let limits = set_of(corner, least, greatest, cuts, share);
+    let a = divider::divide_set(
+        limits,
+        ring,
+        chain,
+        size,
+        nodes,
+        node_count,
+        cells,
+        cell_count,
+    );
+    Values::new(a)
+}
+
 // The divider call with given marks: 0 straight, 1 snapped to its given point, 2 snapped to the outline.
 #[no_mangle]
 pub extern "C" fn ring_divide_marked(
@@ -49,6 +98,46 @@ pub extern "C" fn ring_divide_marked(
         v (now (nodes .exit)) (now (cells .exit)) ⌝ }
 {
     let a = marked::divide_marked(
+        ring,
+        kinds,
+        snaps,
+        outline,
+        loops,
+        size,
+        nodes,
+        node_count,
+        cells,
+        cell_count,
+    );
+    Values::new(a)
+}
+
+// The same with the caller's set of limits.
+#[no_mangle]
+pub extern "C" fn ring_divide_marked_set(
+    corner: f64,
+    least: f64,
+    greatest: f64,
+    cuts: u32,
+    share: f64,
+    ring: &[i32],
+    kinds: &[u8],
+    snaps: &[f64],
+    outline: &[i32],
+    loops: &[u32],
+    size: u32,
+    nodes: &mut [f64],
+    node_count: usize,
+    cells: &mut [NodeNumber],
+    cell_count: usize,
+) -> Values
+    ensures { λ v. ⌜ MarkedPromise (record { cuts = cuts; corner = corner; least = least; greatest = greatest; share = share })
+        (record { ring = now (ring .entry); marking = record { kinds = now (kinds .entry); snaps = now (snaps .entry); outline = now (outline .entry); loops = now (loops .entry) }; size = size; nodes = now (nodes .entry); nodeCount = «node_count»; cells = now (cells .entry); cellCount = «cell_count» })
+        v (now (nodes .exit)) (now (cells .exit)) ⌝ }
+{
+    let limits = set_of(corner, least, greatest, cuts, share);
+    let a = marked::divide_marked_set(
+        limits,
         ring,
         kinds,
         snaps,

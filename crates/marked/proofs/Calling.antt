@@ -59,11 +59,11 @@ module _ (L : Limits) (l : LentMarked) where
         }
 
     -- the ring that was prepared
-    module _ (m : MarkedRing) (b : Prepares (l .ring) (l .marking) (l .size) m) (c : L .cuts ≤ 32) where
+    module _ (m : MarkedRing) (b : Prepares (l .ring) (l .marking) (l .size) m) where
       pub can-divide : CanDivide L (length (l .ring) / 2) m (l .nodes) (l .nodeCount) (l .cells) (l .cellCount)
       can-divide =
           record {
-            cuts = c;
+            cuts = through .cuts;
             held = b .held;
             prepared = subst (λ (r : ℕ). Prepared L r (partIn m) x) own (subst (λ (p : Part). Prepared L r p x) (sym (b .part)) (marked-prepared L l through));
           }
@@ -75,12 +75,8 @@ module _ (L : Limits) (l : LentMarked) where
           (subst (λ (r : ℕ). Leaves (core L r (markedStart l) x) v (l .nodes) n (l .cells) o) (sym own) (subst (λ (p : Part). Leaves (core L (length (l .ring) / 2) p x) v (l .nodes) n (l .cells) o) (b .part) f))
 
 -- ---- the promise
-promised : (L : Limits) (l : LentMarked) (v : Values) (m : List Float) (p : List ℕ) → Leaves (divideMarked L l) v (l .nodes) m (l .cells) p → MarkedPromise L l v m p
+pub promised : (L : Limits) (l : LentMarked) (v : Values) (m : List Float) (p : List ℕ) → Leaves (divideMarked L l) v (l .nodes) m (l .cells) p → MarkedPromise L l v m p
 promised L l v m p h = record { leaves = h; accepted = λ z. demand3-marked L l (sym (ap (λ (v : Values). v .code) (h .values)) ∙ z) }
-
--- the set of limits, by another name
-pub own-promise : (M L : Limits) → M ≡ L → (l : LentMarked) (v : Values) (m : List Float) (p : List ℕ) → Leaves (divideMarked M l) v (l .nodes) m (l .cells) p → MarkedPromise L l v m p
-own-promise M L d l v m p h = subst (λ (L : Limits). MarkedPromise L l v m p) d (promised M l v m p h)
 
 -- ---- the node list that it leaves is that of a list of calls
 pub as-called : (s : Pool) (g : GivenMarked) (v : Values) (m : List Float) (p : List ℕ) → MarkedPromise (g .limits) (lendMarked s g) v m p → _≡_ {A = Pool} (record { doubles = m; count = v .nodes }) (leaves s (answerOf s (marked g)))

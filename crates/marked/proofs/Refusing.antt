@@ -11,6 +11,7 @@ use Rattle.laws.proofs.Table.{length-tab}
 use Rattle.corner.specs.declared.Limits.{Limits}
 use Rattle.nodes.proofs.Flat.{length-in}
 use Rattle.table.specs.Refusals.{firstOf}
+use Rattle.sets.specs.Sets.{limitsOut}
 use Rattle.demand.specs.Call.{countsOut, unitsOut, listsOut, roomOut}
 use Rattle.demand.specs.Lent.{pointIn, cellIn, odd}
 use Rattle.demand.specs.Marked.{allPoints, marksOut, outlineOut, LentMarked, markedLists, markedTests}
@@ -40,6 +41,9 @@ module _ (L : Limits) (l : LentMarked) (places : ℕ) (e : length (l .cells) / 4
   abbrev outline : Bool
   outline = outlineOut (l .marking .kinds) (l .marking .outline) (l .marking .loops)
 
+  abbrev sets : Bool
+  sets = limitsOut L
+
   abbrev lists : Bool
   lists = listsOut (markedLists l)
 
@@ -49,7 +53,7 @@ module _ (L : Limits) (l : LentMarked) (places : ℕ) (e : length (l .cells) / 4
   abbrev refusal : ℕ
   refusal = firstOf (markedTests L l)
 
-  answer : refusal ≡ cond counts 1 (cond units 2 (cond marks 13 (cond outline 14 (cond lists 3 (cond room 4 0)))))
+  answer : refusal ≡ cond counts 1 (cond units 2 (cond marks 13 (cond outline 14 (cond sets 15 (cond lists 3 (cond room 4 0))))))
   answer = rw (← e, length-tab (pointIn (l .ring)) r, length-in (l .nodes) (length (l .nodes) / 2), length-tab (cellIn (l .cells)) (length (l .cells) / 4))
 
   pub first : counts ≡ true → 1 ≡ refusal
@@ -64,8 +68,11 @@ module _ (L : Limits) (l : LentMarked) (places : ℕ) (e : length (l .cells) / 4
   pub fourteenth : counts ≡ false → units ≡ false → marks ≡ false → outline ≡ true → 14 ≡ refusal
   fourteenth a b c d = sym (answer ∙ rw (a, b, c, d))
 
-  pub third : counts ≡ false → units ≡ false → marks ≡ false → outline ≡ false → lists ≡ true → 3 ≡ refusal
-  third a b c d f = sym (answer ∙ rw (a, b, c, d, f))
+  pub fifteenth : counts ≡ false → units ≡ false → marks ≡ false → outline ≡ false → sets ≡ true → 15 ≡ refusal
+  fifteenth a b c d f = sym (answer ∙ rw (a, b, c, d, f))
 
-  pub fourth : counts ≡ false → units ≡ false → marks ≡ false → outline ≡ false → lists ≡ false → (t : Bool) → room ≡ t → cond t 4 0 ≡ refusal
-  fourth a b c d f t g = sym (answer ∙ rw (a, b, c, d, f, g))
+  pub third : counts ≡ false → units ≡ false → marks ≡ false → outline ≡ false → sets ≡ false → lists ≡ true → 3 ≡ refusal
+  third a b c d f g = sym (answer ∙ rw (a, b, c, d, f, g))
+
+  pub fourth : counts ≡ false → units ≡ false → marks ≡ false → outline ≡ false → sets ≡ false → lists ≡ false → (t : Bool) → room ≡ t → cond t 4 0 ≡ refusal
+  fourth a b c d f g t h = sym (answer ∙ rw (a, b, c, d, f, g, h))

@@ -6,14 +6,13 @@
 
 ghost use mathlib.Core.Path.{_≡_};
 ghost use mathlib.Core.List.{List, []};
-ghost use Prim.Native.Nat.{ℕ, _/_, _≤_};
+ghost use Prim.Native.Nat.{ℕ, _/_};
 ghost use lib.ListN.{length};
 ghost use Rattle.corner.specs.Limits.{delivered};
 ghost use Rattle.table.specs.Answers as Answers;
 ghost use Rattle.table.specs.Refusals.{firstOf};
 ghost use Rattle.demand.specs.Call as Call;
-ghost use Rattle.demand.specs.Marked.{allPoints, markedTests, divideMarked};
-ghost use Rattle.divider.specs.Promise.{Leaves};
+ghost use Rattle.demand.specs.Marked.{allPoints, markedTests};
 ghost use Rattle.marked.specs.Promise.{MarkedPromise};
 ghost use Rattle.marked.specs.Steps.{Tested, Prepares};
 use corner::Limits;
@@ -34,8 +33,8 @@ fn units_out(ring: &[i32], size: u32) -> bool
     2048 < size
 }
 
-// The first refusal, or 0: 1 and 2 of the ring, 13 and 14 of its marks, 3 and 4 of the lists. Of the cell list only the
-// number of its places is looked at.
+// The first refusal, or 0: 1 and 2 of the ring, 13 and 14 of its marks, 15 of the set, 3 and 4 of the lists. Of the cell list
+// only the number of its places is looked at.
 fn refusal(
     limits: Limits,
     ring: &[i32],
@@ -63,6 +62,9 @@ fn refusal(
     }
     if given::outline_out(kinds, outline, loops) {
         return 14;
+    }
+    if sets::limits_out(limits) {
+        return 15;
     }
     if entry::lists_out(nodes, node_count, cell_places, cell_count) {
         return 3;
@@ -103,8 +105,8 @@ fn marked_ring(
     }
 }
 
-// The divider call with given marks and a set of limits.
-pub fn divide_marked_with(
+// The divider call with given marks and the caller's set of limits, over the lists that the caller lends.
+pub fn divide_marked_set(
     limits: Limits,
     ring: &[i32],
     kinds: &[u8],
@@ -117,9 +119,8 @@ pub fn divide_marked_with(
     cells: &mut [NodeNumber],
     cell_count: usize,
 ) -> Answer
-    requires { ⌜ limits .cuts ≤ 32 ⌝ }
-    ensures { λ a. ⌜ Leaves (divideMarked limits (record { ring = now (ring .entry); marking = record { kinds = now (kinds .entry); snaps = now (snaps .entry); outline = now (outline .entry); loops = now (loops .entry) }; size = size; nodes = now (nodes .entry); nodeCount = «node_count»; cells = now (cells .entry); cellCount = «cell_count» }))
-        (Answers.values a) (now (nodes .entry)) (now (nodes .exit)) (now (cells .entry)) (now (cells .exit)) ⌝ }
+    ensures { λ a. ⌜ MarkedPromise limits (record { ring = now (ring .entry); marking = record { kinds = now (kinds .entry); snaps = now (snaps .entry); outline = now (outline .entry); loops = now (loops .entry) }; size = size; nodes = now (nodes .entry); nodeCount = «node_count»; cells = now (cells .entry); cellCount = «cell_count» })
+        (Answers.values a) (now (nodes .exit)) (now (cells .exit)) ⌝ }
 {
     let places = cells.len() / 4;
     let code = refusal(
@@ -147,7 +148,7 @@ pub fn divide_marked_with(
     divider::divide_core(limits, marked, own, nodes, node_count, cells, cell_count)
 }
 
-// The divider call with given marks, over the lists that the caller lends.
+// The same with the set on delivery.
 pub fn divide_marked(
     ring: &[i32],
     kinds: &[u8],
@@ -164,7 +165,7 @@ pub fn divide_marked(
         (Answers.values a) (now (nodes .exit)) (now (cells .exit)) ⌝ }
 {
     let limits = Limits::new();
-    divide_marked_with(
+    divide_marked_set(
         limits,
         ring,
         kinds,

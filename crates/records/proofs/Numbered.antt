@@ -33,7 +33,7 @@ use Rattle.records.proofs.Moved.{Moved, moved}
 module _ (L : Limits) (few : L .cuts ≤ 32) (q : List ℕ) (long : length q ≡ 496) where
   -- the numbers have room for every ring
   pub has-room : (w : CellRoom) → w .at ≡ 0 → HasRoom L w q
-  has-room w z = record { cuts = few; reserve = λ r h k. omega (arith, few, long, h, z) }
+  has-room w z = record { reserve = λ r h k. omega (arith, few, long, h, z) }
 
   module _ (l : LentRecords) where
     abbrev c : Call

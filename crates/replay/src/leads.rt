@@ -1,12 +1,14 @@
 // A call with given marks, compared with a list that says what the Rust leaves.
 
 use crate::State;
+use crate::called;
+use crate::called::Entry;
 use crate::same;
 use crate::words;
 use nodes::NodeNumber;
 
 // What does not fit its list is left out, and shows as a difference.
-pub fn replay_marked(fd: i32, nodes: &mut [f64], s: State) -> State {
+pub fn replay_marked(fd: i32, entry: Entry, nodes: &mut [f64], s: State) -> State {
     let size = words::word(fd);
     let cell_numbers = words::count_to(fd, 2048);
     let cell_count = words::word(fd) as usize;
@@ -29,6 +31,7 @@ pub fn replay_marked(fd: i32, nodes: &mut [f64], s: State) -> State {
     let mut cells = [65535u32; 2048];
     compared(
         fd,
+        entry,
         &ring[..r],
         &kinds[..k],
         &snaps[..t],
@@ -45,6 +48,7 @@ pub fn replay_marked(fd: i32, nodes: &mut [f64], s: State) -> State {
 // Runs the call and compares all that it leaves with the file.
 fn compared(
     fd: i32,
+    entry: Entry,
     ring: &[i32],
     kinds: &[u8],
     snaps: &[f64],
@@ -59,7 +63,8 @@ fn compared(
     let used = s.used;
     let mut before = [0.0f64; 3072];
     words::copy(nodes, &mut before);
-    let v = exports::ring_divide_marked(
+    let v = called::divided_marked(
+        entry,
         ring,
         kinds,
         snaps,

@@ -1,11 +1,13 @@
 // Replay: runs the fixed lists of data/, calls and blocks with what the original Rust answers, and compares every returned
 // value, every node bit, every cell place, every byte read and every byte written. docs/REPLAY.md has the form of the lists.
 
+mod called;
 mod leads;
 mod pairs;
 mod same;
 mod words;
 
+use called::Entry;
 use libc::STDOUT_FILENO;
 use nodes::NodeNumber;
 
@@ -50,7 +52,7 @@ fn replay_list(fd: i32, nodes: &mut [f64], s: State) -> State {
     }
 }
 
-fn replay_call(fd: i32, nodes: &mut [f64], s: State) -> State {
+fn replay_call(fd: i32, entry: Entry, nodes: &mut [f64], s: State) -> State {
     let size = words::word(fd);
     let cell_numbers = words::count(fd);
     let cell_count = words::word(fd) as usize;
@@ -77,6 +79,7 @@ fn replay_call(fd: i32, nodes: &mut [f64], s: State) -> State {
     let mut cells = [65535u32; 2048];
     compared(
         fd,
+        entry,
         &ring[..r],
         &chain[..c],
         size,
@@ -90,6 +93,7 @@ fn replay_call(fd: i32, nodes: &mut [f64], s: State) -> State {
 // Runs a call and compares all that it leaves with the file.
 fn compared(
     fd: i32,
+    entry: Entry,
     ring: &[i32],
     chain: &[i32],
     size: u32,
@@ -101,7 +105,7 @@ fn compared(
     let used = s.used;
     let mut before = [0.0f64; 3072];
     words::copy(nodes, &mut before);
-    let v = exports::ring_divide(ring, chain, size, nodes, used, cells, cell_count);
+    let v = called::divided(entry, ring, chain, size, nodes, used, cells, cell_count);
     let row = same::same_row(fd, v);
     let listed = same::same_nodes(fd, nodes, &before, words::doubled(used));
     let laid = same::same_cells(fd, cells);
@@ -147,12 +151,20 @@ fn replay_pair(fd: i32, s: State) -> State {
     s.ran(pairs::same_pair(fd, code, &out), used)
 }
 
+// A call of some entry, by a chain or with given marks.
+fn replay_entry(fd: i32, entry: Entry, kind: u32, nodes: &mut [f64], s: State) -> State {
+    if kind == 5 {
+        return leads::replay_marked(fd, entry, nodes, s);
+    }
+    replay_call(fd, entry, nodes, s)
+}
+
 fn step(fd: i32, kind: u32, nodes: &mut [f64], s: State) -> State {
     if kind == 1 {
         return replay_list(fd, nodes, s);
     }
     if kind == 2 {
-        return replay_call(fd, nodes, s);
+        return replay_entry(fd, called::delivered(), kind, nodes, s);
     }
     if kind == 3 {
         return replay_block(fd, s);
@@ -161,7 +173,11 @@ fn step(fd: i32, kind: u32, nodes: &mut [f64], s: State) -> State {
         return replay_pair(fd, s);
     }
     if kind == 5 {
-        return leads::replay_marked(fd, nodes, s);
+        return replay_entry(fd, called::delivered(), kind, nodes, s);
+    }
+    if kind == 7 {
+        let entry = called::read(fd);
+        return replay_entry(fd, entry, words::word(fd), nodes, s);
     }
     let used = s.used;
     s.ran(false, used)
@@ -221,8 +237,7 @@ fn main() {
     let read = file(b"blocks.list");
     let written = file(b"pairs.list");
     let marked = file(b"marks.list");
-    print(
-        b"total",
-        plus(plus(plus(plus(rings, calls), read), written), marked),
-    );
+    let sets = file(b"sets.list");
+    let divided = plus(plus(rings, calls), plus(marked, sets));
+    print(b"total", plus(divided, plus(read, written)));
 }

@@ -19,6 +19,7 @@ use Rattle.split.specs.Split as Split
 use Rattle.nodes.specs.Nodes as Nodes
 use Rattle.cells.specs.Cells as Cells
 use Rattle.cells.specs.Pieces as Pieces
+use Rattle.sets.specs.Sets as Sets
 use Rattle.demand.specs.Call as Call
 use Rattle.demand.specs.Divide as Divide
 use Rattle.demand.specs.Lent as Lent
@@ -78,7 +79,7 @@ unfolding Nodes.rounded Nodes.key Nodes.hasKey Nodes.number Nodes.addNode Nodes.
 in-cells = tt
 
 unfoldable pub in-divider : Unit {0}
-unfolding Call.countsOut Call.outside Call.anyOutside Call.unitsOut Call.held Call.usable Call.listsOver Call.roomOut Divide.refused Divide.answered Divide.core Divide.divide
+unfolding Sets.between Sets.cosinesOut Sets.limitsOut Call.countsOut Call.outside Call.anyOutside Call.unitsOut Call.held Call.usable Call.listsOver Call.roomOut Divide.refused Divide.answered Divide.core Divide.divide
 in-divider = tt
 
 -- the program: blocks, the call over lent lists, the printed lines, and the run

@@ -10,13 +10,14 @@ use Rattle.nodes.specs.Flat.{nodesIn}
 use Rattle.nodes.proofs.Flat.{length-in}
 use Rattle.cells.specs.Cells.{noCell}
 use Rattle.table.specs.Refusals.{firstOf}
+use Rattle.sets.specs.Sets.{limitsOut}
 use Rattle.demand.specs.Call.{Lists, countsOut, unitsOut, roomOut}
 use Rattle.demand.specs.Lent.{allCells, odd}
 use Rattle.demand.specs.Marked.{allPoints, marksOut, outlineOut, LentMarked, markedTests}
 use Rattle.demand.proofs.Tests as Tests
 use Rattle.demand.proofs.Tests.{or-no, counts-in}
 use Rattle.divider.proofs.Calling.{cell-places}
-use Rattle.marked.proofs.Refusing.{no-chain, first, second, thirteenth, fourteenth, third, fourth}
+use Rattle.marked.proofs.Refusing.{no-chain, first, second, thirteenth, fourteenth, fifteenth, third, fourth}
 use Rattle.marked.proofs.refusal.Statement.{statement}
 use Rattle.marked.proofs.refusal.Tie as tie
 
@@ -54,27 +55,31 @@ marks-no c = sym (c .before .marks-out .ensures) ∙ c .if3 .left
 outline-no : (c : tie.Else4) → let a = start (c .before .before .before .before .before .before .before) .args in outlineOut (a .kinds .now) (a .outline .now) (a .loops .now) ≡ false
 outline-no c = sym (c .before .outline-out .ensures) ∙ c .if4 .left
 
+set-no : (c : tie.Else5) → let a = start (c .before .before .before .before .before .before .before .before .before) .args in limitsOut (a .limits) ≡ false
+set-no c = sym (c .before .limits-out .ensures) ∙ c .if5 .left
+
 -- the used counts fit their lists
-fit : (c : tie.Else5) → let a = start (c .before .before .before .before .before .before .before .before .before) .args in (a .node-count ≤ length (a .nodes .now) / 2) × (a .cell-count ≤ a .cell-places)
+fit : (c : tie.Else6) → let a = start (c .before .before .before .before .before .before .before .before .before .before .before) .args in (a .node-count ≤ length (a .nodes .now) / 2) × (a .cell-count ≤ a .cell-places)
 fit c =
-    let a = start (c .before .before .before .before .before .before .before .before .before) .args in
+    let a = start (c .before .before .before .before .before .before .before .before .before .before .before) .args in
     let l = a .nodes .now in
     let cs = replicate (a .cell-places) noCell in
     let n = length-replicate (a .cell-places) noCell in
     let x : Lists = record { nodes = nodesIn l (length l / 2); nodeCount = a .node-count; cells = cs; cellCount = a .cell-count } in
-    let h = Tests.counts-fit x (sym (c .before .lists-out .ensures cs n) ∙ c .if5 .left) in
+    let h = Tests.counts-fit x (sym (c .before .lists-out .ensures cs n) ∙ c .if6 .left) in
     (omega (arith, h .0, length-in l (length l / 2)), omega (arith, h .1, n))
 
 -- the last test
-ended : (c : tie.Else5) (q : List ℕ) → let s = start (c .before .before .before .before .before .before .before .before .before) in length q / 4 ≡ s .args .cell-places → (t : Bool)
+ended : (c : tie.Else6) (q : List ℕ) → let s = start (c .before .before .before .before .before .before .before .before .before .before .before) in length q / 4 ≡ s .args .cell-places → (t : Bool)
     → roomOut (s .args .limits) (length (s .args .ring .now) / 2) (length (s .args .nodes .now) / 2 - s .args .node-count) (s .args .cell-places - s .args .cell-count) ≡ t → cond t 4 0 ≡ firstOf (markedTests (s .args .limits) (lent s q))
 ended c q e t h =
-    let k = c .before .before in
+    let w = c .before .before in
+    let k = w .before .before in
     let m = k .before .before in
     let u = m .before .before in
     let s = start (u .before .before .before) in
-    fourth (s .args .limits) (lent s q) (s .args .cell-places) e (counts-no (u .before .before)) (units-no u) (marks-no m) (outline-no k)
-    (sym (c .before .lists-out .ensures (allCells q) (cell-places q ∙ e)) ∙ c .if5 .left) t h
+    fourth (s .args .limits) (lent s q) (s .args .cell-places) e (counts-no (u .before .before)) (units-no u) (marks-no m) (outline-no k) (set-no w)
+    (sym (c .before .lists-out .ensures (allCells q) (cell-places q ∙ e)) ∙ c .if6 .left) t h
 
 counts-out-requires : tie.Need-counts-out-requires
 counts-out-requires c κs = search needs
@@ -103,16 +108,27 @@ returns-4 c q e =
     let u = k .before .before in
     fourteenth _ (lent (start (u .before .before .before)) q) _ e (counts-no (u .before .before)) (units-no u) (marks-no k) (sym (c .before .outline-out .ensures) ∙ c .if4 .taken)
 
-lists-out-requires : tie.Need-lists-out-requires
-lists-out-requires c κs = search needs
+limits-out-requires : tie.Need-limits-out-requires
+limits-out-requires c κs = search needs
 
 returns-5 : tie.Need-returns-5
 returns-5 c q e =
     let k = c .before .before in
     let m = k .before .before in
     let u = m .before .before in
-    third _ (lent (start (u .before .before .before)) q) _ e (counts-no (u .before .before)) (units-no u) (marks-no m) (outline-no k)
-    (sym (c .before .lists-out .ensures (allCells q) (cell-places q ∙ e)) ∙ c .if5 .taken)
+    fifteenth _ (lent (start (u .before .before .before)) q) _ e (counts-no (u .before .before)) (units-no u) (marks-no m) (outline-no k) (sym (c .before .limits-out .ensures) ∙ c .if5 .taken)
+
+lists-out-requires : tie.Need-lists-out-requires
+lists-out-requires c κs = search needs
+
+returns-6 : tie.Need-returns-6
+returns-6 c q e =
+    let w = c .before .before in
+    let k = w .before .before in
+    let m = k .before .before in
+    let u = m .before .before in
+    third _ (lent (start (u .before .before .before)) q) _ e (counts-no (u .before .before)) (units-no u) (marks-no m) (outline-no k) (set-no w)
+    (sym (c .before .lists-out .ensures (allCells q) (cell-places q ∙ e)) ∙ c .if6 .taken)
 
 sub-room-out : tie.Need-sub-room-out
 sub-room-out c = omega (arith, fit c .0)
@@ -121,13 +137,13 @@ sub-room-out-2 : tie.Need-sub-room-out-2
 sub-room-out-2 c = omega (arith, fit c .1)
 
 room-out-requires : tie.Need-room-out-requires
-room-out-requires c κs = counts-fit (c .before .before .before .before .before .before .before .before)
-
-returns-6 : tie.Need-returns-6
-returns-6 c q e = ended (c .before .before) q e true (sym (c .before .room-out .ensures) ∙ c .if6 .taken)
+room-out-requires c κs = counts-fit (c .before .before .before .before .before .before .before .before .before .before)
 
 returns-7 : tie.Need-returns-7
-returns-7 c q e = ended (c .before .before) q e false (sym (c .before .room-out .ensures) ∙ c .if6 .left)
+returns-7 c q e = ended (c .before .before) q e true (sym (c .before .room-out .ensures) ∙ c .if7 .taken)
+
+returns-8 : tie.Need-returns-8
+returns-8 c q e = ended (c .before .before) q e false (sym (c .before .room-out .ensures) ∙ c .if7 .left)
 
 pub refusal-spec : {M : Type 1} → statement M
 refusal-spec =
@@ -141,10 +157,12 @@ refusal-spec =
     returns-3
     outline-out-requires
     returns-4
-    lists-out-requires
+    limits-out-requires
     returns-5
+    lists-out-requires
+    returns-6
     sub-room-out
     sub-room-out-2
     room-out-requires
-    returns-6
-    returns-7)
+    returns-7
+    returns-8)

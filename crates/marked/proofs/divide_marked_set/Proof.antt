@@ -1,11 +1,11 @@
--- `divide_marked_with` meets its contract: a refusal leaves everything as found, and else the core divides the ring that was prepared.
+-- `divide_marked_set` keeps its promise: a refusal leaves everything as found, and else the core divides the ring that was prepared.
 use native.Mathlib.Omega.{arith}
 use borrow.Author.Needs.{needs}
 use mathlib.Core.Path.{refl}
 use Rattle.demand.specs.Marked.{LentMarked}
-use Rattle.marked.proofs.Calling.{call-refused, tested, can-divide, call-divided}
-use Rattle.marked.proofs.divide_marked_with.Statement.{statement}
-use Rattle.marked.proofs.divide_marked_with.Tie as tie
+use Rattle.marked.proofs.Calling.{call-refused, tested, can-divide, call-divided, promised}
+use Rattle.marked.proofs.divide_marked_set.Statement.{statement}
+use Rattle.marked.proofs.divide_marked_set.Tie as tie
 
 -- what was lent
 abbrev lent : tie.Start → LentMarked
@@ -23,7 +23,7 @@ returns : tie.Need-returns
 returns c =
     let s = c .before .before .before .before .before .before .before .before in
     let n = c .before .refusal in
-    call-refused (s .args .limits) (lent s) (n .result) (n .ensures (s .args .cells .now) refl) (c .if1 .taken)
+    promised (s .args .limits) (lent s) _ _ _ (call-refused (s .args .limits) (lent s) (n .result) (n .ensures (s .args .cells .now) refl) (c .if1 .taken))
 
 marked-ring-requires : tie.Need-marked-ring-requires
 marked-ring-requires c κs =
@@ -37,7 +37,7 @@ divide-core-requires c κs =
     let s = k .before .before .before .before .before .before .before .before in
     let n = k .before .refusal in
     let m = c .before .before .marked-ring in
-    can-divide (s .args .limits) (lent s) (n .result) (n .ensures (s .args .cells .now) refl) (k .if1 .left) (m .result) (m .ensures) (s .pre)
+    can-divide (s .args .limits) (lent s) (n .result) (n .ensures (s .args .cells .now) refl) (k .if1 .left) (m .result) (m .ensures)
 
 same-length-2 : tie.Need-same-length-2
 same-length-2 c = search needs
@@ -52,10 +52,10 @@ returns-2 c =
     let s = k .before .before .before .before .before .before .before .before in
     let n = k .before .refusal in
     let m = d .before .before .before .marked-ring in
-    call-divided (s .args .limits) (lent s) (n .result) (n .ensures (s .args .cells .now) refl) (k .if1 .left) (m .result) (m .ensures) (s .pre) _ _ _ (d .divide-core .ensures)
+    promised (s .args .limits) (lent s) _ _ _ (call-divided (s .args .limits) (lent s) (n .result) (n .ensures (s .args .cells .now) refl) (k .if1 .left) (m .result) (m .ensures) _ _ _ (d .divide-core .ensures))
 
-pub divide-marked-with-spec : {M : Type 1} → statement M
-divide-marked-with-spec =
+pub divide-marked-set-spec : {M : Type 1} → statement M
+divide-marked-set-spec =
     tie.close
     (tie.spec
     refusal-requires

@@ -1,0 +1,2 @@
+-- What is claimed of two exports together.
+pub mod Delivered

@@ -1,0 +1,118 @@
+// The entry that a call is of: the examination, or one that takes a set of limits.
+
+use crate::words;
+use nodes::NodeNumber;
+use table::Values;
+
+// With a set, its five values.
+pub struct Entry {
+    pub with_set: bool,
+    pub corner: f64,
+    pub least: f64,
+    pub greatest: f64,
+    pub cuts: u32,
+    pub share: f64,
+}
+
+pub fn delivered() -> Entry {
+    Entry {
+        with_set: false,
+        corner: 0.0,
+        least: 0.0,
+        greatest: 0.0,
+        cuts: 0,
+        share: 0.0,
+    }
+}
+
+// The set that comes next in the file.
+pub fn read(fd: i32) -> Entry {
+    let corner = words::double(words::long(fd));
+    let least = words::double(words::long(fd));
+    let greatest = words::double(words::long(fd));
+    let cuts = words::word(fd);
+    let share = words::double(words::long(fd));
+    Entry {
+        with_set: true,
+        corner,
+        least,
+        greatest,
+        cuts,
+        share,
+    }
+}
+
+pub fn divided(
+    e: Entry,
+    ring: &[i32],
+    chain: &[i32],
+    size: u32,
+    nodes: &mut [f64],
+    used: usize,
+    cells: &mut [NodeNumber],
+    cell_count: usize,
+) -> Values {
+    if e.with_set {
+        return exports::ring_divide_set(
+            e.corner,
+            e.least,
+            e.greatest,
+            e.cuts,
+            e.share,
+            ring,
+            chain,
+            size,
+            nodes,
+            used,
+            cells,
+            cell_count,
+        );
+    }
+    exports::ring_divide(ring, chain, size, nodes, used, cells, cell_count)
+}
+
+pub fn divided_marked(
+    e: Entry,
+    ring: &[i32],
+    kinds: &[u8],
+    snaps: &[f64],
+    outline: &[i32],
+    loops: &[u32],
+    size: u32,
+    nodes: &mut [f64],
+    used: usize,
+    cells: &mut [NodeNumber],
+    cell_count: usize,
+) -> Values {
+    if e.with_set {
+        return exports::ring_divide_marked_set(
+            e.corner,
+            e.least,
+            e.greatest,
+            e.cuts,
+            e.share,
+            ring,
+            kinds,
+            snaps,
+            outline,
+            loops,
+            size,
+            nodes,
+            used,
+            cells,
+            cell_count,
+        );
+    }
+    exports::ring_divide_marked(
+        ring,
+        kinds,
+        snaps,
+        outline,
+        loops,
+        size,
+        nodes,
+        used,
+        cells,
+        cell_count,
+    )
+}

@@ -1,0 +1,2 @@
+-- The sets of limits that a call takes.
+pub mod Sets
