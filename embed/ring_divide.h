@@ -37,6 +37,9 @@
  * The ends are allowed; a NaN is out of limits. Any other set is refused with 15, after 2 (after 14 where marks are given) and
  * before 3, all as found. With the set on delivery (RING_SET_ and the name) they answer as ring_divide and ring_divide_marked do.
  *
+ * ring_divide_practice divides for the practice paper: rings and chains of at most 24 points, else 16, which comes directly
+ * after 1; at most 12 cuts, and the reserve of 12. All else is as with ring_divide.
+ *
  * blocks_write saves a ring and its chain as the two blocks that the program `divide` takes. It fills the first
  * BLOCKS_WRITE_BYTES bytes of out, the ring's block with the given number, which is even and at most 65,534, and the chain's
  * with the next; the bytes after them stay. It answers 0, or leaves all as found and answers 1 (ring or chain count), 2
@@ -68,6 +71,7 @@ extern "C" {
 #endif
 
 #define RING_DIVIDE_STACK 27912
+#define RING_DIVIDE_PRACTICE_STACK 27944
 #define RING_DIVIDE_SET_STACK 27912
 #define RING_DIVIDE_MARKED_SET_STACK 26536
 #define RING_DIVIDE_MARKED_STACK 26536
@@ -84,7 +88,7 @@ extern "C" {
 #define RING_SET_SHARE 0.4
 
 struct ring_row {
-    uint64_t code;    /* 0, or the refusal: 1 to 8, 13 to 15 */
+    uint64_t code;    /* 0, or the refusal: 1 to 8, 13 to 16 */
     uint64_t corners; /* of the cleaned ring; with 8, of the piece that fails */
     uint64_t k;       /* with 8, the failing cell */
     uint64_t marked;  /* marked edges */
@@ -129,6 +133,12 @@ struct ring_row ring_divide_marked_set(double corner, double least, double great
                                        uint32_t size,
                                        double *nodes, size_t nodes_len, size_t node_count,
                                        uint32_t *cells, size_t cells_len, size_t cell_count);
+
+struct ring_row ring_divide_practice(const int32_t *ring, size_t ring_len,
+                                     const int32_t *chain, size_t chain_len,
+                                     uint32_t size,
+                                     double *nodes, size_t nodes_len, size_t node_count,
+                                     uint32_t *cells, size_t cells_len, size_t cell_count);
 
 uint64_t blocks_write(const int32_t *ring, size_t ring_len,
                       const int32_t *chain, size_t chain_len,

@@ -13,6 +13,7 @@ pub const FARTHEST_MM: f64 = 1024.0;
 const LARGEST_SHEET: u32 = 2048;
 const MOST_PLACES: usize = 1_000_000;
 const MOST_CUTS: u32 = 32;
+const PRACTICE_POINTS: usize = 24;
 
 pub type NodeNumber = u32;
 pub type Cell = [NodeNumber; 4];
@@ -226,7 +227,8 @@ fn set_out(set: &Set) -> bool {
         || !between(0.0, 1.0, set.share)
 }
 
-/// Refusals 1 to 4, with given marks also 13 and 14 after 2, and then 15, or 0.
+/// Refusals 1 to 4, for practice also 16 after 1, with given marks 13 and 14
+/// after 2, and then 15, or 0.
 fn first_tests(
     entry: &Entry,
     job: &Job,
@@ -238,6 +240,9 @@ fn first_tests(
     let r = job.ring.len();
     if !(3..=POINTS).contains(&r) || job.chain.len() > POINTS {
         return 1;
+    }
+    if *entry == Entry::Practice && r.max(job.chain.len()) > PRACTICE_POINTS {
+        return 16;
     }
     let mut coordinates = job.ring.iter().chain(&job.chain).flatten();
     let within = |c: &i32| (-FARTHEST..=FARTHEST).contains(c);

@@ -3,6 +3,7 @@
 //! list PLACES USED            then a line for each used node, PLACES at most:
 //! put BX BY                   its two doubles as bits
 //! set CORNER LEAST GREATEST CUTS SHARE   the next call brings this set, doubles as bits
+//! practice                    the next call is one of the practice entry
 //! call SIZE CELL_PLACES CELL_COUNT R C x y ..   R ring points, C chain points
 //! marked SIZE CELL_PLACES CELL_COUNT R K S O L ..   R ring points, then K kinds,
 //!                             S numbers of snaps as bits, O of the outline, L loops
@@ -24,6 +25,7 @@ pub fn read(text: &str) -> Vec<Given> {
             "list" => (list.places, list.used) = (number(words[0]), number(words[1])),
             "put" => list.nodes.push([double(words[0]), double(words[1])]),
             "set" => entry = Entry::Limited(set(&words)),
+            "practice" => entry = Entry::Practice,
             "call" => list.calls.push(call(std::mem::take(&mut entry), &words)),
             "marked" => list.calls.push(marked(std::mem::take(&mut entry), &words)),
             _ => panic!("no such line: {line}"),

@@ -123,6 +123,10 @@ fn over_blocks(bytes: &[u8]) -> ! {
         let mut fresh_image = node_image(&fresh, 0);
         let handed = compared(&set, &job, None, &mut fresh, &mut fresh_image, CELL_PLACES, 0, odd);
         tally.add(&format!("ring {number} with the set"), &job, handed);
+        let (mut fresh, paper) = (NodeList::empty(NODE_PLACES), Entry::Practice);
+        let mut fresh_image = node_image(&fresh, 0);
+        let practised = compared(&paper, &job, None, &mut fresh, &mut fresh_image, CELL_PLACES, 0, odd);
+        tally.add(&format!("ring {number} for practice"), &job, practised);
         let shared = compared(&own, &job, None, &mut list, &mut image, CELL_PLACES, 0, 0);
         tally.add(&format!("ring {number} on one list"), &job, shared);
         if number % 64 == 0 {

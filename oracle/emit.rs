@@ -81,6 +81,7 @@ fn marked(call: &Call, m: &Marking) -> String {
 fn of_entry(entry: &Entry) -> String {
     match entry {
         Entry::Examination => String::new(),
+        Entry::Practice => "practice\n".into(),
         Entry::Limited(Set {
             corner,
             least,

@@ -7,6 +7,7 @@
 //! generate calls SEED COUNT           COUNT lists with their calls, as text
 //! generate leads SEED COUNT           the same, most calls with given marks
 //! generate sets SEED COUNT            the same, each call with a set of limits
+//! generate practice SEED COUNT        the same, each call of the practice entry
 //! generate ends SEED COUNT            COUNT rings, each with every set at an end
 //! generate damaged SEED COUNT FOLDER  COUNT damaged files
 
@@ -41,6 +42,9 @@ fn main() {
             calls(number(seed), number(count), lists::with_marks).into_bytes()
         }
         ["sets", seed, count] => calls(number(seed), number(count), lists::with_sets).into_bytes(),
+        ["practice", seed, count] => {
+            calls(number(seed), number(count), lists::for_practice).into_bytes()
+        }
         ["ends", seed, count] => ends(number(seed), number(count)).into_bytes(),
         ["grid", set, count] => file(grid::jobs(number(set)), number(count)),
         ["damaged", seed, count, folder] => damaged(number(seed), number(count), folder),
@@ -73,6 +77,7 @@ fn list() -> String {
     text += "calls     lists with nodes in them and calls over each\n";
     text += "leads     the same, most calls with given marks\n";
     text += "sets      the same, each call with a set of limits\n";
+    text += "practice  the same, each call of the practice entry\n";
     text += "ends      rings, each with every set at an end of what is taken\n";
     text + "damaged   damaged block files, into a folder\n"
 }

@@ -50,12 +50,14 @@ impl Set {
     };
 }
 
-/// The entry that a call is of: the examination, or one that takes a set.
+/// The entry that a call is of: the examination, one that takes a set, or the
+/// practice paper.
 #[derive(Clone, Copy, PartialEq, Debug, Default)]
 pub enum Entry {
     #[default]
     Examination,
     Limited(Set),
+    Practice,
 }
 
 impl Entry {
@@ -64,6 +66,10 @@ impl Entry {
         match self {
             Entry::Examination => Set::DELIVERED,
             Entry::Limited(set) => *set,
+            Entry::Practice => Set {
+                cuts: 12,
+                ..Set::DELIVERED
+            },
         }
     }
 }

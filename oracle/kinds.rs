@@ -229,6 +229,19 @@ fn cuts(random: &mut Random, _: usize) -> Job {
     with_chain(random, ring)
 }
 
+/// For the practice paper: rings of 10 to 26 points that need up to 12 cuts and
+/// more.
+pub fn paper(random: &mut Random) -> Job {
+    let count = 10 + random.below(17);
+    let outline = match random.below(2) {
+        0 => shapes::star(random, count, 0.9),
+        _ => shapes::wheel(random, count),
+    };
+    let extent = random.between(2_000, FARTHEST);
+    let ring = place_at(random, &outline, extent);
+    with_chain(random, ring)
+}
+
 fn limits(random: &mut Random, _: usize) -> Job {
     let far = FARTHEST as i32;
     let edge = [far, -far, far, -far, far - 1, 1 - far, 0];

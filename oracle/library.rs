@@ -76,6 +76,20 @@ extern "C" {
         cell_count: usize,
     ) -> Returned;
 
+    fn ring_divide_practice(
+        ring: *const i32,
+        ring_len: usize,
+        chain: *const i32,
+        chain_len: usize,
+        size: u32,
+        nodes: *mut f64,
+        nodes_len: usize,
+        node_count: usize,
+        cells: *mut NodeNumber,
+        cells_len: usize,
+        cell_count: usize,
+    ) -> Returned;
+
     fn ring_divide_marked_set(
         corner: f64,
         least: f64,
@@ -200,6 +214,19 @@ pub fn call_by(
     // Each pointer comes with the length of its own list, which outlives the call.
     unsafe {
         match *entry {
+            Entry::Practice => ring_divide_practice(
+                ring,
+                ring_len,
+                chain,
+                chain_len,
+                job.size,
+                numbers,
+                numbers_len,
+                node_count,
+                places,
+                places_len,
+                cell_count,
+            ),
             Entry::Examination => ring_divide(
                 ring,
                 ring_len,
@@ -254,6 +281,7 @@ pub fn call_marked(
     // Each pointer comes with the length of its own list, which outlives the call.
     unsafe {
         match *entry {
+            Entry::Practice => unreachable!("the practice paper has a chain"),
             Entry::Examination => ring_divide_marked(
                 ring,
                 length,

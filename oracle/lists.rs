@@ -2,6 +2,7 @@
 //! bits, lists with too little room, nodes that cannot be used.
 
 use crate::job::{Call, Entry, Given, Job};
+use crate::kinds;
 use crate::leads;
 use crate::place::Ring;
 use crate::random::Random;
@@ -57,6 +58,15 @@ pub fn with_marks(random: &mut Random, job: impl Fn(&mut Random, usize) -> Job) 
 pub fn with_sets(random: &mut Random, job: impl Fn(&mut Random, usize) -> Job) -> Given {
     let given = given_by(random, job, sets::any);
     marked(random, given)
+}
+
+/// The same, each call of the practice entry; half of the rings are its own.
+pub fn for_practice(random: &mut Random, job: impl Fn(&mut Random, usize) -> Job) -> Given {
+    let either = |random: &mut Random, place| match random.one_in(2) {
+        true => job(random, place),
+        false => kinds::paper(random),
+    };
+    given_by(random, either, |_| Entry::Practice)
 }
 
 fn marked(random: &mut Random, mut given: Given) -> Given {

@@ -16,6 +16,7 @@
 //!   loops, and as in 2 what is left
 //! 7 CORNER LEAST GREATEST (two words each) CUTS SHARE (two): the set of the
 //!   call that follows, a record 2 or 5
+//! 8: the call that follows, a record 2, is of the practice entry
 //! 3 NUMBER LENGTH, a word for each byte, code, and if it is 0 kind, count,
 //!   size and the 120 coordinates
 //! 4 SIZE NUMBER ROOM RING_NUMBERS CHAIN_NUMBERS, the coordinates, code, and
@@ -96,13 +97,17 @@ impl Words {
 
     /// Before a call, which entry it is of.
     fn entry(&mut self, entry: &Entry) {
-        if let Entry::Limited(set) = entry {
-            self.put(7);
-            self.long(set.corner.to_bits());
-            self.long(set.least.to_bits());
-            self.long(set.greatest.to_bits());
-            self.put(set.cuts);
-            self.long(set.share.to_bits());
+        match entry {
+            Entry::Examination => {}
+            Entry::Practice => self.put(8),
+            Entry::Limited(set) => {
+                self.put(7);
+                self.long(set.corner.to_bits());
+                self.long(set.least.to_bits());
+                self.long(set.greatest.to_bits());
+                self.put(set.cuts);
+                self.long(set.share.to_bits());
+            }
         }
     }
 

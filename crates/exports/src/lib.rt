@@ -9,6 +9,7 @@ ghost use Rattle.root.specs.Root.{rootBits};
 ghost use Rattle.corner.specs.Limits.{delivered};
 ghost use Rattle.divider.specs.Promise.{Promise};
 ghost use Rattle.marked.specs.Promise.{MarkedPromise};
+ghost use Rattle.practice.specs.Practice as Practice;
 ghost use Rattle.writer.specs.Write as Write;
 use corner::Limits;
 use nodes::NodeNumber;
@@ -149,6 +150,24 @@ pub extern "C" fn ring_divide_marked_set(
         cells,
         cell_count,
     );
+    Values::new(a)
+}
+
+// The divider call of the practice paper.
+#[no_mangle]
+pub extern "C" fn ring_divide_practice(
+    ring: &[i32],
+    chain: &[i32],
+    size: u32,
+    nodes: &mut [f64],
+    node_count: usize,
+    cells: &mut [NodeNumber],
+    cell_count: usize,
+) -> Values
+    ensures { λ v. ⌜ Practice.Promise (record { ring = now (ring .entry); chain = now (chain .entry); size = size; nodes = now (nodes .entry); nodeCount = «node_count»; cells = now (cells .entry); cellCount = «cell_count» })
+        v (now (nodes .exit)) (now (cells .exit)) ⌝ }
+{
+    let a = practice::divide_practice(ring, chain, size, nodes, node_count, cells, cell_count);
     Values::new(a)
 }
 

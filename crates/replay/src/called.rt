@@ -1,12 +1,12 @@
-// The entry that a call is of: the examination, or one that takes a set of limits.
+// The entry that a call is of: the examination, one that takes a set of limits, or the practice paper.
 
 use crate::words;
 use nodes::NodeNumber;
 use table::Values;
 
-// With a set, its five values.
+// The kind of the record: 2 the examination, 7 with a set, and its five values, 8 the practice paper.
 pub struct Entry {
-    pub with_set: bool,
+    pub kind: u32,
     pub corner: f64,
     pub least: f64,
     pub greatest: f64,
@@ -14,9 +14,9 @@ pub struct Entry {
     pub share: f64,
 }
 
-pub fn delivered() -> Entry {
+pub fn without_set(kind: u32) -> Entry {
     Entry {
-        with_set: false,
+        kind,
         corner: 0.0,
         least: 0.0,
         greatest: 0.0,
@@ -33,7 +33,7 @@ pub fn read(fd: i32) -> Entry {
     let cuts = words::word(fd);
     let share = words::double(words::long(fd));
     Entry {
-        with_set: true,
+        kind: 7,
         corner,
         least,
         greatest,
@@ -52,7 +52,10 @@ pub fn divided(
     cells: &mut [NodeNumber],
     cell_count: usize,
 ) -> Values {
-    if e.with_set {
+    if e.kind == 8 {
+        return exports::ring_divide_practice(ring, chain, size, nodes, used, cells, cell_count);
+    }
+    if e.kind == 7 {
         return exports::ring_divide_set(
             e.corner,
             e.least,
@@ -84,7 +87,7 @@ pub fn divided_marked(
     cells: &mut [NodeNumber],
     cell_count: usize,
 ) -> Values {
-    if e.with_set {
+    if e.kind == 7 {
         return exports::ring_divide_marked_set(
             e.corner,
             e.least,

@@ -164,7 +164,7 @@ fn step(fd: i32, kind: u32, nodes: &mut [f64], s: State) -> State {
         return replay_list(fd, nodes, s);
     }
     if kind == 2 {
-        return replay_entry(fd, called::delivered(), kind, nodes, s);
+        return replay_entry(fd, called::without_set(kind), kind, nodes, s);
     }
     if kind == 3 {
         return replay_block(fd, s);
@@ -173,7 +173,10 @@ fn step(fd: i32, kind: u32, nodes: &mut [f64], s: State) -> State {
         return replay_pair(fd, s);
     }
     if kind == 5 {
-        return replay_entry(fd, called::delivered(), kind, nodes, s);
+        return replay_entry(fd, called::without_set(kind), kind, nodes, s);
+    }
+    if kind == 8 {
+        return replay_entry(fd, called::without_set(kind), words::word(fd), nodes, s);
     }
     if kind == 7 {
         let entry = called::read(fd);
@@ -238,6 +241,7 @@ fn main() {
     let written = file(b"pairs.list");
     let marked = file(b"marks.list");
     let sets = file(b"sets.list");
-    let divided = plus(plus(rings, calls), plus(marked, sets));
+    let practised = file(b"practice.list");
+    let divided = plus(plus(rings, calls), plus(plus(marked, sets), practised));
     print(b"total", plus(divided, plus(read, written)));
 }

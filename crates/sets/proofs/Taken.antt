@@ -1,4 +1,5 @@
--- A set of limits that 15 does not refuse has at most 32 cuts (`most-cuts`), which is all that the proofs ask of a set. The set on delivery is taken (`delivered-taken`).
+-- A set of limits that 15 does not refuse has at most 32 cuts (`most-cuts`), which is all that the proofs ask of a set. The set on delivery is taken
+-- (`delivered-taken`), and so is that of the practice paper (`practice-taken`).
 use Prim.Native.Nat.{_≤_}
 use mathlib.Core.Path.{_≡_, refl, subst}
 use mathlib.Core.Bool.{Bool, true, false, not, _||_}
@@ -8,7 +9,7 @@ use borrow.Author.Tests.{ltb-false}
 use Rattle.laws.specs.Double.{nat, lit}
 use Rattle.corner.specs.declared.Limits.{Limits}
 use Rattle.corner.specs.Limits.{delivered}
-use Rattle.sets.specs.Sets.{between, cosinesOut, limitsOut}
+use Rattle.sets.specs.Sets.{between, cosinesOut, limitsOut, practiceSet}
 
 or-first : (a b : Bool) → a || b ≡ false → a ≡ false
 or-first true b e = absurd (subst T e tt)
@@ -25,3 +26,7 @@ most-cuts L e =
 pub delivered-taken : limitsOut delivered ≡ false
 unfolding limitsOut cosinesOut between lit ofInt round add sub div neg sum lt le
 delivered-taken = refl
+
+pub practice-taken : limitsOut practiceSet ≡ false
+unfolding limitsOut cosinesOut between lit ofInt round add sub div neg sum lt le
+practice-taken = refl

@@ -1,4 +1,4 @@
-// Sets: which sets of limits a divider call takes, refusal 15.
+// Sets: which sets of limits a divider call takes, refusal 15, and the set of the practice paper.
 //
 // Glass differs in how sharp a corner it takes, so a caller may hand over a set of limits of its own. The test stands beside
 // the others of a call (entry) in a crate of its own, below the definition of the call, which names it.
@@ -44,4 +44,18 @@ pub fn limits_out(limits: Limits) -> bool
         return true;
     }
     !between(0.0, 1.0, limits.share)
+}
+
+// The set of the practice paper: the one on delivery with 12 cuts.
+pub fn practice() -> Limits
+    ensures { λ r. ⌜ r ≡ Sets.practiceSet ⌝ }
+{
+    let delivered = Limits::new();
+    Limits {
+        cuts: 12,
+        corner: delivered.corner,
+        least: delivered.least,
+        greatest: delivered.greatest,
+        share: delivered.share,
+    }
 }

@@ -1,0 +1,59 @@
+-- 02, Card 8: the promise of the practice call, and the calls that divide alike through either entry.
+use Prim.Native.Nat.{ℕ, _+_, _-_, _≤_, _<_}
+use mathlib.Core.Path.{_≡_}
+use mathlib.Core.List.{List}
+use lib.ListN.{length, getD, replicate}
+use lib.Ieee.{Float}
+use Rattle.corner.specs.declared.Limits.{Limits}
+use Rattle.corner.specs.Limits.{delivered}
+use Rattle.cells.specs.declared.Cell.{Cell}
+use Rattle.cells.specs.Cells.{noCell}
+use Rattle.table.specs.declared.Values.{Values}
+use Rattle.table.specs.Refusals.{Passes}
+use Rattle.sets.specs.Sets.{practiceSet}
+use Rattle.demand.specs.Call.{Lists, Call, listsOf, nodeReserve, cellReserve}
+use Rattle.demand.specs.Divide.{Answer, put, ringTests, ringOf, startOf}
+use Rattle.demand.specs.Demand.{stackOf, Demand3}
+use Rattle.demand.specs.Lent.{Lent, callOf, dividePractice}
+use Rattle.divider.specs.Promise.{Leaves}
+
+-- the practice call over what the caller lent returned v and left the nodes m and the cells p; demand 3 of an accepted ring, with 12 cuts
+pub record Promise (l : Lent) (v : Values) (m : List Float) (p : List ℕ) : Type 0 where
+  pub leaves : Leaves (dividePractice l) v (l .nodes) m (l .cells) p
+  pub accepted : v .code ≡ 0 → Demand3 practiceSet (startOf (callOf l)) (listsOf (callOf l)) (dividePractice l)
+
+-- ---- the calls of which the card speaks
+-- "the lists hold the examination reserve": that of the set L for a ring of r points
+pub record HoldsReserve (L : Limits) (r : ℕ) (x : Lists) : Type 0 where
+  pub nodes : nodeReserve L r ≤ length (x .nodes) - x .nodeCount
+  pub cells : cellReserve L r ≤ length (x .cells) - x .cellCount
+
+-- "A ring of at most 24 points, with a chain of at most 24, in which the examination entry makes 12 cuts or fewer .. where the lists hold the examination reserve".
+-- A ring that 5 to 7 refuse is not cut
+pub record OnPaper (c : Call) : Type 0 where
+  pub ring : length (c .ring) ≤ 24
+  pub chain : length (c .chain) ≤ 24
+  pub cuts : Passes (ringTests (ringOf c)) → stackOf delivered c .cuts ≤ 12
+  pub reserve : HoldsReserve delivered (length (c .ring)) (listsOf c)
+
+-- ---- what it is to divide alike
+-- the cells as 8 leaves them: the places of the reserve after the used ones are zero
+abbrev pub zeroed : Limits → ℕ → Lists → List Cell
+zeroed L r x = put (x .cells) (x .cellCount) (replicate (cellReserve L r) noCell)
+
+-- the answers a, with the set L, and b, with the set M, to a ring of r points over the lists x are alike: the whole row and the nodes are the same, and so are the cells,
+-- except with 8: "With 8, the cell places left zero follow each entry's own reserve"
+pub record Alike (L M : Limits) (r : ℕ) (x : Lists) (a b : Answer) : Type 0 where
+  pub row : b .row ≡ a .row
+  pub nodes : b .nodes ≡ a .nodes
+  pub cells : (a .row .code ≡ 8 → ⊥) → b .cells ≡ a .cells
+  pub cells-8 : a .row .code ≡ 8 → (a .cells ≡ zeroed L r x) × (b .cells ≡ zeroed M r x)
+
+-- what two such cell lists have, place by place, l before, u of its places used, where the reserve of L is n places and that of M is m, no more: the same before u + m and from
+-- u + n on; between, a has zeros and b what was found
+pub record Differ (l a b : List Cell) (u m n : ℕ) : Type 0 where
+  pub smaller : m ≤ n
+  pub used : (i : ℕ) → i < u → (getD a i noCell ≡ getD l i noCell) × (getD b i noCell ≡ getD l i noCell)
+  pub both : (i : ℕ) → u ≤ i → i < u + m → (getD a i noCell ≡ noCell) × (getD b i noCell ≡ noCell)
+  pub between : (i : ℕ) → u + m ≤ i → i < u + n → (getD a i noCell ≡ noCell) × (getD b i noCell ≡ getD l i noCell)
+  pub past : (i : ℕ) → u + n ≤ i → (getD a i noCell ≡ getD l i noCell) × (getD b i noCell ≡ getD l i noCell)

@@ -1,0 +1,59 @@
+// Practice: the divider call of the practice paper, for rings and chains of at most 24 points and 12 cuts.
+//
+// It stands beside the examination's entry, over the same divider: it tests its own counts, 16, and hands the call over with
+// its own set of limits. specs/Practice has its promise and the claim that both entries divide alike.
+
+ghost use mathlib.Core.Path.{_≡_};
+ghost use mathlib.Core.Bool.{_&&_, _||_, not};
+ghost use Prim.Native.Nat.{_/_, _%_};
+ghost use lib.Dec.{eqb};
+ghost use Rattle.table.specs.Answers as Answers;
+ghost use Rattle.demand.specs.Call as Call;
+ghost use Rattle.practice.specs.Practice.{Promise};
+use nodes::NodeNumber;
+use table::Answer;
+
+// 16, where 1 does not come first. Of the ring's numbers and the chain's, two a point.
+fn over_paper(ring: usize, chain: usize) -> bool
+    ensures { λ r. ⌜ r ≡ (not (not (eqb (ring % 2) 0) || not (eqb (chain % 2) 0) || Call.countsOut (ring / 2) (chain / 2)) && Call.over24 (ring / 2) (chain / 2)) ⌝ }
+{
+    if entry::counts_out(ring, chain) {
+        return false;
+    }
+    if 24 < ring / 2 {
+        return true;
+    }
+    24 < chain / 2
+}
+
+// The divider call of the practice paper, over the lists that the caller lends.
+pub fn divide_practice(
+    ring: &[i32],
+    chain: &[i32],
+    size: u32,
+    nodes: &mut [f64],
+    node_count: usize,
+    cells: &mut [NodeNumber],
+    cell_count: usize,
+) -> Answer
+    ensures { λ a. ⌜ Promise (record { ring = now (ring .entry); chain = now (chain .entry); size = size; nodes = now (nodes .entry); nodeCount = «node_count»; cells = now (cells .entry); cellCount = «cell_count» })
+        (Answers.values a) (now (nodes .exit)) (now (cells .exit)) ⌝ }
+{
+    if over_paper(ring.len(), chain.len()) {
+        return Answer::Refused {
+            code: 16,
+            nodes: node_count,
+            cells: cell_count,
+        };
+    }
+    divider::divide_set(
+        sets::practice(),
+        ring,
+        chain,
+        size,
+        nodes,
+        node_count,
+        cells,
+        cell_count,
+    )
+}
