@@ -1,6 +1,6 @@
 /* Divides the square of 1 mm, has the same square clockwise refused, and divides the square beside the first over the
- * same two lists; then the square above the first with given marks, one edge snapped to a point and one to a lead line.
- * Compiles as C and as C++. */
+ * same two lists; then the square above the first with given marks, one edge snapped to a point and one to a lead line. At
+ * the end it prints the cell sheet of all nodes. Compiles as C and as C++. */
 #include "ring_divide.h"
 #include <stdio.h>
 
@@ -10,6 +10,7 @@
 
 static double nodes[2 * NODES];
 static uint32_t cells[4 * CELLS];
+static uint8_t sheet[NODE_SHEET_LINE * NODES];
 static size_t node_count, cell_count; /* used places of the two lists, carried from call to call */
 
 static struct ring_row divide(const int32_t *ring, size_t ring_len) {
@@ -53,5 +54,7 @@ int main(void) {
     const uint32_t loops[] = {3};
     print(divide_marked(above, 8, kinds, snaps, lead, 6, loops, 1), 8);
     printf("node 17 at %g %g, node 18 at %g %g\n", nodes[34], nodes[35], nodes[36], nodes[37]);
+    if (node_sheet(nodes, 2 * NODES, node_count, sheet, sizeof sheet) == 0)
+        fwrite(sheet, NODE_SHEET_LINE, node_count, stdout);
     return 0;
 }

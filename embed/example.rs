@@ -1,5 +1,6 @@
 //! Divides the square of 1 mm, has the same square clockwise refused, and divides the square beside the first over the
 //! same two lists; then the square above the first with given marks, one edge snapped to a point and one to a lead line.
+//! At the end it prints the cell sheet of all nodes.
 
 /// A row of the table, as in ring_divide.h.
 #[repr(C)]
@@ -51,6 +52,14 @@ extern "C" {
         cells_len: usize,
         cell_count: usize,
     ) -> Row;
+
+    fn node_sheet(
+        nodes: *const f64,
+        nodes_len: usize,
+        node_count: usize,
+        out: *mut u8,
+        out_len: usize,
+    ) -> u64;
 }
 
 /// The marks of a ring's edges: straight, snapped to the point beside it, or to the outline.
@@ -132,6 +141,26 @@ fn print(row: &Row, lists: &Lists, first: usize) {
     }
 }
 
+/// The cell sheet, 65 bytes a node; none where it is refused.
+fn sheet(lists: &Lists) -> String {
+    let mut out = vec![0; 65 * lists.node_count];
+    let (nodes, bytes) = (&lists.nodes, out.as_mut_ptr());
+    let code = unsafe {
+        node_sheet(
+            nodes.as_ptr(),
+            nodes.len(),
+            lists.node_count,
+            bytes,
+            out.len(),
+        )
+    };
+    if code == 0 {
+        String::from_utf8(out).expect("a sheet is text")
+    } else {
+        String::new()
+    }
+}
+
 fn main() {
     const MM: i32 = 8192;
     let mut lists = Lists {
@@ -160,4 +189,5 @@ fn main() {
     print(&row, &lists, 8);
     let n = &lists.nodes;
     println!("node 17 at {} {}, node 18 at {} {}", n[34], n[35], n[36], n[37]);
+    print!("{}", sheet(&lists));
 }

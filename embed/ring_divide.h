@@ -46,6 +46,12 @@
  * (coordinate or sheet size) or 12 (out too short, or the number), the first of them in this order. A ring that crosses itself or
  * runs clockwise is written: it is refused when it is divided.
  *
+ * node_sheet prints the cell sheet of the first node_count nodes: a line of NODE_SHEET_LINE bytes for each, in order, its
+ * number right-aligned in 8 columns, x and y in 28 each, in mm with four decimals, and a line feed. A decimal is the nearest
+ * to the exact value of its double, ties to the even digit; 0.0000 has no minus. The bytes after the last line stay. It answers
+ * 0, or leaves all as found and answers 3 (the used count, the places or a used node, as ring_divide's 3) or 17 (out shorter
+ * than the lines), the first of them in this order.
+ *
  * ring_root_bits answers the bits of the square root of the double with the given bits, nearest, 7FF8000000000000 for a NaN
  * and for what is below zero.
  *
@@ -76,9 +82,11 @@ extern "C" {
 #define RING_DIVIDE_MARKED_SET_STACK 26536
 #define RING_DIVIDE_MARKED_STACK 26536
 #define BLOCKS_WRITE_STACK 40
+#define NODE_SHEET_STACK 224
 #define RING_ROOT_BITS_STACK 8
 
 #define BLOCKS_WRITE_BYTES 1024
+#define NODE_SHEET_LINE 65
 
 /* the set on delivery: corners of 160 degrees, diagonals of 160 and of 12 */
 #define RING_SET_CORNER (2.0 - 0.36397023426620236 / (1.0 + 0.36397023426620236))
@@ -144,6 +152,9 @@ uint64_t blocks_write(const int32_t *ring, size_t ring_len,
                       const int32_t *chain, size_t chain_len,
                       uint32_t size, uint32_t number,
                       uint8_t *out, size_t out_len);
+
+uint64_t node_sheet(const double *nodes, size_t nodes_len, size_t node_count,
+                    uint8_t *out, size_t out_len);
 
 uint64_t ring_root_bits(uint64_t bits);
 

@@ -5,6 +5,8 @@
 //! compare calls < CALLS     calls over prefilled lists, of any entry
 //! compare writes < BLOCKS   each ring saved by the writer, and wrong numbers and rooms
 //! compare desk FILE         the supplied calls of the writer
+//! compare sheet FILE        the supplied calls of the cell sheet
+//! compare prints SEED COUNT sheets of 1,000 tried doubles beside an exact decimal printer
 //! compare details FOLDER    the detailed forms of a folder of vectors
 //! compare time < BLOCKS     both sides on the same rings
 //! compare scan              the square on lists with many used nodes
@@ -30,6 +32,8 @@ mod notes;
 #[path = "../target/oracle/outline.rs"]
 #[allow(dead_code)]
 mod outline;
+#[allow(dead_code)]
+mod paper;
 mod sides;
 #[path = "../target/oracle/stage.rs"]
 #[allow(dead_code)]
@@ -44,7 +48,7 @@ use blocks::Jobs;
 use call::NodeList;
 use forms::{CELL_PLACES, NODE_PLACES};
 use job::{Entry, Job, Set};
-use library::{compared, node_image, refused, whole, written};
+use library::{compared, listed, node_image, refused, whole, written};
 use std::io::Read;
 use traced::Met;
 
@@ -90,12 +94,14 @@ fn main() {
         ["calls"] => over_calls(&String::from_utf8(input()).expect("calls are text")),
         ["writes"] => over_writes(&input()),
         ["desk", file] => over_desk(file),
+        ["sheet", file] => over_sheet(file),
+        ["prints", seed, count] => over_prints(seed, count),
         ["details", folder] => over_details(folder),
         ["time"] => print!("{}", sides::times(&input())),
         ["scan"] => print!("{}", sides::scan()),
         ["memory"] => print!("{}", memory::peaks(&input())),
         _ => {
-            eprintln!("use: compare blocks|calls|writes|time|memory < INPUT, desk FILE, details FOLDER, or scan");
+            eprintln!("use: compare blocks|calls|writes|time|memory < INPUT, desk FILE, sheet FILE, prints SEED COUNT, details FOLDER, or scan");
             std::process::exit(2)
         }
     }
@@ -229,6 +235,33 @@ fn over_desk(file: &str) -> ! {
     for (number, c) in desk::cases(file).iter().enumerate() {
         let result = written(&c.ring, &c.chain, c.size, c.number, c.room);
         tally.add(&format!("case {number}"), &Job::default(), result);
+    }
+    tally.end()
+}
+
+fn over_sheet(file: &str) -> ! {
+    let mut tally = Tally::default();
+    for (number, c) in paper::cases(file).iter().enumerate() {
+        let result = listed(&c.nodes, c.used, c.room);
+        tally.add(&format!("case {number}"), &Job::default(), result);
+    }
+    tally.end()
+}
+
+/// COUNT sheets of 500 nodes, and of each a room one byte short.
+fn over_prints(seed: &str, count: &str) -> ! {
+    let number = |word: &str| word.parse::<u64>().expect("a number");
+    let mut tally = Tally::default();
+    for sheet in 0..number(count) {
+        let tried = |i: u64| paper::tried(number(seed), 1_000 * sheet + i);
+        let nodes: Vec<f64> = (0..1_000).map(tried).collect();
+        let name = format!("sheet {sheet}");
+        tally.add(
+            &name,
+            &Job::default(),
+            listed(&nodes, 500, 32_500 + sheet as usize % 70),
+        );
+        tally.add(&name, &Job::default(), listed(&nodes, 500, 32_499));
     }
     tally.end()
 }

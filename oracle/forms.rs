@@ -4,6 +4,7 @@
 use crate::blocks::Jobs;
 use crate::call::{divide_with, doubled, Answer, Cell, NodeList, UNTOUCHED};
 use crate::job::{Entry, Job, Marking};
+use crate::paper;
 use crate::stage::{polygon_area, Poly};
 use std::fmt::Write;
 
@@ -52,6 +53,19 @@ pub fn run_with(
 /// What the program `divide` prints for these blocks.
 pub fn printed(bytes: &[u8]) -> String {
     over_blocks(bytes, |out, number, run, _| print(out, number, run))
+}
+
+/// What the program `sheet` prints for these blocks: the listed nodes.
+pub fn listed(bytes: &[u8]) -> String {
+    let mut list = NodeList::empty(NODE_PLACES);
+    for job in Jobs::new(bytes).flatten() {
+        run(&job, &mut list, CELL_PLACES, 0);
+    }
+    let nodes = list.nodes.points.iter().take(list.used);
+    nodes
+        .enumerate()
+        .map(|(number, [x, y])| paper::line(number, *x, *y))
+        .collect()
 }
 
 /// The detailed form for these blocks.

@@ -1,10 +1,12 @@
 //! A call of the exported divider over guarded lists, compared with the Rust;
-//! and a call of the exported writer, compared with our own writing of blocks.
+//! a call of the exported writer, compared with our own writing of blocks; and
+//! one of the exported sheet, compared with an exact decimal printer.
 
 use crate::call::{Answer, Cell, NodeList, NodeNumber, UNTOUCHED};
 use crate::desk::answer;
 use crate::forms::run_with;
 use crate::job::{Entry, Job, Marking};
+use crate::paper;
 
 /// What `ring_divide` answers; `corners` is n, or with 8 the piece's.
 #[repr(C)]
@@ -122,6 +124,14 @@ extern "C" {
         chain_len: usize,
         size: u32,
         number: u32,
+        out: *mut u8,
+        out_len: usize,
+    ) -> u64;
+
+    fn node_sheet(
+        nodes: *const f64,
+        nodes_len: usize,
+        node_count: u64,
         out: *mut u8,
         out_len: usize,
     ) -> u64;
@@ -471,4 +481,31 @@ pub fn written(
         same("byte", &out.numbers, &expected.numbers, u64::from)?;
     }
     Ok(pair)
+}
+
+/// A call of the sheet, twice, over a destination of `room` bytes and over one
+/// with every bit turned: its answer, each byte, and the guards.
+pub fn listed(nodes: &[f64], used: u64, room: usize) -> Result<(), String> {
+    let (code, sheet) = paper::answer(nodes, used, room);
+    for turned in [0, 255] {
+        let filler = |place: usize| (place as u8).wrapping_mul(37).wrapping_add(91) ^ turned;
+        let mut out = Guarded::new(room, filler);
+        let mut expected = out.clone();
+        expected.list()[..sheet.len()].copy_from_slice(&sheet);
+        // Each pointer comes with the length of its own list, which outlives the call.
+        let returned = unsafe {
+            node_sheet(
+                nodes.as_ptr(),
+                nodes.len(),
+                used,
+                out.list().as_mut_ptr(),
+                room,
+            )
+        };
+        if returned != u64::from(code) {
+            return Err(format!("answered {returned}, wanted {code}"));
+        }
+        same("byte", &out.numbers, &expected.numbers, u64::from)?;
+    }
+    Ok(())
 }

@@ -1,6 +1,7 @@
 //! The original Rust of the stage beside the ring divider.
 //!
 //! oracle divide < BLOCKS   what the program `divide` prints
+//! oracle sheet < BLOCKS    what the program `sheet` prints
 //! oracle detail < BLOCKS   every value, node bits and cells
 //! oracle each < BLOCKS     the same, each ring on an empty list
 //! oracle stages < BLOCKS   what each module gives
@@ -18,6 +19,8 @@ mod notes;
 #[path = "../target/oracle/outline.rs"]
 #[allow(dead_code)]
 mod outline;
+#[allow(dead_code)]
+mod paper;
 #[path = "../target/oracle/stage.rs"]
 mod stage;
 mod stages;
@@ -36,6 +39,7 @@ fn main() {
         .expect("standard input can be read");
     let text = match command.as_str() {
         "divide" => forms::printed(&input),
+        "sheet" => forms::listed(&input),
         "detail" => forms::detailed(&input),
         "each" => forms::detailed_each(&input),
         "census" => census::all(&input),
@@ -43,7 +47,7 @@ fn main() {
         "stages" => stages::all(&input),
         "calls" => forms::called(std::str::from_utf8(&input).expect("calls are text")),
         _ => {
-            eprintln!("use: oracle divide|detail|each|stages|census|time|calls < INPUT");
+            eprintln!("use: oracle divide|sheet|detail|each|stages|census|time|calls < INPUT");
             std::process::exit(2)
         }
     };

@@ -5,6 +5,7 @@
 //! record calls < CALLS             calls over prefilled lists
 //! record blocks FILE..             every block of these files, up to the first refusal
 //! record pairs FILE                the calls of the writer in FILE.cases, answered as FILE.expect says
+//! record sheets FILE               the calls of the cell sheet, likewise; those over 64 numbers are left out
 //!
 //! 1 PLACES USED, then for each used node (PLACES at most) four words: x, y
 //! 2 SIZE CELL_NUMBERS CELL_COUNT RING_NUMBERS CHAIN_NUMBERS, the coordinates,
@@ -21,6 +22,8 @@
 //!   size and the 120 coordinates
 //! 4 SIZE NUMBER ROOM RING_NUMBERS CHAIN_NUMBERS, the coordinates, code, and
 //!   the count of words that are written, and each
+//! 5 USED (two words) NODE_NUMBERS ROOM, two words for each number, code, and
+//!   the count of bytes that are written, and these, four to a word
 
 #[allow(dead_code)]
 mod blocks;
@@ -39,6 +42,8 @@ mod notes;
 #[path = "../target/oracle/outline.rs"]
 #[allow(dead_code)]
 mod outline;
+#[allow(dead_code)]
+mod paper;
 #[path = "../target/oracle/stage.rs"]
 #[allow(dead_code)]
 mod stage;
@@ -55,6 +60,9 @@ use std::io::{Read, Write};
 /// Numbers of a ring or chain, and places of the lists, that `replay` holds.
 const MOST_NUMBERS: usize = 256;
 const MOST_CELLS: usize = 512;
+
+/// Numbers of a node list that `desk` holds.
+const MOST_SHEET: usize = 64;
 
 #[derive(Default)]
 struct Words(Vec<u8>);
@@ -184,6 +192,24 @@ impl Words {
         self.0.extend(&case.written);
     }
 
+    fn bytes(&mut self, bytes: &[u8]) {
+        self.count(bytes.len());
+        self.0.extend(bytes);
+        self.0.resize(self.0.len().next_multiple_of(4), 0);
+    }
+
+    fn sheet(&mut self, case: &paper::Case) {
+        self.put(5);
+        self.long(case.used);
+        self.count(case.nodes.len());
+        self.count(case.room);
+        for x in &case.nodes {
+            self.long(x.to_bits());
+        }
+        self.put(case.code);
+        self.bytes(&case.written);
+    }
+
     fn points(&mut self, kind: u32, points: &[[i32; 2]], size: u32) {
         self.put(kind);
         self.count(points.len());
@@ -286,8 +312,18 @@ fn main() {
                 desk::cases(path).iter().for_each(|case| words.pair(case));
             }
         }
+        Some("sheets") => {
+            let small = |case: &paper::Case| case.nodes.len() <= MOST_SHEET;
+            for path in &arguments[1..] {
+                let cases = paper::cases(path);
+                cases
+                    .iter()
+                    .filter(|case| small(case))
+                    .for_each(|case| words.sheet(case));
+            }
+        }
         _ => {
-            eprintln!("use: record rings [NUMBER..]|calls < INPUT | record blocks FILE.. | record pairs FILE");
+            eprintln!("use: record rings [NUMBER..]|calls < INPUT | record blocks FILE.. | record pairs FILE | record sheets FILE");
             std::process::exit(2)
         }
     }

@@ -12,6 +12,7 @@ ghost use Rattle.marked.specs.Promise.{MarkedPromise};
 ghost use Rattle.practice.specs.Practice as Practice;
 ghost use Rattle.writer.specs.Write as Write;
 use corner::Limits;
+ghost use Rattle.listing.specs.Sheet as Sheet;
 use nodes::NodeNumber;
 use table::Values;
 
@@ -183,6 +184,14 @@ pub extern "C" fn blocks_write(
     ensures { λ r. ⌜ (r ≡ Write.refusal (now (ring .entry)) (now (chain .entry)) size number (length (now (out .entry)))) × (now (out .exit) ≡ Write.written (now (ring .entry)) (now (chain .entry)) size number (now (out .entry))) ⌝ }
 {
     writer::blocks_write(ring, chain, size, number, out)
+}
+
+// The cell sheet of the first `node_count` nodes: 0, or the refusal 3 or 17.
+#[no_mangle]
+pub extern "C" fn node_sheet(nodes: &[f64], node_count: usize, out: &mut [u8]) -> u64
+    ensures { λ r. ⌜ (r ≡ Sheet.answer (now (nodes .entry)) «node_count» (now (out .entry))) × (now (out .exit) ≡ Sheet.left (now (nodes .entry)) «node_count» (now (out .entry))) ⌝ }
+{
+    listing::node_sheet(nodes, node_count, out)
 }
 
 // The square root, over bit patterns: a NaN that crosses as a double has bits that no promise names. `bench/root` runs it beside

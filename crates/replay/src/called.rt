@@ -1,6 +1,5 @@
 // The entry that a call is of: the examination, one that takes a set of limits, or the practice paper.
 
-use crate::words;
 use nodes::NodeNumber;
 use table::Values;
 

@@ -4,7 +4,6 @@ use crate::State;
 use crate::called;
 use crate::called::Entry;
 use crate::same;
-use crate::words;
 use nodes::NodeNumber;
 
 // What does not fit its list is left out, and shows as a difference.

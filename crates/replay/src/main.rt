@@ -5,17 +5,10 @@ mod called;
 mod leads;
 mod pairs;
 mod same;
-mod words;
 
 use called::Entry;
-use libc::STDOUT_FILENO;
 use nodes::NodeNumber;
-
-// How many calls and blocks were run, and on how many the two differ.
-pub struct Tally {
-    pub ran: u64,
-    pub differ: u64,
-}
+use words::Tally;
 
 // The list of the calls that follow: its places and how many are used; and the tally so far.
 pub struct State {
@@ -27,15 +20,10 @@ pub struct State {
 impl State {
     // One more call or block.
     pub fn ran(self, same: bool, used: usize) -> State {
-        let t = self.tally;
-        let differ = if same { 0 } else { 1 };
         State {
             places: self.places,
             used: used,
-            tally: Tally {
-                ran: std::num::wrapping_add_u64(t.ran, 1),
-                differ: std::num::wrapping_add_u64(t.differ, differ),
-            },
+            tally: self.tally.ran(same),
         }
     }
 }
@@ -146,7 +134,7 @@ fn replay_pair(fd: i32, s: State) -> State {
         return s.ran(false, used);
     }
     let mut out = [0u8; 1536];
-    pairs::fill(&mut out);
+    words::fill(&mut out);
     let code = exports::blocks_write(&ring[..r], &chain[..c], size, number, &mut out[..room]);
     s.ran(pairs::same_pair(fd, code, &out), used)
 }
@@ -189,11 +177,10 @@ fn step(fd: i32, kind: u32, nodes: &mut [f64], s: State) -> State {
 // All records of a file, which has fewer than a million.
 fn replay(fd: i32) -> Tally {
     let mut nodes = [0.0f64; 3072];
-    let tally = Tally { ran: 0, differ: 0 };
     let mut s = State {
         places: 0,
         used: 0,
-        tally,
+        tally: Tally::NONE,
     };
     for _ in 0u32..1000000 {
         let kind = words::word(fd);
@@ -205,15 +192,6 @@ fn replay(fd: i32) -> Tally {
     s.tally
 }
 
-fn print(name: &[u8], t: Tally) {
-    io::write_all(STDOUT_FILENO, name);
-    io::write_all(STDOUT_FILENO, b": ");
-    io::print_decimal(STDOUT_FILENO, t.ran);
-    io::write_all(STDOUT_FILENO, b" run, ");
-    io::print_decimal(STDOUT_FILENO, t.differ);
-    io::write_all(STDOUT_FILENO, b" differ\n");
-}
-
 // A file that cannot be opened counts as one that differs.
 fn file(path: &[u8]) -> Tally {
     let fd = os::open_read(path);
@@ -223,15 +201,8 @@ fn file(path: &[u8]) -> Tally {
     }
     let t = replay(fd);
     libc::close(fd);
-    print(path, t);
+    t.print(path);
     t
-}
-
-fn plus(a: Tally, b: Tally) -> Tally {
-    Tally {
-        ran: std::num::wrapping_add_u64(a.ran, b.ran),
-        differ: std::num::wrapping_add_u64(a.differ, b.differ),
-    }
 }
 
 fn main() {
@@ -242,6 +213,6 @@ fn main() {
     let marked = file(b"marks.list");
     let sets = file(b"sets.list");
     let practised = file(b"practice.list");
-    let divided = plus(plus(rings, calls), plus(plus(marked, sets), practised));
-    print(b"total", plus(divided, plus(read, written)));
+    let divided = rings.plus(calls).plus(marked).plus(sets).plus(practised);
+    divided.plus(read).plus(written).print(b"total");
 }

@@ -2,18 +2,6 @@
 
 ghost use Prim.Native.Nat.{_*_, _+_, _≤_, _<_};
 ghost use lib.ListN.{length};
-use crate::words;
-
-// Byte i of a destination before a call.
-pub fn found(i: usize) -> u8 {
-    ((i % 256 * 37 + 91) % 256) as u8
-}
-
-pub fn fill(out: &mut [u8]) {
-    for i in 0..out.len() {
-        out[i] = found(i);
-    }
-}
 
 pub fn four(a: u8, b: u8, c: u8, d: u8) -> u32 {
     words::wide(a) + 256 * words::wide(b) + 65536 * words::wide(c) + 16777216 * words::wide(d)
@@ -27,7 +15,12 @@ pub fn word_left(fd: i32, k: usize, n: usize) -> u32
         return words::word(fd);
     }
     let i = k * 4;
-    four(found(i), found(i + 1), found(i + 2), found(i + 3))
+    four(
+        words::found(i),
+        words::found(i + 1),
+        words::found(i + 2),
+        words::found(i + 3),
+    )
 }
 
 // The answer, and all 1,536 bytes that were filled, those beyond the lent ones too.

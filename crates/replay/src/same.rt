@@ -1,6 +1,5 @@
 // What a call or a block leaves, compared with the list that says what the Rust leaves.
 
-use crate::words;
 use blocks::Block;
 use blocks::Reading;
 use table::Values;

@@ -64,3 +64,8 @@ at-most-20 n = length-digits 20 n
 pub at-most-10 : (n : ℕ) → n < 2 ^ 32 → length (decimal n) ≤ 10
 unfolding decimal
 at-most-10 n h = few-digits 20 9 n (omega arith)
+
+-- and in general
+pub at-most : (k n : ℕ) → n < 10 ^ suc k → length (decimal n) ≤ suc k
+unfolding decimal
+at-most k n h = few-digits 20 k n h

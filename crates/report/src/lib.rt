@@ -1,6 +1,6 @@
 // Report: the printed lines of an answer, as bytes in a list that the caller lends; the last step in the way of a ring.
 //
-// Each function that writes takes the place to write at and returns the place after it. The three public ones write from
+// Each function that writes takes the place to write at and returns the place after it. The three that print write from
 // the front and return the count of bytes: a list of 6,400 bytes holds every text.
 
 ghost use mathlib.Core.Path.{_≡_};
@@ -28,7 +28,7 @@ pub struct Divided {
     pub added: u64,
 }
 
-fn put_byte(out: &mut [u8], at: usize, b: u8) -> usize
+pub fn put_byte(out: &mut [u8], at: usize, b: u8) -> usize
     requires { ⌜ at < length (now out) ⌝ }
     ensures { λ r. ⌜ Written (now (out .entry)) at (b ∷ []) r (now (out .exit)) ⌝ }
 {
@@ -44,7 +44,7 @@ fn digit(n: u64) -> u8
 }
 
 // The digits before the last, and the last.
-fn put_decimal(out: &mut [u8], at: usize, n: u64) -> usize
+pub fn put_decimal(out: &mut [u8], at: usize, n: u64) -> usize
     requires { ⌜ at + length (decimal n) ≤ length (now out) ⌝ }
     ensures { λ r. ⌜ Written (now (out .entry)) at (decimal n) r (now (out .exit)) ⌝ }
 {
@@ -86,7 +86,7 @@ fn number(numbers: &[u64], k: usize) -> u64
 }
 
 // The form with the numbers in place of its '#', in order.
-fn put_filled(out: &mut [u8], at: usize, form: &[u8], numbers: &[u64]) -> usize
+pub fn put_filled(out: &mut [u8], at: usize, form: &[u8], numbers: &[u64]) -> usize
     requires { ⌜ at + length (filled (now form) (now numbers)) ≤ length (now out) ⌝ }
     ensures { λ r. ⌜ Written (now (out .entry)) at (filled (now (form .entry)) (now (numbers .entry))) r (now (out .exit)) ⌝ }
 {

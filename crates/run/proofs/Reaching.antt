@@ -1,5 +1,5 @@
 -- What a turn of the loop does to what was reached: one block more (`turned`), of which the text is owed (`owes`); no run goes on past 65,536 blocks; and where it has
--- ended, `printed` of the input was written (`finished`).
+-- ended, `printed` of the input was written (`finished`), and the nodes are those of its run (`listed`).
 use Prim.Native.Nat.{ℕ, suc, _+_, _-_, _*_, _≤_, _<_}
 use mathlib.Core.Path.{_≡_, refl, sym, ap, _∙_, subst}
 use mathlib.Core.Bool.{Bool, true, false, cond}
@@ -20,7 +20,7 @@ use Rattle.job.specs.Step.{Step, stepOf, Steps, CanStep}
 use Rattle.job.specs.Run.{Bytes, start, noPoints, noNodes, onward, ran, blockAt, readTo, printed}
 use Rattle.job.proofs.Runs.{Went, Held, outcome, number-below, not-both, goes, ran-held, read-more, read-added, joined-bytes}
 use Rattle.job.proofs.Printed.{one-more, prints, counted, in-time}
-use Rattle.run.specs.Reached.{Reached, Owed, Finished}
+use Rattle.run.specs.Reached.{Reached, Owed, Finished, Listed}
 
 -- before the first block
 begun : Reached start noPoints noNodes 0
@@ -44,6 +44,11 @@ module _ (s : State) (ps : List ℤ) (l : List Float) (sent : ℕ) (r : Reached 
   -- where the run has ended, all is written
   pub finished : s .ended ≡ true → Finished sent
   finished e = record { input = r .input; bytes = r .bytes; all = r .text ∙ ap length (prints (r .input) (r .blocks) (ap (λ (z : State). z .ended) (sym (r .state)) ∙ e)) }
+
+  pub listed : s .ended ≡ true → Listed (s .used) l
+  listed e =
+      let f : ran (readTo (r .input) (r .blocks)) .state .ended ≡ true = ap (λ (z : State). z .ended) (sym (r .state)) ∙ e in
+      record { input = r .input; blocks = r .blocks; bytes = r .bytes; ended = f; count = ap (λ (z : State). z .used) (r .state); nodes = r .nodes }
 
   module _ (e : s .ended ≡ false) where
     pub few-blocks : r .blocks ≤ 65536

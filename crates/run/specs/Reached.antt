@@ -42,3 +42,12 @@ pub record Finished (sent : ℕ) : Type 0 where
   pub input : List ℕ
   pub bytes : Bytes input
   pub all : sent ≡ length (printed input)
+
+-- the run of an input has ended, and left so many nodes in the list l
+pub record Listed (used : ℕ) (l : List Float) : Type 0 where
+  pub input : List ℕ
+  pub blocks : ℕ
+  pub bytes : Bytes input
+  pub ended : ran (readTo input blocks) .state .ended ≡ true
+  pub count : used ≡ ran (readTo input blocks) .state .used
+  pub nodes : l ≡ ran (readTo input blocks) .nodes

@@ -32,7 +32,7 @@ fn part_of(done: usize) -> usize
 }
 
 // Reads until the block is full or the input ends, and answers how many bytes there are.
-fn read_block(input: i32, bytes: &mut [u8]) -> usize
+pub fn read_block(input: i32, bytes: &mut [u8]) -> usize
     requires { ⌜ length (now bytes) ≡ 512 ⌝ }
     ensures { λ r. ⌜ r ≤ 512 ⌝ }
 {
@@ -82,7 +82,7 @@ fn send(output: i32, text: &[u8], sent: u64) -> Sent
 }
 
 // Whether there is a block to read: until the run has ended, and no longer.
-fn goes_on(s: State) -> bool
+pub fn goes_on(s: State) -> bool
     ensures { λ r. ⌜ r ≡ not (s .ended) ⌝ }
 {
     !s.ended

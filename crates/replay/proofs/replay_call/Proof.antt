@@ -4,7 +4,7 @@ use mathlib.Core.Path.{refl}
 use native.Mathlib.Omega.{arith}
 use lib.ListN.{length, length-replicate, replicate}
 use borrow.Author.Needs.{needs}
-use Rattle.replay.proofs.Parts.{part-length}
+use Rattle.words.proofs.Parts.{part-length}
 use Rattle.replay.proofs.replay_call.Statement.{statement}
 use Rattle.replay.proofs.replay_call.Tie as tie
 

@@ -1,7 +1,7 @@
 -- `replay_pair` ends and stays within its lists. Each part that is lent is within its list.
 use native.Mathlib.Omega.{arith}
 use borrow.Author.Needs.{needs}
-use Rattle.replay.proofs.Parts.{part-length}
+use Rattle.words.proofs.Parts.{part-length}
 use Rattle.replay.proofs.replay_pair.Statement.{statement}
 use Rattle.replay.proofs.replay_pair.Tie as tie
 

@@ -4,7 +4,7 @@ use borrow.Author.Needs.{needs}
 use Prim.Native.Nat.{ℕ}
 use mathlib.Core.Path.{refl}
 use lib.ListN.{length, length-replicate, replicate}
-use Rattle.replay.proofs.Parts.{part-length}
+use Rattle.words.proofs.Parts.{part-length}
 use Rattle.replay.proofs.leads.replay_marked.Statement.{statement}
 use Rattle.replay.proofs.leads.replay_marked.Tie as tie
 

@@ -1,0 +1,61 @@
+// Desk: runs the fixed lists of what stands beside the divider, with the answers expected, and compares every returned value
+// and every byte that is left: the cell sheet. docs/REPLAY.md has the form of the lists.
+
+use words::Tally;
+
+// A cell sheet: the used count, the node list, the bytes of the destination.
+fn sheet(fd: i32) -> bool {
+    let used = words::long(fd) as usize;
+    let n = words::count(fd);
+    let room = words::count(fd);
+    let mut nodes = [0.0f64; 64];
+    words::read_nodes(fd, &mut nodes, n);
+    if 64 < n {
+        return false;
+    }
+    if 1536 < room {
+        return false;
+    }
+    let mut out = [0u8; 1536];
+    words::fill(&mut out);
+    let code = listing::node_sheet(&nodes[..n], used, &mut out[..room]);
+    let answered = code == words::word(fd) as u64;
+    answered & words::same_bytes(fd, &out)
+}
+
+fn step(fd: i32, kind: u32) -> bool {
+    if kind == 5 {
+        return sheet(fd);
+    }
+    false
+}
+
+// All records of a file, which has fewer than a million.
+fn records(fd: i32) -> Tally {
+    let mut t = Tally::NONE;
+    for _ in 0u32..1000000 {
+        let kind = words::word(fd);
+        if kind == 0 {
+            break;
+        }
+        t = t.ran(step(fd, kind));
+    }
+    t
+}
+
+// A file that cannot be opened counts as one that differs.
+fn file(path: &[u8]) -> Tally {
+    let fd = os::open_read(path);
+    if fd < 0 {
+        os::fail(path);
+        return Tally::NONE.ran(false);
+    }
+    let t = records(fd);
+    libc::close(fd);
+    t.print(path);
+    t
+}
+
+fn main() {
+    file(b"sheets.list");
+}

@@ -1,0 +1,73 @@
+-- The tests of the sheet as the code makes them.
+use Prim.Native.Nat.{ℕ, _+_, _*_, _/_, _≤_, _<_}
+use native.Mathlib.Omega.{arith}
+use mathlib.Core.Path.{_≡_, refl, sym, ap, _∙_, subst}
+use mathlib.Core.Bool.{Bool, true, false, not, _&&_, _||_, true≢false}
+use mathlib.Core.List.{List}
+use lib.IntN.{pos}
+use lib.Dec.{T, ltb}
+use borrow.Author.Tests.{ltb-false, lt-ltb, le-ltb}
+use lib.ListN.{length, getD}
+use lib.Ieee.{Float, nan, fin, le}
+use lib.Ieee.Fits.{and-l, and-r}
+use Rattle.laws.specs.Within.{Within}
+use Rattle.laws.proofs.Between.{tested-1024}
+use Rattle.laws.proofs.Search.{any-none}
+use Rattle.report.specs.Text.{Written}
+use Rattle.nodes.specs.Nodes.{mostPlaces}
+use Rattle.nodes.specs.Flat.{Usable, held, allHeld}
+use Rattle.nodes.proofs.Ranged.{held-is}
+use Rattle.listing.specs.Sheet.{nodesOut, answer, left, lines}
+
+held-within : (x : Float) → T (held x) → Within 1024 x
+held-within x h =
+    let k = subst T (sym (held-is x)) h in
+    tested-1024 x (and-l (le (fin true 1 (pos 10)) x) (le x (fin false 1 (pos 10))) k) (and-r (le (fin true 1 (pos 10)) x) (le x (fin false 1 (pos 10))) k)
+
+not-not : (b : Bool) → T (not (not b)) → T b
+not-not true h = tt
+not-not false h = h
+
+shown-true : (b : Bool) → not b ≡ false → T b
+shown-true true e = tt
+shown-true false e = absurd (true≢false e)
+
+or-left : (a b : Bool) → a || b ≡ false → a ≡ false
+or-left true b e = e
+or-left false b e = refl
+
+or-right : (a b : Bool) → a || b ≡ false → b ≡ false
+or-right true b e = absurd (true≢false e)
+or-right false b e = e
+
+each : (l : List Float) (n : ℕ) → T (allHeld l n) → (k : ℕ) → k < n → Within 1024 (getD l k nan)
+unfolding allHeld
+each l n t k h = held-within (getD l k nan) (not-not (held (getD l k nan)) (any-none (λ i. not (held (getD l i nan))) n t k h))
+
+-- what 3 does not refuse
+pub usable : (l : List Float) (n : ℕ) → nodesOut l n ≡ false → Usable l n
+unfolding nodesOut
+usable l n e =
+    let f = or-left (ltb (length l / 2) n || ltb mostPlaces (length l / 2)) (not (allHeld l (n * 2))) e in
+    let a = ltb-false (length l / 2) n (or-left (ltb (length l / 2) n) (ltb mostPlaces (length l / 2)) f) in
+    let b = ltb-false mostPlaces (length l / 2) (or-right (ltb (length l / 2) n) (ltb mostPlaces (length l / 2)) f) in
+    let t = shown-true (allHeld l (n * 2)) (or-right (ltb (length l / 2) n || ltb mostPlaces (length l / 2)) (not (allHeld l (n * 2))) e) in
+    record {
+      room = omega arith;
+      few = omega arith;
+      ranged = λ i h. (each l (n * 2) t (i * 2) (omega arith), each l (n * 2) t (i * 2 + 1) (omega arith));
+    }
+
+-- ---- what is returned and left
+module _ (l : List Float) (n : ℕ) (out : List ℕ) where
+  pub refused-3 : nodesOut l n ≡ true → (3 ≡ answer l n out) × (out ≡ left l n out)
+  unfolding left answer
+  refused-3 e = (rw e, rw e)
+
+  pub refused-17 : nodesOut l n ≡ false → length out < n * 65 → (17 ≡ answer l n out) × (out ≡ left l n out)
+  unfolding left answer
+  refused-17 e h = (rw (e, lt-ltb (length out) (n * 65) h), rw (e, lt-ltb (length out) (n * 65) h))
+
+  pub written : nodesOut l n ≡ false → n * 65 ≤ length out → (r : ℕ) (m : List ℕ) → Written out 0 (lines l n) r m → (0 ≡ answer l n out) × (m ≡ left l n out)
+  unfolding left answer
+  written e h r m w = (rw (e, le-ltb (length out) (n * 65) h), w .list ∙ rw (e, le-ltb (length out) (n * 65) h))
