@@ -2,7 +2,7 @@
 -- computed over the whole table at once (`computed`); proofs/Rows turns it into what each row states. The same of calls over lists in use (`trials-in-use`).
 use lib.Dec.{T}
 use Rattle.laws.specs.All.{All}
-use Rattle.trials.specs.Trials.{Holds, starred, inUse, squareBlocks, twoOfOneKey, thinInUse, square, dart, thin, snapped, bow, equal, clockwise, two, wide}
+use Rattle.trials.specs.Trials.{Holds, starred, inUse, squareBlocks, twoOfOneKey, thinInUse, middleListed, square, dart, thin, snapped, bow, equal, clockwise, two, wide}
 use Rattle.trials.proofs.Rows.{tests, all-right, testing}
 
 computed : T (tests starred)
@@ -13,7 +13,7 @@ pub trials : All Holds starred
 trials = all-right starred computed
 
 computed-in-use : T (tests inUse)
-unfolding testing twoOfOneKey thinInUse thin
+unfolding testing twoOfOneKey thinInUse thin middleListed dart
 computed-in-use = tt
 
 pub trials-in-use : All Holds inUse
