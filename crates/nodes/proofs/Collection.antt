@@ -20,14 +20,16 @@ use Rattle.vector.specs.declared.Point.{Point}
 use Rattle.nodes.specs.Nodes.{key, number}
 use Rattle.nodes.specs.Growth.{InRange, Grown}
 use Rattle.nodes.specs.declared.keys.SoughtKey.{SoughtKey}
-use Rattle.nodes.specs.Flat.{pointAt, nodesIn, over, Usable, soughtKey, Sought, near, hasAt}
+use Rattle.nodes.specs.Flat.{pointAt, nodesIn, over, Usable, soughtKey, keyOf, Sought, near, hasAt}
 use Rattle.nodes.proofs.Flat.{length-in, node-in, at-over}
+use Rattle.nodes.specs.declared.nearby.Span.{Span}
 use Rattle.nodes.specs.declared.nearby.Window.{Window}
 use Rattle.nodes.specs.declared.nearby.Nearby.{Nearby}
-use Rattle.nodes.specs.Nearby.{mostNearby, Framed, insideAt, inside, xsOf, surrounds, Collected, Held, Lists, hasListed, strictly, inSpan}
+use Rattle.nodes.specs.Nearby.{mostNearby, Spans, Framed, insideAt, inside, xsOf, surrounds, Collected, Held, Lists, hasListed, strictly, inSpan, wellIn, wellInside}
 use Rattle.nodes.proofs.Scan.{has-is, not-near, fewer, found-is}
 use Rattle.nodes.proofs.Rounding.{wider}
-use Rattle.nodes.proofs.Monotone.{in-span}
+use Rattle.nodes.proofs.Monotone.{in-span, well-in}
+use Rattle.nodes.proofs.Skip.{scaled-of}
 use Rattle.nodes.proofs.Chosen.{chosen-ext, below, listed, unlisted}
 
 T→true : (b : Bool) → T b → b ≡ true
@@ -102,8 +104,8 @@ listed-is l n count numbers xs kx ky j c h =
     let k = getD numbers j 0 in
     has-is l kx ky k ∙ ap (λ (x : Float). eqZ kx (key x) && eqZ ky (key (getD l (k * 2 + 1) nan))) (sym (c .same j h))
 
-pub not-close : (l : List Float) (n count : ℕ) (numbers : List ℕ) (xs : List Float) (kx : SoughtKey) (ky : ℤ) (j : ℕ) → Lists l n numbers xs count → Sought kx → Usable l n → j < count → near (kx .value) (getD xs j nan) ≡ false → hasListed l numbers (kx .key) ky j ≡ false
-not-close l n count numbers xs kx ky j c so u h e = not-near l kx ky (getD numbers j 0) so (u .ranged (getD numbers j 0) (c .low j h) .0) (ap (near (kx .value)) (sym (c .same j h)) ∙ e)
+pub not-close : (l : List Float) (n count : ℕ) (numbers : List ℕ) (xs : List Float) (kx : SoughtKey) (ky : ℤ) (j : ℕ) → Lists l n numbers xs count → Sought kx → Usable l n → j < count → near (kx .scaled) (getD xs j nan) ≡ false → hasListed l numbers (keyOf kx) ky j ≡ false
+not-close l n count numbers xs kx ky j c so u h e = not-near l kx ky (getD numbers j 0) so (u .ranged (getD numbers j 0) (c .low j h) .0) (ap (near (kx .scaled)) (sym (c .same j h)) ∙ e)
 
 -- fewer of them
 pub lists-fewer : (l : List Float) (n count m : ℕ) (numbers : List ℕ) (xs : List Float) → m ≤ count → Lists l n numbers xs count → Lists l n numbers xs m
@@ -112,14 +114,14 @@ lists-fewer l n count m numbers xs h c =
 
 -- d of them, where none of m places is near
 pub none-close : (l : List Float) (n count : ℕ) (numbers : List ℕ) (xs : List Float) (kx : SoughtKey) (ky : ℤ) (i d m : ℕ) → Lists l n numbers xs count → Sought kx → Usable l n → d ≤ m → i + d ≤ count
-    → any (λ j. near (kx .value) (getD xs (i + j) nan)) m ≡ false → first (hasListed l numbers (kx .key) ky) d i ≡ i + d
-none-close l n count numbers xs kx ky i d m c so u g h e = first-none (hasListed l numbers (kx .key) ky) d i clear
+    → any (λ j. near (kx .scaled) (getD xs (i + j) nan)) m ≡ false → first (hasListed l numbers (keyOf kx) ky) d i ≡ i + d
+none-close l n count numbers xs kx ky i d m c so u g h e = first-none (hasListed l numbers (keyOf kx) ky) d i clear
   where
-    clear : (k : ℕ) → i ≤ k → k < i + d → hasListed l numbers (kx .key) ky k ≡ false
+    clear : (k : ℕ) → i ≤ k → k < i + d → hasListed l numbers (keyOf kx) ky k ≡ false
     clear k x y =
         let f : i + (k - i) ≡ k = omega arith in
-        let v = any-none (λ j. near (kx .value) (getD xs (i + j) nan)) m (subst (λ (b : Bool). T (not b)) (sym e) tt) (k - i) (omega arith) in
-        not-close l n count numbers xs kx ky k c so u (omega arith) (is-false _ (subst (λ (m : ℕ). T (not (near (kx .value) (getD xs m nan)))) f v))
+        let v = any-none (λ j. near (kx .scaled) (getD xs (i + j) nan)) m (subst (λ (b : Bool). T (not b)) (sym e) tt) (k - i) (omega arith) in
+        not-close l n count numbers xs kx ky k c so u (omega arith) (is-false _ (subst (λ (m : ℕ). T (not (near (kx .scaled) (getD xs m nan)))) f v))
 
 -- ---- what it decides
 -- a node with keys strictly inside is in the window
@@ -160,16 +162,26 @@ module _ (l : List Float) (w : Window) (n used count : ℕ) (numbers : List ℕ)
       sym (ap (λ (m : ℕ). first (hasAt l kx ky) m 0) (sym rest) ∙ first-beyond (hasAt l kx ky) n (used - n) 0 (omega (arith, a)) ∙ ap (first (hasAt l kx ky) (used - n)) (zero-add n))
 
 -- ---- the search of a point p, whose keys are those of a and b, where the collection decides
-module _ (l : List Float) (used : ℕ) (c : Nearby) (numbers : List ℕ) (xs : List Float) (p : Point) (a b : SoughtKey) (h : Held l used c numbers xs) (u : Usable l used) (e : a ≡ soughtKey (p .x)) (f : b ≡ soughtKey (p .y))
-    (d : (leb (c .count) mostNearby && surrounds (c .window) (a .key) (b .key)) ≡ true) where
-  both : T (leb (c .count) mostNearby && surrounds (c .window) (a .key) (b .key))
+module _ (l : List Float) (used : ℕ) (c : Nearby) (numbers : List ℕ) (xs : List Float) (p : Point) (a b : SoughtKey) (h : Held l used c numbers xs) (u : Usable l used) (e : a ≡ soughtKey (p .x)) (f : b ≡ soughtKey (p .y)) (v : Sought a) (w : Sought b)
+    (d : (leb (c .count) mostNearby && wellInside (c .window) (a .scaled) (b .scaled)) ≡ true) where
+  both : T (leb (c .count) mostNearby && wellInside (c .window) (a .scaled) (b .scaled))
   both = subst T (sym d) tt
 
   all : Collected l (c .window) (c .old) numbers xs (c .count)
-  all = h .complete (leb→le (c .count) mostNearby (and-l (leb (c .count) mostNearby) (surrounds (c .window) (a .key) (b .key)) both))
+  all = h .complete (leb→le (c .count) mostNearby (and-l (leb (c .count) mostNearby) (wellInside (c .window) (a .scaled) (b .scaled)) both))
 
-  within : surrounds (c .window) (a .key) (b .key) ≡ true
-  within = T→true (surrounds (c .window) (a .key) (b .key)) (and-r (leb (c .count) mostNearby) (surrounds (c .window) (a .key) (b .key)) both)
+  -- a sought coordinate is between the limits of a span, so its key is strictly between those of the ends
+  strict : (s : Span) (k : SoughtKey) → Spans s → Sought k → T (wellIn s (k .scaled)) → T (strictly s (keyOf k))
+  strict s k r o t = well-in s (k .own) r (wider (k .own) (o .ranged)) (subst (λ (y : Float). T (wellIn s y)) (scaled-of k o) t)
+
+  within : surrounds (c .window) (keyOf a) (keyOf b) ≡ true
+  within =
+      let m = c .window in
+      let t = and-r (leb (c .count) mostNearby) (wellInside m (a .scaled) (b .scaled)) both in
+      T→true (surrounds m (keyOf a) (keyOf b))
+      (and-i (strictly (m .x) (keyOf a)) (strictly (m .y) (keyOf b))
+      (strict (m .x) a (h .framed .0) v (and-l (wellIn (m .x) (a .scaled)) (wellIn (m .y) (b .scaled)) t))
+      (strict (m .y) b (h .framed .1) w (and-r (wellIn (m .x) (a .scaled)) (wellIn (m .y) (b .scaled)) t)))
 
   pub searchable : Usable l (c .old) × Lists l (c .old) numbers xs (c .count)
   searchable = (fewer l (c .old) used (h .old) u, lists l (c .window) (c .old) (c .count) numbers xs all)
@@ -177,9 +189,9 @@ module _ (l : List Float) (used : ℕ) (c : Nearby) (numbers : List ℕ) (xs : L
   pub room-at : (j : ℕ) → j < c .count → (j < length numbers) × (j < mostNearby)
   room-at j k = (omega (arith, k, all .places, all .few), omega (arith, k, all .few))
 
-  module _ (j : ℕ) (g : j ≡ first (hasListed l numbers (a .key) (b .key)) (c .count) 0) where
+  module _ (j : ℕ) (g : j ≡ first (hasListed l numbers (keyOf a) (keyOf b)) (c .count) 0) where
     pub found : j < c .count → getD numbers j 0 ≡ number (nodesIn l used) p
-    found k = decided l (c .window) (c .old) used (c .count) numbers xs (a .key) (b .key) all u (h .old) (h .framed) within j g k ∙ found-is l used p a b e f
+    found k = decided l (c .window) (c .old) used (c .count) numbers xs (keyOf a) (keyOf b) all u (h .old) (h .framed) within j g k ∙ found-is l used p a b e f
 
-    pub not-found : (r : ℕ) → c .count ≤ j → r ≡ first (hasAt l (a .key) (b .key)) (used - c .old) (c .old) → r ≡ number (nodesIn l used) p
-    not-found r k s = s ∙ undecided l (c .window) (c .old) used (c .count) numbers xs (a .key) (b .key) all u (h .old) (h .framed) within j g k ∙ found-is l used p a b e f
+    pub not-found : (r : ℕ) → c .count ≤ j → r ≡ first (hasAt l (keyOf a) (keyOf b)) (used - c .old) (c .old) → r ≡ number (nodesIn l used) p
+    not-found r k s = s ∙ undecided l (c .window) (c .old) used (c .count) numbers xs (keyOf a) (keyOf b) all u (h .old) (h .framed) within j g k ∙ found-is l used p a b e f

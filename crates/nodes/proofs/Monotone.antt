@@ -1,14 +1,14 @@
 -- A key grows with its coordinate. So a coordinate outside a span has a key that is not strictly between those of the ends.
 use mathlib.Core.Path.{_≡_, refl, sym, ap, subst}
 use mathlib.Core.Logic.{inl, inr}
-use Prim.Native.Nat.{ℕ, zero, suc, _+_, _*_, _≤_, _<_, zero-le}
-use native.Mathlib.Nat.{le-of-mul-le-mul-right, mul-le-mul-right, mul-pos, le-div-iff-mul-le, div-mul-le-self}
+use Prim.Native.Nat.{ℕ, zero, suc, _+_, _*_, _^_, _≤_, _<_, zero-le}
+use native.Mathlib.Nat.{le-trans, le-of-mul-le-mul-right, mul-le-mul-right, mul-pos, le-div-iff-mul-le, div-mul-le-self, div-eq-of-lt-le}
 use native.Mathlib.Omega.{arith}
 use mathlib.Core.Bool.{true, false}
-use lib.IntN.{ℤ, pos, negsuc, negℤ}
+use lib.IntN.{ℤ, pos, negsuc, negℤ, natAbs, _+ℤ_, _-ℤ_}
 use lib.Signed.{ltZ, leZ}
-use lib.Dec.{T, leb→le, le→leb, ltb→lt}
-use lib.Ieee.{Float, fin, binary64, up, down, mul, le, eq}
+use lib.Dec.{T, leb→le, le→leb, ltb→lt, lt→ltb, lit≤}
+use lib.Ieee.{Float, nan, inf, fin, binary64, up, down, mul, le, eq, ofInt}
 use lib.Ieee.Fits.{down-pos, and-i, and-l, and-r}
 use lib.Ieee.Scale.{finite}
 use lib.Ieee.Positive.{den, den-pos}
@@ -17,11 +17,14 @@ use Rattle.laws.proofs.Fractions.{plus, less, Le, le→Le}
 use Rattle.laws.proofs.Order.{le-or-lt, lt→le, eq→le, eq-sym}
 use Rattle.laws.proofs.Between.{within-real}
 use Rattle.laws.proofs.Round.{rounds-mono}
-use Rattle.laws.proofs.Results.{mul-rounds}
+use Rattle.laws.proofs.Results.{Val, mul-rounds}
+use Rattle.laws.proofs.Integers.{posp, negp, sum-parts}
+use Rattle.laws.proofs.Grid.{IsZ, isZ-val, scaled-isZ}
+use Rattle.laws.proofs.Scaled.{ofInt-scaled}
 use Rattle.nodes.specs.Nodes.{rounded, key}
-use Rattle.nodes.proofs.Rounding.{e8, halfUp, key-is, scaled-1025}
+use Rattle.nodes.proofs.Rounding.{e8, halfUp, key-is, key-small, scaled-1025, one-above, one-below}
 use Rattle.nodes.specs.declared.nearby.Span.{Span}
-use Rattle.nodes.specs.Nearby.{span, Spans, inSpan, strictly}
+use Rattle.nodes.specs.Nearby.{span, Spans, inSpan, strictly, wellIn}
 
 -- ---- a product with 1.0e8
 scaled-up : (p n d q m c z e : ℕ) → p * c + m * d ≤ q * d + n * c → (p * z + n * 0) * (c * e) + (q * 0 + m * z) * (d * e) ≤ (q * z + m * 0) * (d * e) + (p * 0 + n * z) * (c * e)
@@ -102,30 +105,96 @@ one (negsuc a) (negsuc b) h k = ap negsuc (omega (arith, leb→le b a h, leb→l
 pub key-eq : (x y : Float) → Within 1025 x → Within 1025 y → T (eq x y) → key x ≡ key y
 key-eq x y u v e = one (key x) (key y) (key-mono x y u v (eq→le x y e)) (key-mono y x v u (eq→le y x (eq-sym x y e)))
 
+-- ---- a whole number is rounded to itself
+exact : (a d n : ℕ) → 0 < d → a ≡ n * d → halfUp a d ≡ n
+exact a d n D e = div-eq-of-lt-le (2 * d) (omega arith) (omega arith)
+
+whole : (z : ℤ) (y : Float) → Val y (posp z) (negp z) 1 → rounded y ≡ z
+unfolding rounded
+whole z nan v = absurd (v .0)
+whole z (inf s) v = absurd (v .0)
+whole (pos n) (fin false m e) v = ap pos (exact (m * up e) (down e) n (down-pos e) (omega (arith, v .1)))
+whole (negsuc n) (fin false m e) v = absurd (omega (arith, v .1, down-pos e))
+whole (pos n) (fin true m e) v = plain n (m * up e) (down e) (down-pos e) (omega (arith, v .1))
+  where
+    plain : (n a d : ℕ) → 0 < d → n * d + a ≡ 0 → negℤ (pos (halfUp a d)) ≡ pos n
+    plain zero a d D e = ap (λ (k : ℕ). negℤ (pos k)) (halfUp-zero a d D (omega arith))
+    plain (suc n) a d D e = absurd (omega arith)
+whole (negsuc n) (fin true m e) v = ap (λ (k : ℕ). negℤ (pos k)) (exact (m * up e) (down e) (suc n) (down-pos e) (omega (arith, v .1)))
+
+int-val : (z : ℤ) → natAbs z ≤ 2 ^ 53 → Val (ofInt binary64 z) (posp z) (negp z) 1
+int-val z h = isZ-val (ofInt binary64 z) z 1 (subst (λ (x : Float). IsZ x z 1) (sym (ofInt-scaled binary64 z)) (scaled-isZ binary64 z 0 h zero-le))
+
+next : (a b : ℤ) → T (leZ (a +ℤ pos 1) b) → T (ltZ a b)
+next a b t = go a b (a +ℤ pos 1) (sum-parts a (pos 1)) t
+  where
+    go : (a b s : ℤ) → posp s + negp a + 0 ≡ posp a + 1 + negp s → T (leZ s b) → T (ltZ a b)
+    go (pos a) (pos b) (pos s) e t = lt→ltb a b (omega (arith, leb→le s b t))
+    go (pos a) (pos b) (negsuc s) e t = absurd (omega arith)
+    go (pos a) (negsuc b) (pos s) e t = absurd t
+    go (pos a) (negsuc b) (negsuc s) e t = absurd (omega arith)
+    go (negsuc a) (pos b) s e t = tt
+    go (negsuc a) (negsuc b) (pos s) e t = absurd t
+    go (negsuc a) (negsuc b) (negsuc s) e t = lt→ltb b a (omega (arith, leb→le b s t))
+
+prev : (a b : ℤ) → T (leZ b (a -ℤ pos 1)) → T (ltZ b a)
+prev a b t = go a b (a -ℤ pos 1) (sum-parts a (negsuc 0)) t
+  where
+    go : (a b s : ℤ) → posp s + negp a + 1 ≡ posp a + 0 + negp s → T (leZ b s) → T (ltZ b a)
+    go (pos a) (pos b) (pos s) e t = lt→ltb b a (omega (arith, leb→le b s t))
+    go (pos a) (pos b) (negsuc s) e t = absurd t
+    go (pos a) (negsuc b) s e t = tt
+    go (negsuc a) (pos b) (pos s) e t = absurd (omega arith)
+    go (negsuc a) (pos b) (negsuc s) e t = absurd t
+    go (negsuc a) (negsuc b) (pos s) e t = absurd (omega arith)
+    go (negsuc a) (negsuc b) (negsuc s) e t = lt→ltb a b (omega (arith, leb→le s b t))
+
 -- ---- a key strictly between those of the ends is that of a coordinate between them
 module _ (s : Span) (x : Float) (r : Spans s) (w : Within 1025 x) where
-  least-is : s .least ≡ key (s .lo)
-  least-is = ap (λ (t : Span). t .least) (r .same)
+  -- a scaled coordinate between the limits has such a key
+  pub well-in : T (wellIn s (mul binary64 x e8)) → T (strictly s (key x))
+  well-in t = and-i (ltZ (key (s .lo)) (key x)) (ltZ (key x) (key (s .hi))) (next (key (s .lo)) (key x) low) (prev (key (s .hi)) (key x) high)
+    where
+      y : Float
+      y = mul binary64 x e8
 
-  most-is : s .most ≡ key (s .hi)
-  most-is = ap (λ (t : Span). t .most) (r .same)
+      f : T (finite y)
+      f = scaled-1025 x w .0
 
-  above : T (ltZ (s .least) (key x)) → T (le (s .lo) x)
+      lo-val : Val (s .least) (posp (key (s .lo) +ℤ pos 1)) (negp (key (s .lo) +ℤ pos 1)) 1
+      lo-val = subst (λ (z : Float). Val z (posp (key (s .lo) +ℤ pos 1)) (negp (key (s .lo) +ℤ pos 1)) 1) (sym (ap (λ (u : Span). u .least) (r .same))) (int-val (key (s .lo) +ℤ pos 1) (le-trans (one-above (key (s .lo)) (key-small (s .lo) (r .low))) (lit≤ tt)))
+
+      hi-val : Val (s .most) (posp (key (s .hi) -ℤ pos 1)) (negp (key (s .hi) -ℤ pos 1)) 1
+      hi-val = subst (λ (z : Float). Val z (posp (key (s .hi) -ℤ pos 1)) (negp (key (s .hi) -ℤ pos 1)) 1) (sym (ap (λ (u : Span). u .most) (r .same))) (int-val (key (s .hi) -ℤ pos 1) (le-trans (one-below (key (s .hi)) (key-small (s .hi) (r .high))) (lit≤ tt)))
+
+      low : T (leZ (key (s .lo) +ℤ pos 1) (key x))
+      low =
+          subst (λ (z : ℤ). T (leZ z (key x))) (whole (key (s .lo) +ℤ pos 1) (s .least) lo-val)
+          (subst (λ (z : ℤ). T (leZ (rounded (s .least)) z)) (key-is x)
+          (rounded-mono (s .least) y (lo-val .0) f (le→Le (s .least) y (lo-val .0) f (and-l (le (s .least) y) (le y (s .most)) t))))
+
+      high : T (leZ (key x) (key (s .hi) -ℤ pos 1))
+      high =
+          subst (λ (z : ℤ). T (leZ (key x) z)) (whole (key (s .hi) -ℤ pos 1) (s .most) hi-val)
+          (subst (λ (z : ℤ). T (leZ z (rounded (s .most)))) (key-is x)
+          (rounded-mono y (s .most) f (hi-val .0) (le→Le y (s .most) f (hi-val .0) (and-r (le (s .least) y) (le y (s .most)) t))))
+
+  above : T (ltZ (key (s .lo)) (key x)) → T (le (s .lo) x)
   above t =
       elim (le-or-lt (s .lo) x (within-real 1025 (s .lo) (r .low)) (within-real 1025 x w)) [
         | inl a ↦ a
-        | inr b ↦ absurd (both (key x) (key (s .lo)) (key-mono x (s .lo) w (r .low) (lt→le x (s .lo) b)) (subst (λ (z : ℤ). T (ltZ z (key x))) least-is t))
+        | inr b ↦ absurd (both (key x) (key (s .lo)) (key-mono x (s .lo) w (r .low) (lt→le x (s .lo) b)) t)
       ]
 
-  below : T (ltZ (key x) (s .most)) → T (le x (s .hi))
+  below : T (ltZ (key x) (key (s .hi))) → T (le x (s .hi))
   below t =
       elim (le-or-lt x (s .hi) (within-real 1025 x w) (within-real 1025 (s .hi) (r .high))) [
         | inl a ↦ a
-        | inr b ↦ absurd (both (key (s .hi)) (key x) (key-mono (s .hi) x (r .high) w (lt→le (s .hi) x b)) (subst (λ (z : ℤ). T (ltZ (key x) z)) most-is t))
+        | inr b ↦ absurd (both (key (s .hi)) (key x) (key-mono (s .hi) x (r .high) w (lt→le (s .hi) x b)) t)
       ]
 
   pub in-span : T (strictly s (key x)) → T (inSpan s x)
   in-span t =
-      let a = ltZ (s .least) (key x) in
-      let b = ltZ (key x) (s .most) in
+      let a = ltZ (key (s .lo)) (key x) in
+      let b = ltZ (key x) (key (s .hi)) in
       and-i (le (s .lo) x) (le x (s .hi)) (above (and-l a b t)) (below (and-r a b t))

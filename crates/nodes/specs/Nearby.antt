@@ -4,12 +4,12 @@ use Prim.Native.Nat.{ℕ, zero, suc, _≤_, _<_}
 use mathlib.Core.Path.{_≡_}
 use mathlib.Core.Bool.{Bool, _&&_, cond}
 use mathlib.Core.List.{List, [], _∷_, _++_, map}
-use lib.IntN.{ℤ}
+use lib.IntN.{ℤ, pos, _+ℤ_, _-ℤ_}
 use lib.Signed.{ltZ}
 use lib.ListN.{length, getD, take, drop}
 use lib.Dec.{leb}
 use lib.Ieee.{Float, nan}
-use Rattle.laws.specs.Double.{_≤f_}
+use Rattle.laws.specs.Double.{int, _≤f_}
 use Rattle.laws.specs.Within.{Within}
 use Rattle.nodes.specs.Nodes.{key}
 use Rattle.nodes.specs.Flat.{pointAt, hasAt}
@@ -30,9 +30,9 @@ chosen q (suc d) i =
 
 -- ---- windows
 abbrev pub span : Float → Float → Span
-span lo hi = record { lo = lo; hi = hi; least = key lo; most = key hi }
+span lo hi = record { lo = lo; hi = hi; least = int (key lo +ℤ pos 1); most = int (key hi -ℤ pos 1) }
 
--- the ends lie no more than a unit beyond the sheet, and the keys are theirs
+-- the ends lie no more than a unit beyond the sheet, and the two limits are theirs
 pub record Spans (s : Span) : Type 0 where
   pub low : Within 1025 (s .lo)
   pub high : Within 1025 (s .hi)
@@ -53,10 +53,17 @@ insideAt w l i = inWindow w (pointAt l i .x) (pointAt l i .y)
 
 -- a key strictly between those of the ends
 abbrev pub strictly : Span → ℤ → Bool
-strictly s k = ltZ (s .least) k && ltZ k (s .most)
+strictly s k = ltZ (key (s .lo)) k && ltZ k (key (s .hi))
 
 abbrev pub surrounds : Window → ℤ → ℤ → Bool
 surrounds w kx ky = strictly (w .x) kx && strictly (w .y) ky
+
+-- a scaled coordinate between the limits, whose key is therefore such a key; and two of them
+abbrev pub wellIn : Span → Float → Bool
+wellIn s v = (s .least ≤f v) && (v ≤f s .most)
+
+abbrev pub wellInside : Window → Float → Float → Bool
+wellInside w v u = wellIn (w .x) v && wellIn (w .y) u
 
 -- ---- collections
 -- the numbers of the nodes of the first n places that are in the window; and the x of such nodes

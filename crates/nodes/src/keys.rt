@@ -7,12 +7,11 @@ ghost use lib.IntN.{natAbs};
 ghost use Rattle.laws.specs.Within.{Within};
 ghost use Rattle.laws.specs.Integer.{eqZ};
 ghost use Rattle.nodes.specs.Nodes as Nodes;
-ghost use Rattle.nodes.specs.Flat.{soughtKey, Sought, near};
+ghost use Rattle.nodes.specs.Flat.{soughtKey, keyOf, Sought, near};
 
-// A coordinate to look for: its key, the same as a double, and itself.
+// A key to look for, as a coordinate that has it: scaled, and itself. Most searches end before the key is worked out.
 pub struct SoughtKey {
-    pub key: i64,
-    pub value: f64,
+    pub scaled: f64,
     pub own: f64,
 }
 
@@ -39,33 +38,32 @@ impl SoughtKey {
         requires { ⌜ Within 1024 x ⌝ }
         ensures { λ r. ⌜ (r ≡ soughtKey x) × Sought r ⌝ }
     {
-        let k = key(x);
         SoughtKey {
-            key: k,
-            value: k as f64,
+            scaled: x * 1.0e8,
             own: x,
         }
     }
 
     // Whether x is near enough to have this key. That is one comparison, and nearly always it is not.
     pub fn is_near(self, x: f64) -> bool
-        ensures { λ r. ⌜ r ≡ near (self .value) x ⌝ }
+        ensures { λ r. ⌜ r ≡ near (self .scaled) x ⌝ }
     {
-        let d = x * 1.0e8 - self.value;
-        !(d * d >= 2.0)
+        let d = x * 1.0e8 - self.scaled;
+        !(d * d >= 8.0)
     }
 
     // Where the two are equal, as nearly always when their keys are, no key is worked out.
     pub fn is_key_of(self, x: f64) -> bool
         requires { ⌜ Within 1024 x × Sought self ⌝ }
-        ensures { λ r. ⌜ r ≡ eqZ (self .key) (Nodes.key x) ⌝ }
+        ensures { λ r. ⌜ r ≡ eqZ (keyOf self) (Nodes.key x) ⌝ }
     {
         if x == self.own {
             return true;
         }
         if self.is_near(x) {
             let k = key(x);
-            return k == self.key;
+            let own = key(self.own);
+            return k == own;
         }
         false
     }
@@ -74,7 +72,7 @@ impl SoughtKey {
 // Whether the point x, y has the two keys.
 pub fn has_key(kx: SoughtKey, ky: SoughtKey, x: f64, y: f64) -> bool
     requires { ⌜ Within 1024 x × Within 1024 y × Sought kx × Sought ky ⌝ }
-    ensures { λ r. ⌜ r ≡ (eqZ (kx .key) (Nodes.key x) && eqZ (ky .key) (Nodes.key y)) ⌝ }
+    ensures { λ r. ⌜ r ≡ (eqZ (keyOf kx) (Nodes.key x) && eqZ (keyOf ky) (Nodes.key y)) ⌝ }
 {
     if kx.is_key_of(x) {
         return ky.is_key_of(y);

@@ -15,7 +15,7 @@ ghost use lib.ListN.{length};
 ghost use Rattle.laws.specs.Bounded.{any, first};
 ghost use Rattle.nodes.specs.Nodes.{number, addNode};
 ghost use Rattle.nodes.specs.Growth.{InRange};
-ghost use Rattle.nodes.specs.Flat.{pointAt, nodesIn, over, Usable, placed, Sought, near, hasAt};
+ghost use Rattle.nodes.specs.Flat.{pointAt, nodesIn, over, Usable, placed, keyOf, Sought, near, hasAt};
 ghost use Rattle.nodes.specs.Nearby.{Held};
 pub use held::all_held;
 pub use held::is_held;
@@ -41,7 +41,7 @@ pub struct Placed {
 // The first place with the two keys among those from `from` on, or `to`.
 fn find_in(nodes: &[f64], from: usize, to: usize, kx: SoughtKey, ky: SoughtKey) -> usize
     requires { ⌜ Usable (now nodes) to × (from ≤ to) × Sought kx × Sought ky ⌝ }
-    ensures { λ r. ⌜ r ≡ first (hasAt (now (nodes .entry)) (kx .key) (ky .key)) (to - from) from ⌝ }
+    ensures { λ r. ⌜ r ≡ first (hasAt (now (nodes .entry)) (keyOf kx) (keyOf ky)) (to - from) from ⌝ }
 {
     for i in from..to {
         let x = nodes[i * 2];
@@ -57,7 +57,7 @@ fn find_in(nodes: &[f64], from: usize, to: usize, kx: SoughtKey, ky: SoughtKey) 
 // Whether one of the 16 nodes from place i on is near the key. Nothing ends the loop, so that two are judged at once.
 fn any_near(nodes: &[f64], i: usize, kx: SoughtKey) -> bool
     requires { ⌜ (i + 16) * 2 ≤ length (now nodes) ⌝ }
-    ensures { λ r. ⌜ r ≡ any (λ j. near (kx .value) (pointAt (now (nodes .entry)) (i + j) .x)) 16 ⌝ }
+    ensures { λ r. ⌜ r ≡ any (λ j. near (kx .scaled) (pointAt (now (nodes .entry)) (i + j) .x)) 16 ⌝ }
 {
     let mut found = false;
     for j in 0..16 {
@@ -70,7 +70,7 @@ fn any_near(nodes: &[f64], i: usize, kx: SoughtKey) -> bool
 // and does no harm.
 fn find_block(nodes: &[f64], from: usize, to: usize, kx: SoughtKey, ky: SoughtKey) -> usize
     requires { ⌜ Usable (now nodes) to × (from ≤ to) × (to ≤ from + 16) × (16 ≤ to) × Sought kx × Sought ky ⌝ }
-    ensures { λ r. ⌜ r ≡ first (hasAt (now (nodes .entry)) (kx .key) (ky .key)) (to - from) from ⌝ }
+    ensures { λ r. ⌜ r ≡ first (hasAt (now (nodes .entry)) (keyOf kx) (keyOf ky)) (to - from) from ⌝ }
 {
     if any_near(nodes, to - 16, kx) {
         return find_in(nodes, from, to, kx, ky);
@@ -81,7 +81,7 @@ fn find_block(nodes: &[f64], from: usize, to: usize, kx: SoughtKey, ky: SoughtKe
 // The first place with the two keys among those from `from` on, or `used`.
 fn find_from(nodes: &[f64], from: usize, used: usize, kx: SoughtKey, ky: SoughtKey) -> usize
     requires { ⌜ Usable (now nodes) used × (from ≤ used) × Sought kx × Sought ky ⌝ }
-    ensures { λ r. ⌜ r ≡ first (hasAt (now (nodes .entry)) (kx .key) (ky .key)) (used - from) from ⌝ }
+    ensures { λ r. ⌜ r ≡ first (hasAt (now (nodes .entry)) (keyOf kx) (keyOf ky)) (used - from) from ⌝ }
 {
     if used < 16 {
         return find_in(nodes, from, used, kx, ky);

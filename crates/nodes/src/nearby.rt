@@ -11,8 +11,8 @@ ghost use lib.Dec.{leb};
 ghost use lib.Ieee.{nan};
 ghost use Rattle.laws.specs.Within.{Within};
 ghost use Rattle.laws.specs.Bounded.{any, first};
-ghost use Rattle.nodes.specs.Flat.{Usable, Sought, near};
-ghost use Rattle.nodes.specs.Nearby.{mostNearby, span, Spans, inSpan, Framed, inWindow, insideAt, strictly, surrounds, inside, xsOf, laid, nearby, Gathered, GoesOn, Lists, hasListed};
+ghost use Rattle.nodes.specs.Flat.{Usable, keyOf, Sought, near};
+ghost use Rattle.nodes.specs.Nearby.{mostNearby, span, Spans, inSpan, Framed, inWindow, insideAt, wellIn, wellInside, inside, xsOf, laid, nearby, Gathered, GoesOn, Lists, hasListed};
 use super::NodeNumber;
 use super::keys;
 use super::keys::SoughtKey;
@@ -20,12 +20,12 @@ use super::keys::SoughtKey;
 // So many nodes are collected at most.
 pub const MOST_NEARBY: usize = 256;
 
-// The coordinates from lo to hi, and the keys of these two ends.
+// The coordinates from lo to hi; and the least and the most of the keys strictly between those of these two ends, as doubles.
 pub struct Span {
     pub lo: f64,
     pub hi: f64,
-    pub least: i64,
-    pub most: i64,
+    pub least: f64,
+    pub most: f64,
 }
 
 // A box.
@@ -52,8 +52,8 @@ impl Span {
         Span {
             lo: lo,
             hi: hi,
-            least: a,
-            most: b,
+            least: (a + 1) as f64,
+            most: (b - 1) as f64,
         }
     }
 
@@ -63,15 +63,11 @@ impl Span {
         (self.lo <= x) & (x <= self.hi)
     }
 
-    // Whether the key lies strictly between those of the ends.
+    // Whether the key lies strictly between those of the ends: the scaled coordinate is rounded to no key beyond the two.
     pub fn strict(self, k: SoughtKey) -> bool
-        requires { ⌜ Spans self × Sought k ⌝ }
-        ensures { λ r. ⌜ r ≡ strictly self (k .key) ⌝ }
+        ensures { λ r. ⌜ r ≡ wellIn self (k .scaled) ⌝ }
     {
-        if self.least < k.key {
-            return k.key < self.most;
-        }
-        false
+        (self.least <= k.scaled) & (k.scaled <= self.most)
     }
 }
 
@@ -95,8 +91,7 @@ impl Window {
     }
 
     pub fn strict(self, kx: SoughtKey, ky: SoughtKey) -> bool
-        requires { ⌜ Framed self × Sought kx × Sought ky ⌝ }
-        ensures { λ r. ⌜ r ≡ surrounds self (kx .key) (ky .key) ⌝ }
+        ensures { λ r. ⌜ r ≡ wellInside self (kx .scaled) (ky .scaled) ⌝ }
     {
         let a = self.x;
         let b = self.y;
@@ -110,8 +105,7 @@ impl Window {
 impl Nearby {
     // Whether a point with these keys is among the collected nodes, if it is among the first `old` at all.
     pub fn decides(self, kx: SoughtKey, ky: SoughtKey) -> bool
-        requires { ⌜ Framed (self .window) × Sought kx × Sought ky ⌝ }
-        ensures { λ r. ⌜ r ≡ (leb (self .count) mostNearby && surrounds (self .window) (kx .key) (ky .key)) ⌝ }
+        ensures { λ r. ⌜ r ≡ (leb (self .count) mostNearby && wellInside (self .window) (kx .scaled) (ky .scaled)) ⌝ }
     {
         let w = self.window;
         if self.count <= MOST_NEARBY {
@@ -326,7 +320,7 @@ pub fn collect(
 // Whether one of 16 collected nodes is near the key.
 fn any_close(xs: &[f64], i: usize, kx: SoughtKey) -> bool
     requires { ⌜ i + 16 ≤ length (now xs) ⌝ }
-    ensures { λ r. ⌜ r ≡ any (λ j. near (kx .value) (getD (now (xs .entry)) (i + j) nan)) 16 ⌝ }
+    ensures { λ r. ⌜ r ≡ any (λ j. near (kx .scaled) (getD (now (xs .entry)) (i + j) nan)) 16 ⌝ }
 {
     let mut found = false;
     for j in 0..16 {
@@ -347,7 +341,7 @@ fn find_listed_in(
     ky: SoughtKey,
 ) -> usize
     requires { ⌜ Usable (now nodes) old × Lists (now nodes) old (now numbers) (now xs) to × (from ≤ to) × Sought kx × Sought ky ⌝ }
-    ensures { λ r. ⌜ r ≡ first (hasListed (now (nodes .entry)) (now (numbers .entry)) (kx .key) (ky .key)) (to - from) from ⌝ }
+    ensures { λ r. ⌜ r ≡ first (hasListed (now (nodes .entry)) (now (numbers .entry)) (keyOf kx) (keyOf ky)) (to - from) from ⌝ }
 {
     for j in from..to {
         let x = xs[j];
@@ -373,7 +367,7 @@ fn find_listed_block(
     ky: SoughtKey,
 ) -> usize
     requires { ⌜ Usable (now nodes) old × Lists (now nodes) old (now numbers) (now xs) to × (from ≤ to) × (to ≤ from + 16) × (from + 16 ≤ mostNearby) × Sought kx × Sought ky ⌝ }
-    ensures { λ r. ⌜ r ≡ first (hasListed (now (nodes .entry)) (now (numbers .entry)) (kx .key) (ky .key)) (to - from) from ⌝ }
+    ensures { λ r. ⌜ r ≡ first (hasListed (now (nodes .entry)) (now (numbers .entry)) (keyOf kx) (keyOf ky)) (to - from) from ⌝ }
 {
     if any_close(xs, from, kx) {
         return find_listed_in(nodes, old, numbers, xs, from, to, kx, ky);
@@ -392,7 +386,7 @@ pub fn find_listed(
     ky: SoughtKey,
 ) -> usize
     requires { ⌜ Usable (now nodes) old × Lists (now nodes) old (now numbers) (now xs) count × Sought kx × Sought ky ⌝ }
-    ensures { λ r. ⌜ r ≡ first (hasListed (now (nodes .entry)) (now (numbers .entry)) (kx .key) (ky .key)) count 0 ⌝ }
+    ensures { λ r. ⌜ r ≡ first (hasListed (now (nodes .entry)) (now (numbers .entry)) (keyOf kx) (keyOf ky)) count 0 ⌝ }
 {
     let mut i = 0;
     while i < count {

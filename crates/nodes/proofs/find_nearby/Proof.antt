@@ -19,9 +19,7 @@ new-requires-2 : tie.Need-new-requires-2
 new-requires-2 c κs = search needs
 
 decides-requires : tie.Need-decides-requires
-decides-requires c κs =
-    let n = c .before in
-    (n .before .before .before .before .pre .2 .framed, n .new .ensures .1, c .new2 .ensures .1)
+decides-requires c κs = search needs
 
 find-from-requires : tie.Need-find-from-requires
 find-from-requires c κs = search needs
@@ -37,7 +35,7 @@ find-listed-requires c κs =
     let m = c .before .before in
     let n = m .before in
     let s = n .before .before .before .before in
-    let r = collection.searchable _ _ _ _ _ (s .args .p) _ _ (s .pre .2) (s .pre .0) (n .new .ensures .0) (m .new2 .ensures .0) (sym (c .before .decides .ensures) ∙ is-true _ (c .if1 .left)) in
+    let r = collection.searchable _ _ _ _ _ (s .args .p) _ _ (s .pre .2) (s .pre .0) (n .new .ensures .0) (m .new2 .ensures .0) (n .new .ensures .1) (m .new2 .ensures .1) (sym (c .before .decides .ensures) ∙ is-true _ (c .if1 .left)) in
     (r .0, r .1, n .new .ensures .1, m .new2 .ensures .1)
 
 -- a place among the collected
@@ -53,7 +51,7 @@ low c =
     let m = d .before .before in
     let n = m .before in
     let s = n .before .before .before .before in
-    collection.room-at _ _ _ _ _ (s .args .p) _ _ (s .pre .2) (s .pre .0) (n .new .ensures .0) (m .new2 .ensures .0) (sym (d .before .decides .ensures) ∙ is-true _ (d .if1 .left)) _ (c .if2 .taken)
+    collection.room-at _ _ _ _ _ (s .args .p) _ _ (s .pre .2) (s .pre .0) (n .new .ensures .0) (m .new2 .ensures .0) (n .new .ensures .1) (m .new2 .ensures .1) (sym (d .before .decides .ensures) ∙ is-true _ (d .if1 .left)) _ (c .if2 .taken)
 
 mul-result : tie.Need-mul-result
 mul-result c = omega (arith, low c .1)
@@ -72,7 +70,7 @@ returns-2 c =
     let m = d .before .before in
     let n = m .before in
     let s = n .before .before .before .before in
-    collection.found _ _ _ _ _ (s .args .p) _ _ (s .pre .2) (s .pre .0) (n .new .ensures .0) (m .new2 .ensures .0) (sym (d .before .decides .ensures) ∙ is-true _ (d .if1 .left)) _ (f .find-listed .ensures) (t .if2 .taken)
+    collection.found _ _ _ _ _ (s .args .p) _ _ (s .pre .2) (s .pre .0) (n .new .ensures .0) (m .new2 .ensures .0) (n .new .ensures .1) (m .new2 .ensures .1) (sym (d .before .decides .ensures) ∙ is-true _ (d .if1 .left)) _ (f .find-listed .ensures) (t .if2 .taken)
 
 find-from-requires-2 : tie.Need-find-from-requires-2
 find-from-requires-2 c κs =
@@ -88,7 +86,7 @@ returns-3 c =
     let m = d .before .before in
     let n = m .before in
     let s = n .before .before .before .before in
-    collection.not-found _ _ _ _ _ (s .args .p) _ _ (s .pre .2) (s .pre .0) (n .new .ensures .0) (m .new2 .ensures .0) (sym (d .before .decides .ensures) ∙ is-true _ (d .if1 .left)) _ (f .find-listed .ensures) _ (t .if2 .left) (c .find-from2 .ensures)
+    collection.not-found _ _ _ _ _ (s .args .p) _ _ (s .pre .2) (s .pre .0) (n .new .ensures .0) (m .new2 .ensures .0) (n .new .ensures .1) (m .new2 .ensures .1) (sym (d .before .decides .ensures) ∙ is-true _ (d .if1 .left)) _ (f .find-listed .ensures) _ (t .if2 .left) (c .find-from2 .ensures)
 
 pub find-nearby-spec : {M : Type 1} → statement M
 find-nearby-spec =

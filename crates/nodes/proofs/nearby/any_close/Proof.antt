@@ -12,7 +12,7 @@ use Rattle.nodes.proofs.nearby.any_close.Statement.{statement}
 use Rattle.nodes.proofs.nearby.any_close.Tie as tie
 
 abbrev Inv-loop : tie.InvT-loop
-Inv-loop xs i kx found₀ j₀ found j = (j ≤ 16) × (found ≡ any (λ k. near (kx .value) (getD xs (i + k) nan)) j)
+Inv-loop xs i kx found₀ j₀ found j = (j ≤ 16) × (found ≡ any (λ k. near (kx .scaled) (getD xs (i + k) nan)) j)
 
 abbrev μ-loop : tie.MeasureT-loop
 μ-loop xs i kx found₀ j₀ found j = 16 - j

@@ -6,6 +6,7 @@ use mathlib.Core.Path.{_≡_, refl, sym, _∙_}
 use borrow.Author.Needs.{needs}
 use Rattle.laws.specs.Bounded.{first}
 use Rattle.laws.proofs.Search.{first-start, first-end}
+use Rattle.nodes.specs.Flat.{keyOf}
 use Rattle.nodes.specs.Nearby.{hasListed}
 use Rattle.nodes.proofs.Scan.{part-hit, part-pass}
 use Rattle.nodes.proofs.Collection.{lists-fewer}
@@ -14,7 +15,7 @@ use Rattle.nodes.proofs.nearby.find_listed.Tie as tie
 
 abbrev Inv-loop : tie.InvT-loop
 Inv-loop nodes old numbers xs count kx ky i₀ i =
-    (i ≤ count) × (i < count → i % 16 ≡ 0) × (first (hasListed nodes numbers (kx .key) (ky .key)) (count - i) i ≡ first (hasListed nodes numbers (kx .key) (ky .key)) count 0)
+    (i ≤ count) × (i < count → i % 16 ≡ 0) × (first (hasListed nodes numbers (keyOf kx) (keyOf ky)) (count - i) i ≡ first (hasListed nodes numbers (keyOf kx) (keyOf ky)) count 0)
 
 abbrev μ-loop : tie.MeasureT-loop
 μ-loop nodes old numbers xs count kx ky i₀ i = count - i

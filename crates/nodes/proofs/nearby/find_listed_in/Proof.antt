@@ -11,13 +11,14 @@ use Rattle.laws.specs.Bounded.{first}
 use Rattle.laws.specs.Within.{Within}
 use Rattle.laws.proofs.Search.{first-hit, first-pass, first-end}
 use Rattle.nodes.specs.Nodes.{mostPlaces}
+use Rattle.nodes.specs.Flat.{keyOf}
 use Rattle.nodes.specs.Nearby.{hasListed}
 use Rattle.nodes.proofs.Collection.{listed-is, not-close}
 use Rattle.nodes.proofs.nearby.find_listed_in.Statement.{statement}
 use Rattle.nodes.proofs.nearby.find_listed_in.Tie as tie
 
 abbrev Inv-loop : tie.InvT-loop
-Inv-loop nodes old numbers xs from to kx ky j₀ j = (j ≤ to) × (first (hasListed nodes numbers (kx .key) (ky .key)) (to - j) j ≡ first (hasListed nodes numbers (kx .key) (ky .key)) (to - from) from)
+Inv-loop nodes old numbers xs from to kx ky j₀ j = (j ≤ to) × (first (hasListed nodes numbers (keyOf kx) (keyOf ky)) (to - j) j ≡ first (hasListed nodes numbers (keyOf kx) (keyOf ky)) (to - from) from)
 
 abbrev μ-loop : tie.MeasureT-loop
 μ-loop nodes old numbers xs from to kx ky j₀ j = to - j
@@ -84,14 +85,14 @@ returns c =
 other : (c : tie.Joined1 Inv-loop μ-loop)
     → let i = c .before .before .before in
     let a = begin i .args in
-    hasListed (a .nodes .now) (a .numbers .now) (a .kx .key) (a .ky .key) (i .before .loop .j) ≡ false
+    hasListed (a .nodes .now) (a .numbers .now) (keyOf (a .kx)) (keyOf (a .ky)) (i .before .loop .j) ≡ false
 other c =
     let i = c .before .before .before in
     let p = begin i .pre in
     let h = i .loop-test .taken in
     ⊎-elim
     (λ t. listed-is _ _ _ _ _ _ _ _ (p .1) h ∙ sym (t .3 .ensures) ∙ t .4 .left)
-    (λ t. not-close _ _ _ _ _ (begin i .args .kx) (begin i .args .ky .key) _ (p .1) (p .3) (p .0) h (sym (c .before .is-near .ensures) ∙ t .left))
+    (λ t. not-close _ _ _ _ _ (begin i .args .kx) (keyOf (begin i .args .ky)) _ (p .1) (p .3) (p .0) h (sym (c .before .is-near .ensures) ∙ t .left))
     (c .if1 .came)
 
 add-j : tie.Need-add-j Inv-loop μ-loop
