@@ -78,12 +78,13 @@ fn find_block(nodes: &[f64], from: usize, to: usize, kx: SoughtKey, ky: SoughtKe
     to
 }
 
-// The first place with the two keys among those from `from` on, or `used`.
+// The first place with the two keys among those from `from` on, or `used`. Fewer than 16 are looked at one by one: of a block
+// most would stand before `from`.
 fn find_from(nodes: &[f64], from: usize, used: usize, kx: SoughtKey, ky: SoughtKey) -> usize
     requires { ⌜ Usable (now nodes) used × (from ≤ used) × Sought kx × Sought ky ⌝ }
     ensures { λ r. ⌜ r ≡ first (hasAt (now (nodes .entry)) (keyOf kx) (keyOf ky)) (used - from) from ⌝ }
 {
-    if used < 16 {
+    if used - from < 16 {
         return find_in(nodes, from, used, kx, ky);
     }
     let mut i = from;
