@@ -128,7 +128,7 @@ fn time(name: &str, xs: &[f64]) {
         }
         best[1] = best[1].min(start.elapsed().as_nanos() as f64 / calls);
     }
-    println!("{name}: root_bits {:.1} ns, processor {:.1} ns a call", best[0], best[1]);
+    println!("| {name} | {:.1} | {:.1} |", best[0], best[1]);
 }
 
 fn main() {
@@ -141,7 +141,9 @@ fn main() {
     while t.run < millions * 1_000_000 {
         kinds(&mut t, &mut r, 10_000);
     }
-    println!("{} patterns, {} of them below zero or NaN, {} differ (seed {seed})", t.run, t.nan, t.wrong);
+    println!("{} patterns, {} of them below zero or NaN, {} differ (seed {seed}); ns a call:\n", t.run, t.nan, t.wrong);
+    println!("| numbers | root_bits | processor |");
+    println!("|---|---:|---:|");
 
     let mut lengths = Vec::new();
     let mut any = Vec::new();

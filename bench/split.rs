@@ -6,8 +6,7 @@
 //! of the pieces, and its mark, has been looked at; both must have seen the
 //! same. The Rust's ring is ready as its Poly, and its pieces are freed outside
 //! the clock. Ours comes as flat lists, as a caller lends them: the points and
-//! marks are made of them inside the clock. The oracle's notes are inside the
-//! Rust's.
+//! marks are made of them inside the clock.
 
 // Shared with the oracle, which uses all of these.
 #[allow(dead_code)]
@@ -20,32 +19,31 @@ mod call;
 #[path = "../oracle/calls.rs"]
 mod calls;
 #[allow(dead_code)]
+mod clock;
+#[allow(dead_code)]
 #[path = "../oracle/forms.rs"]
 mod forms;
 #[allow(dead_code)]
 #[path = "../oracle/job.rs"]
 mod job;
 #[allow(dead_code)]
-#[path = "../oracle/notes.rs"]
+#[path = "notes.rs"]
 mod notes;
 #[allow(dead_code)]
 #[path = "../target/oracle/stage.rs"]
 mod stage;
 #[path = "../oracle/standin.rs"]
 mod standin;
-#[allow(dead_code)]
-#[path = "../oracle/time.rs"]
-mod time;
 
 use blocks::Jobs;
 use call::{in_mm, in_units, NodeList};
+use clock::{both, count, median, REPEATS};
 use forms::{run, CELL_PLACES, NODE_PLACES};
 use job::Job;
 use stage::Poly;
 use std::hint::black_box;
 use std::path::Path;
 use std::time::Instant;
-use time::{median, REPEATS};
 
 #[link(name = "timed", kind = "static")]
 extern "C" {
@@ -53,27 +51,25 @@ extern "C" {
 }
 
 fn main() {
-    println!("ns a call               Rust             ours");
-    println!("kind     rings     mean  median     mean  median  cuts");
+    println!("| kind | rings | cuts a ring | Rust | split |");
+    println!("|---|---:|---:|---|---|");
     for file in std::env::args().skip(1) {
         let bytes = std::fs::read(&file).expect("the blocks can be read");
         let rings: Vec<Poly> = Jobs::new(&bytes).flatten().filter_map(ring).collect();
         let (mut rust, mut ours, mut cuts) = (Vec::new(), Vec::new(), 0);
         for ring in &rings {
-            let times = both(ring);
+            let times = sides(ring);
             rust.push(times.rust);
             ours.push(times.ours);
             cuts += times.cuts;
         }
         let kind = Path::new(&file).file_stem().expect("a name").display();
         println!(
-            "{kind:8} {:5}  {:7} {:7}  {:7} {:7}  {:4.1}",
-            rings.len(),
-            mean(&rust),
-            median(&mut rust),
-            mean(&ours),
-            median(&mut ours),
-            cuts as f64 / rings.len() as f64
+            "| {kind} | {} | {:.1} | {} | {} |",
+            count(rings.len()),
+            cuts as f64 / rings.len() as f64,
+            both(&mut rust),
+            both(&mut ours)
         );
     }
 }
@@ -97,7 +93,7 @@ struct Times {
 }
 
 /// Both sides in turn, and the medians.
-fn both(ring: &Poly) -> Times {
+fn sides(ring: &Poly) -> Times {
     let units = |p: &[f64; 2]| in_units(*p).map(|u| i32::try_from(u).expect("on the sheet"));
     let points: Vec<i32> = ring.points.iter().flat_map(units).collect();
     let straight = [f64::INFINITY; 2];
@@ -141,8 +137,4 @@ fn seen(pieces: &[Poly]) -> u64 {
         }
     }
     sum
-}
-
-fn mean(times: &[u64]) -> u64 {
-    times.iter().sum::<u64>() / times.len().max(1) as u64
 }

@@ -113,19 +113,38 @@ pub fn divide_with(
     cells: &mut [Cell],
     cell_count: usize,
 ) -> (Answer, Vec<Poly>) {
-    notes::take();
-    let set = entry.set();
-    standin::limited(set);
-    let kept = Answer {
+    let code = first_tests(entry, job, marking, list, cells.len(), cell_count);
+    if code != 0 {
+        notes::take();
+        let kept = kept(list, cell_count);
+        return (Answer { code, ..kept }, Vec::new());
+    }
+    tested(entry, job, marking, list, cells, cell_count)
+}
+
+/// The answer of a call that leaves all as found.
+fn kept(list: &NodeList, cell_count: usize) -> Answer {
+    Answer {
         nodes: list.used,
         cells: cell_count,
         ..Answer::default()
-    };
-    let refused = |code| (Answer { code, ..kept }, Vec::new());
-    let code = first_tests(entry, job, marking, list, cells.len(), cell_count);
-    if code != 0 {
-        return refused(code);
     }
+}
+
+/// The same of a call that passed the tests of its entry.
+pub fn tested(
+    entry: &Entry,
+    job: &Job,
+    marking: Option<&Marking>,
+    list: &mut NodeList,
+    cells: &mut [Cell],
+    cell_count: usize,
+) -> (Answer, Vec<Poly>) {
+    notes::take();
+    let set = entry.set();
+    standin::limited(set);
+    let kept = kept(list, cell_count);
+    let refused = |code| (Answer { code, ..kept }, Vec::new());
     let points = match stage::cleaned(&in_mm(&job.ring), f64::from(job.size)) {
         Ok(points) => points,
         Err(text) if text.contains("collapsed") => return refused(5),

@@ -8,8 +8,6 @@
 //! compare sheet FILE        the supplied calls of the cell sheet
 //! compare prints SEED COUNT sheets of 1,000 tried doubles beside an exact decimal printer
 //! compare details FOLDER    the detailed forms of a folder of vectors
-//! compare time < BLOCKS     both sides on the same rings
-//! compare scan              the square on lists with many used nodes
 //! compare memory < BLOCKS   stack and heap of a call on both sides
 
 // Shared with the oracle, which uses all of these.
@@ -39,8 +37,6 @@ mod sides;
 #[allow(dead_code)]
 mod stage;
 mod standin;
-#[allow(dead_code)]
-mod time;
 #[allow(dead_code)]
 mod traced;
 
@@ -97,11 +93,9 @@ fn main() {
         ["sheet", file] => over_sheet(file),
         ["prints", seed, count] => over_prints(seed, count),
         ["details", folder] => over_details(folder),
-        ["time"] => print!("{}", sides::times(&input())),
-        ["scan"] => print!("{}", sides::scan()),
         ["memory"] => print!("{}", memory::peaks(&input())),
         _ => {
-            eprintln!("use: compare blocks|calls|writes|time|memory < INPUT, desk FILE, sheet FILE, prints SEED COUNT, details FOLDER, or scan");
+            eprintln!("use: compare blocks|calls|writes|memory < INPUT, desk FILE, sheet FILE, prints SEED COUNT, or details FOLDER");
             std::process::exit(2)
         }
     }

@@ -158,7 +158,7 @@ impl From<&Answer> for Returned {
 const GUARD: usize = 16;
 
 /// A list between guards, every number of which is known.
-#[derive(Clone)]
+#[derive(Clone, PartialEq)]
 pub struct Guarded<T> {
     numbers: Vec<T>,
     len: usize,

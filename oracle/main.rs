@@ -6,7 +6,6 @@
 //! oracle each < BLOCKS     the same, each ring on an empty list
 //! oracle stages < BLOCKS   what each module gives
 //! oracle census < BLOCKS   how often what matters happened
-//! oracle time < BLOCKS     time of a call
 //! oracle calls < CALLS     the detailed form of calls over prefilled lists
 
 mod blocks;
@@ -25,7 +24,6 @@ mod paper;
 mod stage;
 mod stages;
 mod standin;
-mod time;
 #[allow(dead_code)]
 mod traced;
 
@@ -43,11 +41,10 @@ fn main() {
         "detail" => forms::detailed(&input),
         "each" => forms::detailed_each(&input),
         "census" => census::all(&input),
-        "time" => time::all(&input),
         "stages" => stages::all(&input),
         "calls" => forms::called(std::str::from_utf8(&input).expect("calls are text")),
         _ => {
-            eprintln!("use: oracle divide|sheet|detail|each|stages|census|time|calls < INPUT");
+            eprintln!("use: oracle divide|sheet|detail|each|stages|census|calls < INPUT");
             std::process::exit(2)
         }
     };

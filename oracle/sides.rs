@@ -1,5 +1,4 @@
-//! The library alone: its detailed form against kept files, and its times
-//! beside the Rust's.
+//! The library alone: its detailed form against kept files.
 
 use crate::blocks::Jobs;
 use crate::call::{Answer, NodeList, NodeNumber};
@@ -7,9 +6,7 @@ use crate::calls;
 use crate::forms::{answer_line, line, CELL_PLACES, NODE_PLACES};
 use crate::job::Job;
 use crate::library::{call, cell_image, node_image, whole, Guarded, Returned};
-use crate::time::{in_use, median, one, report, REPEATS, USED};
 use std::path::Path;
-use std::time::Instant;
 
 /// Does the library give the detailed form that stands beside `input`? The
 /// lines of pieces are left out: pieces are not returned.
@@ -135,61 +132,4 @@ fn answer(a: &Returned) -> Answer {
         nodes: a.nodes as usize,
         cells: a.cells as usize,
     }
-}
-
-/// Both sides on the same rings, in the way of the oracle's `time`.
-pub fn times(bytes: &[u8]) -> String {
-    let jobs: Vec<Job> = Jobs::new(bytes).flatten().collect();
-    let mut out = String::new();
-    for used in USED {
-        let list = in_use(NODE_PLACES, used);
-        let image = node_image(&list, 0);
-        let (mut rust, mut ours) = (Vec::new(), Vec::new());
-        for job in &jobs {
-            rust.push(one(job, &list));
-            ours.push(library_time(job, &image, used, REPEATS));
-        }
-        out.push_str("rust    ");
-        report(&mut out, used, rust);
-        out.push_str("library ");
-        report(&mut out, used, ours);
-    }
-    out
-}
-
-/// The square, which asks for nine points, on lists of 65,535 places: the time
-/// of a call, and what each used node adds to it, for one of the nine points.
-pub fn scan() -> String {
-    let square = Job {
-        ring: vec![[0, 0], [8_192, 0], [8_192, 8_192], [0, 8_192]],
-        size: 1,
-        ..Job::default()
-    };
-    let time = |used| {
-        let image = node_image(&in_use(65_535, used), 0);
-        library_time(&square, &image, used, 501)
-    };
-    let empty = time(0);
-    let mut out = String::new();
-    for used in [250, 1_536, 65_500] {
-        let call = time(used);
-        let node = (call as f64 - empty as f64) / (9 * used) as f64;
-        line(
-            &mut out,
-            format_args!("used {used} call {call} ns a node {node:.2} ns"),
-        );
-    }
-    out
-}
-
-fn library_time(job: &Job, image: &Guarded<f64>, used: usize, repeats: usize) -> u64 {
-    let mut times = Vec::new();
-    for _ in 0..repeats {
-        let (mut nodes, mut cells) = (image.clone(), cell_image(CELL_PLACES, 0));
-        let start = Instant::now();
-        let answer = call(whole(job), job, nodes.list(), used, cells.list(), 0);
-        times.push(start.elapsed().as_nanos() as u64);
-        std::hint::black_box(answer);
-    }
-    median(&mut times)
 }
