@@ -5,7 +5,7 @@
 
 use crate::call::{divide, tested, NodeList, UNTOUCHED};
 use crate::forms::CELL_PLACES;
-use crate::job::Job;
+use crate::job::{Entry, Job};
 use std::hint::black_box;
 use std::time::Instant;
 
