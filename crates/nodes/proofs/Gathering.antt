@@ -181,12 +181,6 @@ module _ (l : List Float) (w : Window) (a : List ℕ) (b : List Float) where
       subst (λ (r : Nearby). Held l old r numbers xs) (sym e)
       (record { old = le-refl old; framed = f; complete = λ h. collected old (counted (length (inside w l old))) numbers xs p q h (record { count = refl; are = c; are-x = d }) })
 
--- ---- d nodes before place n, of which none is in the window
-pub none-inside : (l : List Float) (w : Window) (d m n : ℕ) → n ≤ m + d → d ≤ n → any (λ j. insideAt w l (n - d + j)) d ≡ false → (i : ℕ) → m ≤ i → i < n → insideAt w l i ≡ false
-none-inside l w d m n g k e i p q =
-    let z : n - d + (i - (n - d)) ≡ i = omega arith in
-    subst (λ (h : ℕ). insideAt w l h ≡ false) z (is-false _ (any-none (λ j. insideAt w l (n - d + j)) d (subst (λ (b : Bool). T (not b)) (sym e) tt) (i - (n - d)) (omega arith)))
-
 -- ---- d nodes before place n, of which none has its x in the window, or none its y
 module _ (l : List Float) (w : Window) (d m n : ℕ) (g : n ≤ m + d) (k : d ≤ n) where
   clear : (t : Span) (at : ℕ) → any (λ j. inSpan t (getD l (at + j * 2) nan)) d ≡ false → (j h : ℕ) → j < d → at + j * 2 ≡ h → inSpan t (getD l h nan) ≡ false

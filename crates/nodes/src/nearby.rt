@@ -12,7 +12,7 @@ ghost use lib.Ieee.{nan};
 ghost use Rattle.laws.specs.Within.{Within};
 ghost use Rattle.laws.specs.Bounded.{any, first};
 ghost use Rattle.nodes.specs.Flat.{Usable, keyOf, Sought, near};
-ghost use Rattle.nodes.specs.Nearby.{mostNearby, span, Spans, inSpan, Framed, inWindow, insideAt, wellIn, wellInside, inside, xsOf, laid, nearby, Gathered, GoesOn, Lists, hasListed};
+ghost use Rattle.nodes.specs.Nearby.{mostNearby, span, Spans, inSpan, Framed, inWindow, wellIn, wellInside, inside, xsOf, laid, nearby, Gathered, GoesOn, Lists, hasListed};
 use super::NodeNumber;
 use super::keys;
 use super::keys::SoughtKey;
@@ -168,67 +168,8 @@ fn collect_in(
     k
 }
 
-// Whether one of the 16 nodes from place i on is in the window.
-fn any_inside(nodes: &[f64], i: usize, w: Window) -> bool
-    requires { ⌜ (i + 16) * 2 ≤ length (now nodes) ⌝ }
-    ensures { λ r. ⌜ r ≡ any (λ j. insideAt w (now (nodes .entry)) (i + j)) 16 ⌝ }
-{
-    let mut found = false;
-    for j in 0..16 {
-        let at = (i + j) * 2;
-        found = found | w.holds(nodes[at], nodes[at + 1]);
-    }
-    found
-}
-
-// The same as collect_in of at most 16 nodes. The 16 before `to` are judged first: one that stands before `from` may be in
-// the window and does no harm.
-fn collect_few(
-    nodes: &[f64],
-    from: usize,
-    to: usize,
-    w: Window,
-    numbers: &mut [NodeNumber],
-    xs: &mut [f64],
-    n: usize,
-) -> usize
-    requires { ⌜ Usable (now nodes) to × (from ≤ to) × (to ≤ from + 16) × (16 ≤ to) × (length (now numbers) ≡ mostNearby) × (length (now xs) ≡ mostNearby) × (n ≤ mostNearby) ⌝ }
-    ensures { λ r. ⌜ GoesOn (now (nodes .entry)) w from (now (numbers .entry)) (now (xs .entry)) n to (now (numbers .exit)) (now (xs .exit)) r ⌝ }
-{
-    if any_inside(nodes, to - 16, w) {
-        return collect_in(nodes, from, to, w, numbers, xs, n);
-    }
-    n
-}
-
-// The same, 16 nodes after 16.
-fn collect_near(
-    nodes: &[f64],
-    from: usize,
-    to: usize,
-    w: Window,
-    numbers: &mut [NodeNumber],
-    xs: &mut [f64],
-    n: usize,
-) -> usize
-    requires { ⌜ Usable (now nodes) to × (from ≤ to) × (16 ≤ to) × (length (now numbers) ≡ mostNearby) × (length (now xs) ≡ mostNearby) × (n ≤ mostNearby) ⌝ }
-    ensures { λ r. ⌜ GoesOn (now (nodes .entry)) w from (now (numbers .entry)) (now (xs .entry)) n to (now (numbers .exit)) (now (xs .exit)) r ⌝ }
-{
-    let mut i = from;
-    let mut k = n;
-    while i < to {
-        let e = block_end(i, 16, to);
-        k = collect_few(nodes, i, e, w, numbers, xs, k);
-        if k > MOST_NEARBY {
-            return k;
-        }
-        i = e;
-    }
-    k
-}
-
-// The same of at most 64 nodes. The 64 before `to` are judged first: nearly always none of them has its x in the window, or
-// else none its y.
+// The same as collect_in of at most 64 nodes. The 64 before `to` are judged first, and one that stands before `from` does no
+// harm: nearly always none of them has its x in the window, or else none its y.
 fn collect_block(
     nodes: &[f64],
     from: usize,
@@ -250,7 +191,7 @@ fn collect_block(
     if !any_in(nodes, at + 1, along) {
         return n;
     }
-    collect_near(nodes, from, to, w, numbers, xs, n)
+    collect_in(nodes, from, to, w, numbers, xs, n)
 }
 
 // The same from the first place on, where there are 64 or more.
@@ -288,11 +229,8 @@ fn collect_all(
     requires { ⌜ Usable (now nodes) old × (length (now numbers) ≡ mostNearby) × (length (now xs) ≡ mostNearby) ⌝ }
     ensures { λ r. ⌜ Gathered (now (nodes .entry)) w old (now (numbers .entry)) (now (xs .entry)) (now (numbers .exit)) (now (xs .exit)) r ⌝ }
 {
-    if old < 16 {
-        return collect_in(nodes, 0, old, w, numbers, xs, 0);
-    }
     if old < 64 {
-        return collect_near(nodes, 0, old, w, numbers, xs, 0);
+        return collect_in(nodes, 0, old, w, numbers, xs, 0);
     }
     collect_blocks(nodes, old, w, numbers, xs)
 }
@@ -375,7 +313,8 @@ fn find_listed_block(
     to
 }
 
-// Of the `count` collected nodes, the first with the two keys, or `count`.
+// Of the `count` collected nodes, the first with the two keys, or `count`. A pane of a window meets fewer than 16, which are
+// looked at one by one.
 pub fn find_listed(
     nodes: &[f64],
     old: usize,
@@ -388,6 +327,9 @@ pub fn find_listed(
     requires { ⌜ Usable (now nodes) old × Lists (now nodes) old (now numbers) (now xs) count × Sought kx × Sought ky ⌝ }
     ensures { λ r. ⌜ r ≡ first (hasListed (now (nodes .entry)) (now (numbers .entry)) (keyOf kx) (keyOf ky)) count 0 ⌝ }
 {
+    if count < 16 {
+        return find_listed_in(nodes, old, numbers, xs, 0, count, kx, ky);
+    }
     let mut i = 0;
     while i < count {
         let to = block_end(i, 16, count);

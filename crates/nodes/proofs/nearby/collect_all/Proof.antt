@@ -19,8 +19,8 @@ returns c =
     let s = b .before .before .before .before .before .before .before in
     b .collect-in .ensures _ _ (s .pre .1) (s .pre .2) (gathering.start _ _ _ _)
 
-collect-near-requires : tie.Need-collect-near-requires
-collect-near-requires c κs = search needs
+collect-blocks-requires : tie.Need-collect-blocks-requires
+collect-blocks-requires c κs = search needs
 
 same-length-3 : tie.Need-same-length-3
 same-length-3 c = search needs
@@ -29,22 +29,7 @@ same-length-4 : tie.Need-same-length-4
 same-length-4 c = search needs
 
 returns-2 : tie.Need-returns-2
-returns-2 c =
-    let b = c .before .before .before .before in
-    let s = b .before .before .before .before .before .before .before .before in
-    b .collect-near .ensures _ _ (s .pre .1) (s .pre .2) (gathering.start _ _ _ _)
-
-collect-blocks-requires : tie.Need-collect-blocks-requires
-collect-blocks-requires c κs = search needs
-
-same-length-5 : tie.Need-same-length-5
-same-length-5 c = search needs
-
-same-length-6 : tie.Need-same-length-6
-same-length-6 c = search needs
-
-returns-3 : tie.Need-returns-3
-returns-3 c = search needs
+returns-2 c = search needs
 
 pub collect-all-spec : {M : Type 1} → statement M
 collect-all-spec =
@@ -54,11 +39,7 @@ collect-all-spec =
     same-length
     same-length-2
     returns
-    collect-near-requires
+    collect-blocks-requires
     same-length-3
     same-length-4
-    returns-2
-    collect-blocks-requires
-    same-length-5
-    same-length-6
-    returns-3)
+    returns-2)

@@ -38,8 +38,8 @@ returns-2 c =
     gathering.past-all (x .nodes .now) (x .w) a b (x .from) (x .to) (x .n) _ _ (s .pre .1)
     (gathering.none-along (x .nodes .now) (x .w) 64 (x .from) (x .to) (s .pre .2) (s .pre .3) (sym (c .before .any-in2 .ensures) ∙ is-false _ (subst T (sym (c .if2 .taken)) tt))) g
 
-collect-near-requires : tie.Need-collect-near-requires
-collect-near-requires c κs = search needs
+collect-in-requires : tie.Need-collect-in-requires
+collect-in-requires c κs = search needs
 
 same-length : tie.Need-same-length
 same-length c = search needs
@@ -61,7 +61,7 @@ collect-block-spec =
     add-any-in
     any-in-requires-2
     returns-2
-    collect-near-requires
+    collect-in-requires
     same-length
     same-length-2
     returns-3)

@@ -20,6 +20,12 @@ Inv-loop nodes old numbers xs count kx ky i₀ i =
 abbrev μ-loop : tie.MeasureT-loop
 μ-loop nodes old numbers xs count kx ky i₀ i = count - i
 
+find-listed-in-requires : tie.Need-find-listed-in-requires Inv-loop μ-loop
+find-listed-in-requires c κs = search needs
+
+returns : tie.Need-returns Inv-loop μ-loop
+returns c = c .find-listed-in .ensures ∙ first-start _ _
+
 loop-holds : tie.Need-loop-holds Inv-loop μ-loop
 loop-holds c = (search needs, (λ h. refl), first-start _ _)
 
@@ -30,15 +36,15 @@ find-listed-block-requires : tie.Need-find-listed-block-requires Inv-loop μ-loo
 find-listed-block-requires c κs =
     let e = c .block-end .ensures in
     let i = c .before in
-    let s = i .before .before .before .before .before in
+    let s = i .before .before .before .before .before .before in
     (s .pre .0, lists-fewer _ _ _ _ _ _ (e .1) (s .pre .1), le-of-lt (e .0), e .2, omega (arith, i .loop-test .taken, i .before .loop .inv .1 (i .loop-test .taken), s .pre .1 .few), s .pre .2, s .pre .3)
 
-returns : tie.Need-returns Inv-loop μ-loop
-returns c =
+returns-2 : tie.Need-returns-2 Inv-loop μ-loop
+returns-2 c =
     let b = c .before in
     let e = b .before .block-end .ensures in
     let o = b .before .before .before in
-    part-hit _ _ _ _ _ (le-of-lt (e .0)) (e .1) (b .find-listed-block .ensures) (c .if1 .taken) ∙ o .loop .inv .2
+    part-hit _ _ _ _ _ (le-of-lt (e .0)) (e .1) (b .find-listed-block .ensures) (c .if2 .taken) ∙ o .loop .inv .2
 
 loop-less : tie.Need-loop-less Inv-loop μ-loop
 loop-less c = search needs
@@ -48,10 +54,10 @@ loop-again c =
     let b = c .before in
     let e = b .before .block-end .ensures in
     let i = b .before .before in
-    (e .1, (λ h. omega (arith, e .4 h, i .before .loop .inv .1 (i .loop-test .taken))), part-pass _ _ _ _ _ (le-of-lt (e .0)) (e .1) (b .find-listed-block .ensures) (c .if1 .left) ∙ i .before .loop .inv .2)
+    (e .1, (λ h. omega (arith, e .4 h, i .before .loop .inv .1 (i .loop-test .taken))), part-pass _ _ _ _ _ (le-of-lt (e .0)) (e .1) (b .find-listed-block .ensures) (c .if2 .left) ∙ i .before .loop .inv .2)
 
-returns-2 : tie.Need-returns-2 Inv-loop μ-loop
-returns-2 c =
+returns-3 : tie.Need-returns-3 Inv-loop μ-loop
+returns-3 c =
     let l = c .before .loop in
     sym (first-end _ _ _ (omega arith)) ∙ l .inv .2
 
@@ -61,10 +67,12 @@ find-listed-spec =
     (tie.spec
     Inv-loop
     μ-loop
+    find-listed-in-requires
+    returns
     loop-holds
     block-end-requires
     find-listed-block-requires
-    returns
+    returns-2
     loop-less
     loop-again
-    returns-2)
+    returns-3)
