@@ -4,7 +4,7 @@ use crate::call::{divide, NodeList, FARTHEST, UNTOUCHED};
 use crate::clock::{both, count, mean, median, percent, rust, timed, untested, REPEATS};
 use crate::differs;
 use crate::forms::{CELL_PLACES, NODE_PLACES};
-use crate::job::Job;
+use crate::job::{Entry, Job};
 use crate::library::{call, cell_image, compared, node_image, whole};
 use crate::read;
 
@@ -58,7 +58,7 @@ fn ours(job: &Job, list: &NodeList) -> u64 {
 
 fn agreed(job: &Job, list: &NodeList) {
     let (mut list, mut image) = (list.clone(), node_image(list, 0));
-    if let Err(text) = compared(job, &mut list, &mut image, CELL_PLACES, 0, 0) {
+    if let Err(text) = compared(&Entry::Examination, job, None, &mut list, &mut image, CELL_PLACES, 0, 0) {
         differs(job, &text)
     }
 }

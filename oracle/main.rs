@@ -9,6 +9,7 @@
 //! oracle calls < CALLS     the detailed form of calls over prefilled lists
 
 mod blocks;
+#[allow(dead_code)]
 mod call;
 mod calls;
 mod census;
