@@ -129,6 +129,14 @@ const LIMITS: [Edit; 2] = [
     ),
 ];
 
+/// "A diagonal is refused also when a third corner of the part is strictly
+/// between its ends on the same line. The Rust run alongside gets this one test."
+const THIRD_CORNER: [Edit; 1] = [edit(
+    "split_polygon_at",
+    "if crosses {",
+    "if crosses || standin::runs_over(v, q, points) {",
+)];
+
 /// Values that the caller is told and the Rust does not return (cuts, turned
 /// area), and what the census counts.
 const NOTED: [Edit; 6] = [
@@ -164,6 +172,7 @@ pub fn all_edits() -> impl Iterator<Item = &'static Edit> {
         .chain(&MIDDLES)
         .chain(&OUT_OF_STAGE)
         .chain(&LIMITS)
+        .chain(&THIRD_CORNER)
         .chain(&NOTED)
         .chain(&PUBLIC)
 }

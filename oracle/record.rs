@@ -6,6 +6,7 @@
 //! record blocks FILE..             every block of these files, up to the first refusal
 //! record pairs FILE                the calls of the writer in FILE.cases, answered as FILE.expect says
 //! record sheets FILE               the calls of the cell sheet, likewise; those over 64 numbers are left out
+//! record crossings FILE            the segments of FILE.cross, answered as FILE.answers says
 //!
 //! 1 PLACES USED, then for each used node (PLACES at most) four words: x, y
 //! 2 SIZE CELL_NUMBERS CELL_COUNT RING_NUMBERS CHAIN_NUMBERS, the coordinates,
@@ -24,6 +25,7 @@
 //!   the count of words that are written, and each
 //! 5 USED (two words) NODE_NUMBERS ROOM, two words for each number, code, and
 //!   the count of bytes that are written, and these, four to a word
+//! 9, the eight coordinates of two segments, and 0 apart, 1 touching, 2 crossing
 
 #[allow(dead_code)]
 mod blocks;
@@ -37,6 +39,7 @@ mod emit;
 mod forms;
 #[allow(dead_code)]
 mod job;
+mod meeting;
 #[allow(dead_code)]
 mod notes;
 #[path = "../target/oracle/outline.rs"]
@@ -210,6 +213,14 @@ impl Words {
         self.bytes(&case.written);
     }
 
+    fn crossing(&mut self, case: &meeting::Case) {
+        self.put(9);
+        for x in case.ends.iter().flatten() {
+            self.put(*x as u32);
+        }
+        self.put(case.answer);
+    }
+
     fn points(&mut self, kind: u32, points: &[[i32; 2]], size: u32) {
         self.put(kind);
         self.count(points.len());
@@ -322,8 +333,15 @@ fn main() {
                     .for_each(|case| words.sheet(case));
             }
         }
+        Some("crossings") => {
+            for path in &arguments[1..] {
+                meeting::cases(path)
+                    .iter()
+                    .for_each(|case| words.crossing(case));
+            }
+        }
         _ => {
-            eprintln!("use: record rings [NUMBER..]|calls < INPUT | record blocks FILE.. | record pairs FILE | record sheets FILE");
+            eprintln!("use: record rings [NUMBER..]|calls < INPUT | record blocks FILE.. | record pairs|sheets|crossings FILE");
             std::process::exit(2)
         }
     }

@@ -1,5 +1,6 @@
-//! What stands in for `atan2`, `acos` and degrees, the straight middle, and the
-//! set of limits. The extracted Rust calls these in place of its own text.
+//! What stands in for `atan2`, `acos` and degrees, the straight middle, the set
+//! of limits, and the test for a third corner. The extracted Rust calls these in
+//! place of its own text.
 
 use crate::job::Set;
 use std::cell::Cell;
@@ -38,4 +39,22 @@ pub fn corner_measure(s: f64, c: f64) -> f64 {
 /// Half the sum of the two listed ends, the same from either end.
 pub fn middle(a: [f64; 2], b: [f64; 2]) -> [f64; 2] {
     [0.5 * (a[0] + b[0]), 0.5 * (a[1] + b[1])]
+}
+
+/// A point in whole units, exactly: it entered as units / 8192.
+fn units(p: [f64; 2]) -> [i64; 2] {
+    p.map(|x| (x * 8192.0) as i64)
+}
+
+/// Whether one of the points is strictly between v and q on their line: its
+/// step from v has no part across the step from v to q, and along it a part
+/// above 0 and below the whole.
+pub fn runs_over(v: [f64; 2], q: [f64; 2], points: &[[f64; 2]]) -> bool {
+    let (v, q) = (units(v), units(q));
+    let [dx, dy] = [q[0] - v[0], q[1] - v[1]];
+    points.iter().map(|&p| units(p)).any(|p| {
+        let [x, y] = [p[0] - v[0], p[1] - v[1]];
+        let along = dx * x + dy * y;
+        dx * y == dy * x && 0 < along && along < dx * dx + dy * dy
+    })
 }

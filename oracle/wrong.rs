@@ -3,7 +3,7 @@
 
 use crate::edits::{edit, Edit};
 
-pub const NAMED: [(&str, Edit); 41] = [
+pub const NAMED: [(&str, Edit); 44] = [
     (
         "never_cuts",
         edit("split_bad_vertices", "a > limits().corner", "a > 9.0"),
@@ -59,6 +59,30 @@ pub const NAMED: [(&str, Edit); 41] = [
     (
         "crossing_too",
         edit("split_polygon_at", "segments_cross(v, q, a, b)", "false"),
+    ),
+    (
+        "over_a_corner",
+        edit(
+            "split_polygon_at",
+            "standin::runs_over(v, q, points)",
+            "false",
+        ),
+    ),
+    (
+        "corner_at_an_end",
+        edit(
+            "split_polygon_at",
+            "standin::runs_over(v, q, points)",
+            "standin::runs_over(v, q, points)\n|| (0..n).any(|i| i != index && i != j && (points[i] == v || points[i] == q))",
+        ),
+    ),
+    (
+        "corner_in_doubles",
+        edit(
+            "split_polygon_at",
+            "standin::runs_over(v, q, points)",
+            "points.iter().any(|&p| p != v && p != q && dist(v, p) + dist(p, q) == dist(v, q))",
+        ),
     ),
     (
         "no_least_angle",

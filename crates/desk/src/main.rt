@@ -1,5 +1,7 @@
 // Desk: runs the fixed lists of what stands beside the divider, with the answers expected, and compares every returned value
-// and every byte that is left: the cell sheet. docs/REPLAY.md has the form of the lists.
+// and every byte that is left: the cell sheet, and how two segments meet. docs/REPLAY.md has the form of the lists.
+
+mod crossings;
 
 use words::Tally;
 
@@ -26,6 +28,9 @@ fn sheet(fd: i32) -> bool {
 fn step(fd: i32, kind: u32) -> bool {
     if kind == 5 {
         return sheet(fd);
+    }
+    if kind == 9 {
+        return crossings::crossing(fd);
     }
     false
 }
@@ -58,4 +63,5 @@ fn file(path: &[u8]) -> Tally {
 
 fn main() {
     file(b"sheets.list");
+    file(b"crossings.list");
 }

@@ -1,4 +1,5 @@
--- An edge that a diagonal crosses, and a diagonal that no edge obstructs, by the places of the array that holds the points. Assumes nothing.
+-- An edge that a diagonal crosses, a corner that it runs over, and a diagonal that nothing obstructs, by the places of the array that
+-- holds the points. Assumes nothing.
 use Prim.Native.Nat.{ℕ, _+_, _%_, _≤_, _<_}
 use mathlib.Core.Bool.{Bool, true, false, _&&_, not}
 use mathlib.Core.Path.{_≡_, sym, ap, _∙_}
@@ -13,7 +14,8 @@ use Rattle.vector.specs.Grid.{origin}
 use Rattle.vector.specs.Plane.{inMm, lerp}
 use Rattle.vector.proofs.Rings.{at-in, at-next}
 use Rattle.simple.specs.Simple.{segmentsCross, pointInPolygon}
-use Rattle.diagonal.specs.Diagonal.{clearOf, blocks}
+use Rattle.simple.specs.Meeting.{strictlyBetween}
+use Rattle.diagonal.specs.Diagonal.{clearOf, blocks, runsOver}
 use Rattle.diagonal.specs.Answer.{unobstructed}
 
 module _ (ps : List GridPoint) (n : ℕ) (h : n ≤ length ps) (p : 0 < n) (k : ℕ) (lk : k < n) where
@@ -35,19 +37,33 @@ module _ (ps : List GridPoint) (n : ℕ) (h : n ≤ length ps) (p : 0 < n) (k : 
     pub crosses : clearOf n k e ≡ true → (t : Bool) → segmentsCross (getD ps 0 origin) (getD ps k origin) (getD ps e origin) (getD ps j origin) ≡ t → blocks (take n ps) k e ≡ t
     crosses s t q = opened ∙ rw s q
 
+  -- corner j
+  pub over : (j : ℕ) → j < n → (t : Bool) → strictlyBetween (getD ps 0 origin) (getD ps k origin) (getD ps j origin) ≡ t → runsOver (take n ps) k j ≡ t
+  unfolding runsOver
+  over j l t e =
+      let a = at-in ps n h p 0 p in
+      let b = at-in ps n h p k lk in
+      let c = at-in ps n h p j l in
+      (λ i. strictlyBetween (a i) (b i) (c i)) ∙ e
+
   -- the midpoint m
   module _ (m : Point) (em : m ≡ lerp (inMm (getD ps 0 origin)) (inMm (getD ps k origin)) (lit 5 1)) where
-    both : unobstructed (take n ps) k ≡ pointInPolygon (take n ps) m && not (any (blocks (take n ps) k) n)
+    all-three : unobstructed (take n ps) k ≡ pointInPolygon (take n ps) m && not (any (blocks (take n ps) k) n) && not (any (runsOver (take n ps) k) n)
     unfolding unobstructed
-    both =
+    all-three =
         let l = length-take-le n ps h in
         let a = at-in ps n h p 0 p in
         let b = at-in ps n h p k lk in
-        (λ i. pointInPolygon (take n ps) (lerp (inMm (a i)) (inMm (b i)) (lit 5 1)) && not (any (blocks (take n ps) k) (l i)))
-        ∙ ap (λ (q : Point). pointInPolygon (take n ps) q && not (any (blocks (take n ps) k) n)) (sym em)
+        (λ i. pointInPolygon (take n ps) (lerp (inMm (a i)) (inMm (b i)) (lit 5 1))
+        && not (any (blocks (take n ps) k) (l i)) && not (any (runsOver (take n ps) k) (l i)))
+        ∙ ap (λ (q : Point). pointInPolygon (take n ps) q && not (any (blocks (take n ps) k) n) && not (any (runsOver (take n ps) k) n)) (sym em)
 
     pub outside : pointInPolygon (take n ps) m ≡ false → false ≡ unobstructed (take n ps) k
-    outside e = sym (both ∙ rw e)
+    outside e = sym (all-three ∙ rw e)
 
-    pub inside : pointInPolygon (take n ps) m ≡ true → (t : Bool) → t ≡ any (blocks (take n ps) k) n → not t ≡ unobstructed (take n ps) k
-    inside e t f = sym (both ∙ rw (e, f))
+    pub crossing : pointInPolygon (take n ps) m ≡ true → any (blocks (take n ps) k) n ≡ true → false ≡ unobstructed (take n ps) k
+    crossing e f = sym (all-three ∙ rw (e, f))
+
+    pub inside : pointInPolygon (take n ps) m ≡ true → any (blocks (take n ps) k) n ≡ false → (t : Bool) → t ≡ any (runsOver (take n ps) k) n
+        → not t ≡ unobstructed (take n ps) k
+    inside e f t g = sym (all-three ∙ rw (e, f, g))

@@ -16,7 +16,7 @@ use Rattle.vector.proofs.Rings.{at-in, prev-first}
 use Rattle.chain.specs.Cosine.{cosine}
 use Rattle.simple.specs.Simple.{pointInPolygon}
 use Rattle.corner.specs.declared.Limits.{Limits}
-use Rattle.diagonal.specs.Diagonal.{inRange, blocks, cosineNext, cosinePrev, meetsRule, larger, score, better, bestTo}
+use Rattle.diagonal.specs.Diagonal.{inRange, blocks, runsOver, cosineNext, cosinePrev, meetsRule, larger, score, better, bestTo}
 use Rattle.diagonal.specs.Answer.{unobstructed}
 
 -- what the code holds of the best so far
@@ -33,9 +33,9 @@ last-first true false y = refl
 last-first true true false = refl
 last-first true true true = refl
 
-regroup : (a p q x y : Bool) → (a && p && q && x && y) ≡ (a && x && y && (p && q))
-regroup false p q x y = refl
-regroup true p q x y = last-first (p && q) x y
+regroup : (a p q w x y : Bool) → (a && p && q && w && x && y) ≡ (a && x && y && (p && q && w))
+regroup false p q w x y = refl
+regroup true p q w x y = last-first (p && q && w) x y
 
 -- by the ends and the cosines
 abbrev pub fits : Limits → List GridPoint → ℕ → Bool
@@ -44,7 +44,8 @@ fits L r k = not (same (at r 0) (at r k)) && inRange L (cosineNext r k) && inRan
 rule-is : (L : Limits) (r : List GridPoint) (k : ℕ) → meetsRule L r k ≡ (fits L r k && unobstructed r k)
 unfolding meetsRule unobstructed
 rule-is L r k =
-    regroup (not (same (at r 0) (at r k))) (pointInPolygon r (lerp (inMm (at r 0)) (inMm (at r k)) (lit 5 1))) (not (any (blocks r k) (length r))) (inRange L (cosineNext r k)) (inRange L (cosinePrev r k))
+    regroup (not (same (at r 0) (at r k))) (pointInPolygon r (lerp (inMm (at r 0)) (inMm (at r k)) (lit 5 1)))
+    (not (any (blocks r k) (length r))) (not (any (runsOver r k) (length r))) (inRange L (cosineNext r k)) (inRange L (cosinePrev r k))
 
 -- ---- a turn
 module _ (r : List GridPoint) (k : ℕ) (s least : Float) (es : s ≡ score r k) where

@@ -13,6 +13,7 @@ use Rattle.vector.specs.Grid.{sub, same, at, prev}
 use Rattle.vector.specs.Plane.{inMm, lerp}
 use Rattle.chain.specs.Cosine.{cosine}
 use Rattle.simple.specs.Simple.{segmentsCross, pointInPolygon}
+use Rattle.simple.specs.Meeting.{strictlyBetween}
 use Rattle.corner.specs.declared.Limits.{Limits}
 
 -- "both <= 0.9781476007338057 (12 degrees) and >= -0.9396926207859084 (160)"
@@ -27,6 +28,11 @@ clearOf n k e = not (eqb e 0 || eqb (suc e) n || eqb e k || eqb (suc e) k)
 unfoldable pub blocks : List GridPoint → ℕ → ℕ → Bool
 blocks r k e = clearOf (length r) k e && segmentsCross (at r 0) (at r k) (at r e) (at r (suc e))
 
+-- 02, Card 11: "a third corner of the part is strictly between its ends on the same line", corner j. No end is, by place or by position:
+-- `first-end` and `second-end` of crate simple
+unfoldable pub runsOver : List GridPoint → ℕ → ℕ → Bool
+runsOver r k j = strictlyBetween (at r 0) (at r k) (at r j)
+
 -- "its cosines to next and to prev"
 unfoldable pub cosineNext : List GridPoint → ℕ → Float
 cosineNext r k = cosine (sub (at r 1) (at r 0)) (sub (at r k) (at r 0))
@@ -34,12 +40,14 @@ cosineNext r k = cosine (sub (at r 1) (at r 0)) (sub (at r k) (at r 0))
 unfoldable pub cosinePrev : List GridPoint → ℕ → Float
 cosinePrev r k = cosine (sub (prev r 0) (at r 0)) (sub (at r k) (at r 0))
 
--- "One meets the rule if its ends differ, its midpoint passes point_in_polygon, it crosses no edge that touches neither end, and its cosines .. are both" in range
+-- "One meets the rule if its ends differ, its midpoint passes point_in_polygon, it crosses no edge that touches neither end, and its cosines ..
+-- are both" in range; by Card 11 it is "refused also when" it runs over a third corner
 unfoldable pub meetsRule : Limits → List GridPoint → ℕ → Bool
 meetsRule L r k =
     not (same (at r 0) (at r k))
     && pointInPolygon r (lerp (inMm (at r 0)) (inMm (at r k)) (lit 5 1))
     && not (any (blocks r k) (length r))
+    && not (any (runsOver r k) (length r))
     && inRange L (cosineNext r k)
     && inRange L (cosinePrev r k)
 

@@ -2,7 +2,8 @@
 //
 // It stands between the corner, which says where a part is bad, and the split, which cuts it there. The points of the part
 // are counted from its worst corner, so that every diagonal goes from corner 0 to a corner k. What is cheap and decides most
-// comes first, the two cosines against the best so far; only a diagonal that would win is tried against the edges.
+// comes first, the two cosines against the best so far; only a diagonal that would win is tried against the edges, and last
+// against the other corners.
 
 ghost use mathlib.Core.Path.{_≡_};
 ghost use mathlib.Core.Bool.{not, _&&_, _||_};
@@ -126,7 +127,24 @@ fn blocked(ps: [GridPoint; 60], n: usize, k: usize) -> bool
     found
 }
 
-// Whether the diagonal to corner k has its midpoint inside and crosses no edge.
+// Whether the diagonal to corner k runs over another corner, which is strictly between its ends. The scan ends at the first.
+fn runs_over(ps: [GridPoint; 60], n: usize, k: usize) -> bool
+    requires { ⌜ (3 ≤ n) × (n ≤ 60) × (k < n) × AllOnSheet ps ⌝ }
+    ensures { λ r. ⌜ r ≡ any (Diagonals.runsOver (take n ps) k) n ⌝ }
+{
+    let o = ps[0];
+    let q = ps[k];
+    let mut found = false;
+    'scan: for j in 0..n {
+        if simple::strictly_between(o, q, ps[j]) {
+            found = true;
+            break 'scan;
+        }
+    }
+    found
+}
+
+// Whether the diagonal to corner k has its midpoint inside, crosses no edge and runs over no corner.
 fn is_unobstructed(ps: [GridPoint; 60], n: usize, k: usize) -> bool
     requires { ⌜ (3 ≤ n) × (n ≤ 60) × (k < n) × AllOnSheet ps ⌝ }
     ensures { λ r. ⌜ r ≡ unobstructed (take n ps) k ⌝ }
@@ -134,7 +152,10 @@ fn is_unobstructed(ps: [GridPoint; 60], n: usize, k: usize) -> bool
     let a = Point::new(ps[0]);
     let b = Point::new(ps[k]);
     if simple::point_in_polygon(ps, n, a.lerp(b, 0.5)) {
-        return !blocked(ps, n, k);
+        if blocked(ps, n, k) {
+            return false;
+        }
+        return !runs_over(ps, n, k);
     }
     false
 }

@@ -1,5 +1,6 @@
 // Jobs: runs the jobs of data/ one after the other and prints each one's name and what `divide` prints of it: refusals 9 to
-// 11 in every way, empty input, areas at and beside a half, input that cannot be read, and an output that fails.
+// 11 in every way, empty input, areas at and beside a half, diagonals over a third corner, input that cannot be read, and an
+// output that fails.
 //
 // It shares the run with divide, so that the gate sees more inputs than one. docs/REPLAY.md says how the files were made.
 
@@ -50,6 +51,7 @@ fn main() {
     job(b"size-of-chain.job");
     job(b"zeros.job");
     job(b"rounding.job");
+    job(b"third.job");
     job(b".");
     unwritten(b"whole.job");
 }

@@ -1,4 +1,7 @@
--- That crossings are the Rust's; and laws for the code of this crate.
+-- That crossings are the Rust's; how two segments meet, with trials; and laws for the code of this crate.
 pub mod RustCrossing
-pub mod Crossing
+pub mod Lines
+pub mod Parameters
+pub mod Touching
+pub mod MeetingTrials
 pub mod Pairs

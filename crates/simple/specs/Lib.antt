@@ -1,2 +1,3 @@
--- When two segments cross, when a ring is simple, and when a point is inside one.
+-- When two segments cross, how they meet, when a ring is simple, and when a point is inside one.
 pub mod Simple
+pub mod Meeting

@@ -1,14 +1,16 @@
-// Simple: whether a cleaned ring crosses itself, which the divider refuses with 6; and the two tests that a diagonal has to
-// pass later, the crossing of two segments and a point inside a ring.
+// Simple: whether a cleaned ring crosses itself, which the divider refuses with 6; how two segments meet; and the three tests
+// that a diagonal has to pass later: two segments cross, a point is inside a ring, a point is strictly between two others.
 
 ghost use mathlib.Core.Path.{_≡_};
 ghost use mathlib.Core.Bool.{not, _&&_};
 ghost use Prim.Native.Nat.{_^_, _≤_};
 ghost use lib.IntN.{natAbs, pos};
+ghost use lib.Signed.{ltZ, leZ};
 ghost use lib.ListN.{take};
 ghost use Rattle.laws.specs.Integer.{eqZ};
 ghost use Rattle.vector.specs.Size.{OnSheet, AllOnSheet};
 ghost use Rattle.simple.specs.Simple as Simple;
+ghost use Rattle.simple.specs.Meeting as Meeting;
 use vector::GridPoint;
 use vector::Point;
 
@@ -51,6 +53,92 @@ pub fn segments_cross(a: GridPoint, b: GridPoint, c: GridPoint, d: GridPoint) ->
         return interior(ratio(ac.cross(d1), den));
     }
     false
+}
+
+// How two segments meet. No pair is both touching and crossing.
+pub enum Crossing {
+    Apart,
+    Touching,
+    Crossing,
+}
+
+fn at_most_zero(z: i64) -> bool
+    ensures { λ r. ⌜ r ≡ leZ z (pos 0) ⌝ }
+{
+    z <= 0
+}
+
+fn below_zero(z: i64) -> bool
+    ensures { λ r. ⌜ r ≡ ltZ z (pos 0) ⌝ }
+{
+    z < 0
+}
+
+// Whether a, b and p are on one line, in whole numbers.
+fn on_line(a: GridPoint, b: GridPoint, p: GridPoint) -> bool
+    requires { ⌜ OnSheet a × OnSheet b × OnSheet p ⌝ }
+    ensures { λ r. ⌜ r ≡ Meeting.onLine a b p ⌝ }
+{
+    let u = a.sub(p);
+    let v = b.sub(p);
+    is_zero(u.cross(v))
+}
+
+// Whether p is on the segment from a to b, its ends included.
+fn on_segment(a: GridPoint, b: GridPoint, p: GridPoint) -> bool
+    requires { ⌜ OnSheet a × OnSheet b × OnSheet p ⌝ }
+    ensures { λ r. ⌜ r ≡ Meeting.onSegment a b p ⌝ }
+{
+    if on_line(a, b, p) {
+        let u = a.sub(p);
+        let v = b.sub(p);
+        return at_most_zero(u.dot(v));
+    }
+    false
+}
+
+// Whether p is strictly between a and b on their line.
+pub fn strictly_between(a: GridPoint, b: GridPoint, p: GridPoint) -> bool
+    requires { ⌜ OnSheet a × OnSheet b × OnSheet p ⌝ }
+    ensures { λ r. ⌜ r ≡ Meeting.strictlyBetween a b p ⌝ }
+{
+    if on_line(a, b, p) {
+        let u = a.sub(p);
+        let v = b.sub(p);
+        return below_zero(u.dot(v));
+    }
+    false
+}
+
+// Whether an end of one segment is on the other.
+fn touches(a: GridPoint, b: GridPoint, c: GridPoint, d: GridPoint) -> bool
+    requires { ⌜ OnSheet a × OnSheet b × OnSheet c × OnSheet d ⌝ }
+    ensures { λ r. ⌜ r ≡ Meeting.touching a b c d ⌝ }
+{
+    if on_segment(a, b, c) {
+        return true;
+    }
+    if on_segment(a, b, d) {
+        return true;
+    }
+    if on_segment(c, d, a) {
+        return true;
+    }
+    on_segment(c, d, b)
+}
+
+// How the segments from a to b and from c to d meet.
+pub fn segments_meet(a: GridPoint, b: GridPoint, c: GridPoint, d: GridPoint) -> Crossing
+    requires { ⌜ OnSheet a × OnSheet b × OnSheet c × OnSheet d ⌝ }
+    ensures { λ r. ⌜ r ≡ Meeting.segmentsMeet a b c d ⌝ }
+{
+    if segments_cross(a, b, c, d) {
+        return Crossing::Crossing;
+    }
+    if touches(a, b, c, d) {
+        return Crossing::Touching;
+    }
+    Crossing::Apart
 }
 
 // Two edges that share an end do not cross.

@@ -11,6 +11,7 @@ use Rattle.chain.specs.Cosine as Cosine
 use Rattle.chain.specs.Chain as Chain
 use Rattle.clean.specs.Clean as Clean
 use Rattle.simple.specs.Simple as Simple
+use Rattle.simple.specs.Meeting as Meeting
 use Rattle.marks.specs.Marks as Marks
 use Rattle.corner.specs.Corner as Corner
 use Rattle.diagonal.specs.Diagonal as Diagonal
@@ -55,7 +56,7 @@ unfolding Clean.tolerance Clean.near Clean.spaced Clean.opened Clean.pointSegmen
 in-clean = tt
 
 unfoldable pub in-simple : Unit {0}
-unfolding Simple.interior Simple.ratio Simple.segmentsCross Simple.edgesCross Simple.polygonSimple Simple.rayMeets Simple.meetsEdge Simple.pointInPolygon
+unfolding Simple.interior Simple.ratio Simple.segmentsCross Simple.edgesCross Simple.polygonSimple Simple.rayMeets Simple.meetsEdge Simple.pointInPolygon Meeting.onLine Meeting.strictlyBetween
 in-simple = tt
 
 unfoldable pub in-marks : Unit {0}
@@ -67,7 +68,7 @@ unfolding Corner.quotient Corner.byQuadrant Corner.measure Corner.bad Corner.mea
 in-corner = tt
 
 unfoldable pub in-diagonal : Unit {0}
-unfolding Diagonal.inRange Diagonal.clearOf Diagonal.blocks Diagonal.cosineNext Diagonal.cosinePrev Diagonal.meetsRule Diagonal.larger Diagonal.score Diagonal.better Diagonal.bestTo
+unfolding Diagonal.inRange Diagonal.clearOf Diagonal.blocks Diagonal.runsOver Diagonal.cosineNext Diagonal.cosinePrev Diagonal.meetsRule Diagonal.larger Diagonal.score Diagonal.better Diagonal.bestTo
 in-diagonal = tt
 
 unfoldable pub in-split : Unit {0}

@@ -1,5 +1,5 @@
--- A ring for each of 01's traps and some more, with its whole answer: the values that come back, the bits of every node and the cells. proofs/Traps proves that every
--- row holds; a divider that falls into the trap answers otherwise. The answers are those that the Rust gave (oracle/).
+-- A ring for each of 01's traps, for Card 11 and some more, with its whole answer: the values that come back, the bits of every node and the
+-- cells. proofs/Traps proves that every row holds; a divider that falls into the trap answers otherwise. The answers are those that the Rust gave (oracle/).
 use mathlib.Core.List.{List, [], _∷_}
 use lib.IntN.{pos, negsuc}
 use Rattle.trials.specs.Trials.{units, sized, fresh, cell, Row, gives}
@@ -186,5 +186,55 @@ inDoublesWide =
     (cell 6 3 1 4 ∷ cell 6 4 2 5 ∷ cell 6 5 0 3 ∷ cell 12 9 7 10 ∷ cell 12 10 8 11 ∷ cell 12 11 0 5 ∷ cell 12 5 2 9 ∷ cell 18 15 13 16 ∷
     cell 18 16 14 17 ∷ cell 18 17 1 3 ∷ cell 18 3 0 15 ∷ [])
 
+-- and one with corners on one line, whose answer needs the doubles also where Card 11 refuses the diagonals over a corner
+unfoldable pub inDoublesOver : Row
+inDoublesOver =
+    gives
+    (fresh
+    (units (pos 4) (pos 1) ∷ units (pos 20) (pos 38) ∷ units (negsuc 46) (negsuc 15) ∷ units (pos 10) (pos 3) ∷ units (negsuc 34) (negsuc 11) ∷
+    units (pos 32) (negsuc 34) ∷ [])
+    [])
+    (8 ∷ 6 ∷ 0 ∷ 0 ∷ 0 ∷ 0 ∷ 0 ∷ 1 ∷ 13 ∷ 0 ∷ [])
+    (0x3f40_0000_0000_0000 ∷ 0x3f20_0000_0000_0000 ∷ 0x3f64_0000_0000_0000 ∷ 0x3f73_0000_0000_0000 ∷ 0xbf77_8000_0000_0000 ∷ 0xbf60_0000_0000_0000 ∷
+    0x3f54_0000_0000_0000 ∷ 0x3f38_0000_0000_0000 ∷ 0xbf71_8000_0000_0000 ∷ 0xbf58_0000_0000_0000 ∷ 0x3f70_0000_0000_0000 ∷ 0xbf71_8000_0000_0000 ∷
+    0x3f58_0000_0000_0000 ∷ 0x3f63_8000_0000_0000 ∷ 0xbf5b_0000_0000_0000 ∷ 0x3f56_0000_0000_0000 ∷ 0xbf62_8000_0000_0000 ∷ 0xbf4a_0000_0000_0000 ∷
+    0xbf59_0000_0000_0000 ∷ 0xbf42_0000_0000_0000 ∷ 0xbf28_0000_0000_0000 ∷ 0xbf67_8000_0000_0000 ∷ 0x3f62_0000_0000_0000 ∷ 0xbf61_0000_0000_0000 ∷
+    0xbf35_5555_5555_5555 ∷ 0xbf3c_0000_0000_0000 ∷ [])
+    []
+
+-- a diagonal that runs over a third corner is refused, from (2,1) to (2,4) over (2,3): with it the ring would be 8
+unfoldable pub thirdCorner : Row
+thirdCorner =
+    gives
+    (fresh
+    (units (pos 16384) (pos 8192) ∷ units (pos 32768) (pos 0) ∷ units (pos 16384) (pos 32768) ∷ units (pos 16384) (pos 24576) ∷ units (pos 0) (pos 0) ∷ [])
+    [])
+    (0 ∷ 5 ∷ 0 ∷ 2 ∷ 3 ∷ 0 ∷ 671088640 ∷ 0 ∷ 15 ∷ 9 ∷ [])
+    (0x4000_0000_0000_0000 ∷ 0x4008_0000_0000_0000 ∷ 0 ∷ 0 ∷ 0x4000_0000_0000_0000 ∷ 0x3ff0_0000_0000_0000 ∷ 0x3ff0_0000_0000_0000 ∷ 0x3ff8_0000_0000_0000 ∷
+    0x3ff0_0000_0000_0000 ∷ 0x3fe0_0000_0000_0000 ∷ 0x4000_0000_0000_0000 ∷ 0x4000_0000_0000_0000 ∷ 0x3ff5_5555_5555_5555 ∷ 0x3ff5_5555_5555_5555 ∷
+    0x4010_0000_0000_0000 ∷ 0 ∷ 0x4000_0000_0000_0000 ∷ 0x4010_0000_0000_0000 ∷ 0x4008_0000_0000_0000 ∷ 0x4000_0000_0000_0000 ∷ 0x4000_0000_0000_0000 ∷
+    0x400c_0000_0000_0000 ∷ 0x4008_0000_0000_0000 ∷ 0x3ff8_0000_0000_0000 ∷ 0x4005_5555_5555_5555 ∷ 0x4002_aaaa_aaaa_aaab ∷ 0x4008_0000_0000_0000 ∷
+    0x3fe0_0000_0000_0000 ∷ 0x4005_5555_5555_5555 ∷ 0x3ff5_5555_5555_5555 ∷ [])
+    (cell 6 3 1 4 ∷ cell 6 4 2 5 ∷ cell 6 5 0 3 ∷ cell 12 9 8 10 ∷ cell 12 10 0 11 ∷ cell 12 11 7 9 ∷ cell 14 5 2 13 ∷ cell 14 13 7 11 ∷ cell 14 11 0 5 ∷ [])
+
+-- another, which touches itself: from (0,1) to (2,1) over (1,1), in units; accepted with 3 cuts where it would be 8 with corners 5
+unfoldable pub thirdCornerAccepts : Row
+thirdCornerAccepts =
+    gives
+    (fresh
+    (units (pos 0) (pos 1) ∷ units (pos 3) (pos 0) ∷ units (pos 2) (pos 1) ∷ units (pos 2) (pos 2) ∷ units (pos 0) (pos 1) ∷ units (pos 1) (pos 1) ∷ [])
+    [])
+    (0 ∷ 6 ∷ 0 ∷ 3 ∷ 4 ∷ 0 ∷ 4 ∷ 0 ∷ 17 ∷ 12 ∷ [])
+    (0x3f38_0000_0000_0000 ∷ 0 ∷ 0x3f30_0000_0000_0000 ∷ 0x3f20_0000_0000_0000 ∷ 0x3f20_0000_0000_0000 ∷ 0x3f20_0000_0000_0000 ∷ 0x3f34_0000_0000_0000 ∷
+    0x3f10_0000_0000_0000 ∷ 0x3f28_0000_0000_0000 ∷ 0x3f20_0000_0000_0000 ∷ 0x3f30_0000_0000_0000 ∷ 0x3f10_0000_0000_0000 ∷ 0x3f30_0000_0000_0000 ∷
+    0x3f15_5555_5555_5555 ∷ 0 ∷ 0x3f20_0000_0000_0000 ∷ 0x3f10_0000_0000_0000 ∷ 0x3f20_0000_0000_0000 ∷ 0x3f28_0000_0000_0000 ∷ 0x3f10_0000_0000_0000 ∷
+    0x3f25_5555_5555_5555 ∷ 0x3f15_5555_5555_5555 ∷ 0x3f30_0000_0000_0000 ∷ 0x3f30_0000_0000_0000 ∷ 0x3f20_0000_0000_0000 ∷ 0x3f28_0000_0000_0000 ∷
+    0x3f28_0000_0000_0000 ∷ 0x3f28_0000_0000_0000 ∷ 0x3f20_0000_0000_0000 ∷ 0x3f25_5555_5555_5555 ∷ 0x3f30_0000_0000_0000 ∷ 0x3f28_0000_0000_0000 ∷
+    0x3f2a_aaaa_aaaa_aaab ∷ 0x3f25_5555_5555_5555 ∷ [])
+    (cell 6 3 1 4 ∷ cell 6 4 2 5 ∷ cell 6 5 0 3 ∷ cell 10 8 7 9 ∷ cell 10 9 0 5 ∷ cell 10 5 2 8 ∷ cell 14 12 7 8 ∷ cell 14 8 2 13 ∷ cell 14 13 11 12 ∷
+    cell 16 4 1 15 ∷ cell 16 15 11 13 ∷ cell 16 13 2 4 ∷ [])
+
 abbrev pub traps : List Row
-traps = equalWorst ∷ trapezoid ∷ farSnap ∷ turnedMarks ∷ collinear ∷ popOrder ∷ retried ∷ retryFails ∷ turnedPart ∷ inDoubles ∷ inDoublesAgain ∷ inDoublesWide ∷ []
+traps =
+    equalWorst ∷ trapezoid ∷ farSnap ∷ turnedMarks ∷ collinear ∷ popOrder ∷ retried ∷ retryFails ∷ turnedPart ∷ inDoubles ∷
+    inDoublesAgain ∷ inDoublesWide ∷ inDoublesOver ∷ thirdCorner ∷ thirdCornerAccepts ∷ []

@@ -1,4 +1,4 @@
--- `is_unobstructed` meets its contract: the midpoint is inside, and no edge is crossed. Assumes nothing.
+-- `is_unobstructed` meets its contract: the midpoint is inside, no edge is crossed, and no corner run over. Assumes nothing.
 use Prim.Native.Nat.{_≤_}
 use mathlib.Core.Path.{_≡_, sym, _∙_}
 use lib.ListN.{length, getD}
@@ -45,13 +45,30 @@ middle c =
 
 returns : tie.Need-returns
 returns c =
-    let m = c .before .before .before in
+    let m = c .before .before .before .before in
     let s = m .before .before .before .before .before in
     let h : s .args .n ≤ length (s .args .t1) = omega (arith, s .good .0 .1 .0 .1) in
-    blocking.inside (s .args .t1) (s .args .n) h (omega arith) (s .args .k) (omega arith) (m .lerp .result) (middle m) (sym (c .before .before .point-in-polygon .ensures) ∙ c .before .if1 .taken) _ (c .blocked .ensures)
+    let i = c .before .before in
+    blocking.crossing (s .args .t1) (s .args .n) h (omega arith) (s .args .k) (omega arith) (m .lerp .result) (middle m)
+    (sym (i .before .point-in-polygon .ensures) ∙ i .if1 .taken)
+    (sym (c .before .blocked .ensures) ∙ c .if2 .taken)
+
+runs-over-requires : tie.Need-runs-over-requires
+runs-over-requires c κs = search needs
 
 returns-2 : tie.Need-returns-2
 returns-2 c =
+    let b = c .before in
+    let i = b .before .before in
+    let m = i .before .before in
+    let s = m .before .before .before .before .before in
+    let h : s .args .n ≤ length (s .args .t1) = omega (arith, s .good .0 .1 .0 .1) in
+    blocking.inside (s .args .t1) (s .args .n) h (omega arith) (s .args .k) (omega arith) (m .lerp .result) (middle m)
+    (sym (i .before .point-in-polygon .ensures) ∙ i .if1 .taken)
+    (sym (b .before .blocked .ensures) ∙ b .if2 .left) _ (c .runs-over .ensures)
+
+returns-3 : tie.Need-returns-3
+returns-3 c =
     let m = c .before .before in
     let s = m .before .before .before .before .before in
     let h : s .args .n ≤ length (s .args .t1) = omega (arith, s .good .0 .1 .0 .1) in
@@ -70,4 +87,6 @@ is-unobstructed-spec =
     point-in-polygon-requires
     blocked-requires
     returns
-    returns-2)
+    runs-over-requires
+    returns-2
+    returns-3)
