@@ -30,10 +30,20 @@ mod job;
 #[path = "notes.rs"]
 mod notes;
 #[allow(dead_code)]
+#[path = "../target/oracle/outline.rs"]
+mod outline;
+#[allow(dead_code)]
+#[path = "../oracle/paper.rs"]
+mod paper;
+#[allow(dead_code)]
 #[path = "../target/oracle/stage.rs"]
 mod stage;
+#[allow(dead_code)]
 #[path = "../oracle/standin.rs"]
 mod standin;
+#[allow(dead_code)]
+#[path = "../oracle/traced.rs"]
+mod traced;
 
 use blocks::Jobs;
 use call::{in_mm, in_units, NodeList};

@@ -46,6 +46,7 @@ mod rings;
 #[allow(dead_code)]
 #[path = "../target/oracle/stage.rs"]
 mod stage;
+#[allow(dead_code)]
 #[path = "../oracle/standin.rs"]
 mod standin;
 #[allow(dead_code)]

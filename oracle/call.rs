@@ -20,13 +20,17 @@ pub type Cell = [NodeNumber; 4];
 /// What a place of a cell list holds that no call has written.
 pub const UNTOUCHED: Cell = [NodeNumber::MAX; 4];
 
-/// A node list: the listed nodes with their pool, its places, and the used
-/// count that the caller names.
+/// What a mark holds that no call has written, in a list of our own.
+pub const NO_MARK: u8 = 9;
+
+/// A node list: the listed nodes with their pool, its places, the used count
+/// that the caller names, and the list of rim marks beside it.
 #[derive(Clone, Default)]
 pub struct NodeList {
     pub nodes: Builder,
     pub places: usize,
     pub used: usize,
+    pub rims: Vec<u8>,
 }
 
 /// All that a call returns. `n` is zero unless the ring is accepted; `corners`
@@ -48,17 +52,18 @@ pub struct Answer {
 
 impl NodeList {
     pub fn empty(places: usize) -> Self {
-        NodeList {
-            places,
-            ..NodeList::default()
-        }
+        NodeList::holding(places, 0, &[])
     }
 
-    /// A list that holds these nodes; of equal keys the first number counts.
+    /// A list that holds these nodes, all inside, with a mark for each place;
+    /// of equal keys the first number counts.
     pub fn holding(places: usize, used: usize, nodes: &[[f64; 2]]) -> Self {
+        let mut rims = vec![NO_MARK; places];
+        rims[..nodes.len()].fill(0);
         let mut list = NodeList {
             places,
             used,
+            rims,
             ..NodeList::default()
         };
         for (number, &node) in nodes.iter().enumerate() {
@@ -195,7 +200,7 @@ fn write_cells(
         failed
     });
     let before = accepted.cells;
-    list.used = list.nodes.points.len();
+    mark(list);
     if let Some((corners, k)) = failed {
         free[..room].fill([0; 4]);
         return Answer {
@@ -217,6 +222,18 @@ fn write_cells(
         nodes: list.used,
         cells: before + quads.len(),
         ..accepted
+    }
+}
+
+/// The new nodes are counted; a mark of theirs is 1 if some attempt asked for
+/// its node as a corner or as the middle of a ring edge, else 0. One of a node
+/// that was listed becomes 1 then, and never 0.
+fn mark(list: &mut NodeList) {
+    let new = list.used..list.nodes.points.len();
+    list.used = new.end;
+    list.rims[new].fill(0);
+    for number in list.nodes.asked.drain(..) {
+        list.rims[number] = 1;
     }
 }
 
@@ -281,6 +298,10 @@ fn first_tests(
     }
     let usable = |c: &f64| c.is_finite() && c.abs() <= FARTHEST_MM;
     if !list.nodes.points.iter().flatten().all(usable) {
+        return 3;
+    }
+    let of_used = list.rims.iter().take(list.used);
+    if list.rims.len() < list.places || of_used.copied().any(|m| m > 1) {
         return 3;
     }
     let (nodes, cells) = room(r, set.cuts);

@@ -9,6 +9,8 @@
 //! compare prints SEED COUNT sheets of 1,000 tried doubles beside an exact decimal printer
 //! compare details FOLDER    the detailed forms of a folder of vectors
 //! compare memory < BLOCKS   stack and heap of a call on both sides
+//!
+//! compare before COMMAND    the same before Card 11, whose test the Rust leaves out
 
 // Shared with the oracle, which uses all of these.
 #[allow(dead_code)]
@@ -36,6 +38,7 @@ mod sides;
 #[path = "../target/oracle/stage.rs"]
 #[allow(dead_code)]
 mod stage;
+#[allow(dead_code)]
 mod standin;
 #[allow(dead_code)]
 mod traced;
@@ -84,7 +87,11 @@ impl Tally {
 
 fn main() {
     let arguments: Vec<String> = std::env::args().skip(1).collect();
-    let words: Vec<&str> = arguments.iter().map(String::as_str).collect();
+    let mut words: Vec<&str> = arguments.iter().map(String::as_str).collect();
+    if words.first() == Some(&"before") {
+        words.remove(0);
+        standin::before_card_11();
+    }
     match words.as_slice() {
         ["blocks"] => over_blocks(&input()),
         ["calls"] => over_calls(&String::from_utf8(input()).expect("calls are text")),
@@ -95,7 +102,7 @@ fn main() {
         ["details", folder] => over_details(folder),
         ["memory"] => print!("{}", memory::peaks(&input())),
         _ => {
-            eprintln!("use: compare blocks|calls|writes|memory < INPUT, desk FILE, sheet FILE, prints SEED COUNT, or details FOLDER");
+            eprintln!("use: compare [before] blocks|calls|writes|memory < INPUT, desk FILE, sheet FILE, prints SEED COUNT, or details FOLDER");
             std::process::exit(2)
         }
     }

@@ -137,6 +137,60 @@ const THIRD_CORNER: [Edit; 1] = [edit(
     "if crosses || standin::runs_over(v, q, points) {",
 )];
 
+/// "It is set exactly if the node was ever a corner or the middle of a ring
+/// edge": each part knows which of its edges are the ring's own, and each
+/// attempt notes what it asks for. Neither decides anything.
+const RIM: [Edit; 9] = [
+    edit(
+        "Poly",
+        "    pub points: ",
+        "    pub ring_edge: Vec<bool>,\n    pub points: ",
+    ),
+    edit(
+        "marked",
+        "Poly {\n            points,",
+        "Poly {\n            ring_edge: vec![true; points.len()],\n            points,",
+    ),
+    edit(
+        "make_sub_polygon",
+        "let mut points = Vec::with_capacity(m);",
+        "let mut points = Vec::with_capacity(m);\n    let mut ring_edge = Vec::with_capacity(m);",
+    ),
+    edit(
+        "make_sub_polygon",
+        "chain_edge.push(*poly",
+        "ring_edge.push(poly.ring_edge[i]);\n            chain_edge.push(*poly",
+    ),
+    edit(
+        "make_sub_polygon",
+        "chain_edge.push(false);",
+        "ring_edge.push(false);\n            chain_edge.push(false);",
+    ),
+    // Turned round, edge k is the one that ended where it starts.
+    edit(
+        "make_sub_polygon",
+        "chain_edge = reversed_edge;",
+        "ring_edge[..m - 1].reverse();\n        chain_edge = reversed_edge;",
+    ),
+    edit(
+        "make_sub_polygon",
+        "Poly {\n        points,",
+        "Poly {\n        ring_edge,\n        points,",
+    ),
+    edit(
+        "subdivide",
+        "let centre = self.add_node([cx, cy]);",
+        "let centre = self.add_node([cx, cy]);\n        \
+         self.ask(&vertices, &mids, &polygon.ring_edge);",
+    ),
+    edit(
+        "subdivide_unsnapped",
+        "let centre = self.add_node([cx, cy]);",
+        "let centre = self.add_node([cx, cy]);\n        \
+         self.ask(&vertices, &mids, &polygon.ring_edge);",
+    ),
+];
+
 /// Values that the caller is told and the Rust does not return (cuts, turned
 /// area), and what the census counts.
 const NOTED: [Edit; 6] = [
@@ -175,4 +229,5 @@ pub fn all_edits() -> impl Iterator<Item = &'static Edit> {
         .chain(&THIRD_CORNER)
         .chain(&NOTED)
         .chain(&PUBLIC)
+        .chain(&RIM)
 }

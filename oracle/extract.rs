@@ -53,7 +53,8 @@ const NODE_FUNCTIONS: [&str; 2] = ["quad_positive", "all_distinct"];
 const METHODS: [&str; 3] = ["add_node", "subdivide", "subdivide_unsnapped"];
 
 /// What stands around the cut text: the two fields of `Builder` that the
-/// methods use, and the node without the third coordinate.
+/// methods use, what they asked for as a rim node, and the node without the
+/// third coordinate.
 const HEAD: &str = "\
 // Written by oracle/extract.rs. Not kept in the repository.
 use crate::notes;
@@ -66,6 +67,16 @@ pub type Node = [f64; 2];
 pub struct Builder {
     pub points: Vec<Node>,
     pub pool: HashMap<(i64, i64), usize>,
+    pub asked: Vec<usize>,
+}
+
+impl Builder {
+    /// What an attempt asked for as a corner or as the middle of a ring edge.
+    fn ask(&mut self, corners: &[usize], middles: &[usize], ring_edge: &[bool]) {
+        let edges = middles.iter().zip(ring_edge);
+        let of_ring = edges.filter(|(_, own)| **own).map(|(m, _)| m);
+        self.asked.extend(corners.iter().chain(of_ring));
+    }
 }
 
 ";

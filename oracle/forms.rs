@@ -73,17 +73,15 @@ pub fn detailed(bytes: &[u8]) -> String {
     over_blocks(bytes, detail)
 }
 
-/// The detailed form with an empty node list for each ring.
+/// The detailed form with an empty node list for each ring, and rim marks.
 pub fn detailed_each(bytes: &[u8]) -> String {
     let mut out = String::new();
     for (number, job) in Jobs::new(bytes).flatten().enumerate() {
         let mut list = NodeList::empty(NODE_PLACES);
-        detail(
-            &mut out,
-            number,
-            &run(&job, &mut list, CELL_PLACES, 0),
-            &list,
-        );
+        let run = run(&job, &mut list, CELL_PLACES, 0);
+        detail(&mut out, number, &run, &list);
+        let marks = list.rims[..list.used].iter().map(u8::to_string);
+        line(&mut out, format_args!("rims {}", marks.collect::<String>()));
     }
     out
 }
@@ -143,7 +141,12 @@ fn print(out: &mut String, number: usize, run: &Run) {
 }
 
 fn detail(out: &mut String, number: usize, run: &Run, list: &NodeList) {
-    answer_line(out, number, &run.answer, run.nodes_before);
+    answer_line(
+        out,
+        &format!("ring {number}"),
+        &run.answer,
+        run.nodes_before,
+    );
     if run.answer.code == 0 {
         for piece in &run.pieces {
             let area = doubled(polygon_area(&piece.points));
@@ -159,7 +162,7 @@ fn detail(out: &mut String, number: usize, run: &Run, list: &NodeList) {
     }
 }
 
-pub fn answer_line(out: &mut String, number: usize, answer: &Answer, nodes_before: usize) {
+pub fn answer_line(out: &mut String, name: &str, answer: &Answer, nodes_before: usize) {
     let Answer {
         code,
         corners,
@@ -177,7 +180,7 @@ pub fn answer_line(out: &mut String, number: usize, answer: &Answer, nodes_befor
     line(
         out,
         format_args!(
-            "ring {number} code {code} corners {corners} k {k} n {n} c {marked} s {cuts} \
+            "{name} code {code} corners {corners} k {k} n {n} c {marked} s {cuts} \
              pieces {pieces} turned {turned} area {area} nodes {nodes} new {new} cells {cells}"
         ),
     );

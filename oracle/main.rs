@@ -7,6 +7,11 @@
 //! oracle stages < BLOCKS   what each module gives
 //! oracle census < BLOCKS   how often what matters happened
 //! oracle calls < CALLS     the detailed form of calls over prefilled lists
+//! oracle rims < BLOCKS     the detailed form of blocks, with rim marks
+//! oracle supplied < CALLS  the same of the supplied calls of the cards
+//! oracle crossings < ENDS  two segments a line: apart, touching or crossing
+//!
+//! oracle before COMMAND    the same before Card 11, whose test is left out
 
 mod blocks;
 #[allow(dead_code)]
@@ -15,27 +20,39 @@ mod calls;
 mod census;
 mod forms;
 mod job;
+#[allow(dead_code)]
+mod meeting;
 mod notes;
 #[path = "../target/oracle/outline.rs"]
 #[allow(dead_code)]
 mod outline;
 #[allow(dead_code)]
 mod paper;
+#[allow(dead_code)]
+mod random;
+#[allow(dead_code)]
+mod smallest;
 #[path = "../target/oracle/stage.rs"]
 mod stage;
 mod stages;
 mod standin;
+mod supplied;
 #[allow(dead_code)]
 mod traced;
 
 use std::io::{Read, Write};
 
 fn main() {
-    let command = std::env::args().nth(1).unwrap_or_default();
+    let mut words = std::env::args().skip(1).peekable();
+    if words.next_if_eq("before").is_some() {
+        standin::before_card_11();
+    }
+    let command = words.next().unwrap_or_default();
     let mut input = Vec::new();
     std::io::stdin()
         .read_to_end(&mut input)
         .expect("standard input can be read");
+    let lines = || std::str::from_utf8(&input).expect("calls are text");
     let text = match command.as_str() {
         "divide" => forms::printed(&input),
         "sheet" => forms::listed(&input),
@@ -43,9 +60,12 @@ fn main() {
         "each" => forms::detailed_each(&input),
         "census" => census::all(&input),
         "stages" => stages::all(&input),
-        "calls" => forms::called(std::str::from_utf8(&input).expect("calls are text")),
+        "calls" => forms::called(lines()),
+        "rims" => supplied::of_blocks(&input),
+        "supplied" => supplied::all(lines()),
+        "crossings" => supplied::crossings(lines()),
         _ => {
-            eprintln!("use: oracle divide|sheet|detail|each|stages|census|calls < INPUT");
+            eprintln!("use: oracle [before] divide|sheet|detail|each|stages|census|calls|rims|supplied|crossings < INPUT");
             std::process::exit(2)
         }
     };

@@ -50,6 +50,7 @@ mod paper;
 #[path = "../target/oracle/stage.rs"]
 #[allow(dead_code)]
 mod stage;
+#[allow(dead_code)]
 mod standin;
 #[allow(dead_code)]
 mod traced;

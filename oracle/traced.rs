@@ -91,6 +91,7 @@ pub fn marked(ring: &[[i32; 2]], size: u32, points: Vec<[f64; 2]>, marking: &Mar
     };
     let snap: Vec<Option<[f64; 2]>> = places.iter().map(|&i| mark(i)).collect();
     Poly {
+        ring_edge: vec![true; points.len()],
         points,
         chain_edge: snap.iter().map(Option::is_some).collect(),
         snap,

@@ -3,7 +3,7 @@
 
 use crate::edits::{edit, Edit};
 
-pub const NAMED: [(&str, Edit); 44] = [
+pub const NAMED: [(&str, Edit); 49] = [
     (
         "never_cuts",
         edit("split_bad_vertices", "a > limits().corner", "a > 9.0"),
@@ -285,5 +285,43 @@ pub const NAMED: [(&str, Edit); 44] = [
     (
         "positive_only",
         edit("quad_positive", "<= 1.0e-15", "<= 0.0"),
+    ),
+    (
+        "cut_middle_rim",
+        edit(
+            "make_sub_polygon",
+            "ring_edge.push(false);",
+            "ring_edge.push(true);",
+        ),
+    ),
+    (
+        "rim_not_moved",
+        edit("make_sub_polygon", "ring_edge[..m - 1].reverse();", ""),
+    ),
+    (
+        "marked_rim_alone",
+        edit(
+            "subdivide",
+            "&mids, &polygon.ring_edge",
+            "&mids, &polygon.chain_edge",
+        ),
+    ),
+    (
+        "centre_rim",
+        edit(
+            "subdivide",
+            "self.ask(",
+            "self.asked.push(centre);\n        self.ask(",
+        ),
+    ),
+    (
+        "abandoned_unasked",
+        edit(
+            "subdivide",
+            "notes::retried(k);",
+            "notes::retried(k);\n                    \
+             let own = polygon.ring_edge.iter().filter(|e| **e).count();\n                    \
+             self.asked.truncate(self.asked.len() - n - own);",
+        ),
     ),
 ];
