@@ -5,7 +5,7 @@ use crate::clock::{both, count, mean, median, percent, rust, timed, untested, RE
 use crate::differs;
 use crate::forms::{CELL_PLACES, NODE_PLACES};
 use crate::job::{Entry, Job};
-use crate::library::{call, cell_image, compared, node_image, whole};
+use crate::library::{call, cell_image, compared, node_image};
 use crate::read;
 
 /// Used places of the lists in use.
@@ -52,8 +52,8 @@ fn usual(call: impl Fn() -> u64) -> u64 {
 
 /// A call of the library.
 fn ours(job: &Job, list: &NodeList) -> u64 {
-    let (mut nodes, mut cells) = (node_image(list, 0), cell_image(CELL_PLACES, 0));
-    timed(|| call(whole(job), job, nodes.list(), list.used, cells.list(), 0))
+    let (mut image, mut cells) = (node_image(list, 0), cell_image(CELL_PLACES, 0));
+    timed(|| call(job, image.lent(list.used, &mut cells, 0)))
 }
 
 fn agreed(job: &Job, list: &NodeList) {

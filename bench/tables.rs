@@ -4,8 +4,8 @@
 //! tables windows PLACES ..    windows of panes, divided ring by ring from an empty list until so many places are full
 //! tables refused FILE ..      refused rings, by their number
 //!
-//! Each answer is compared with the Rust's, outside the clock: every value, node bit and cell place. A difference ends the
-//! program with 1.
+//! Each answer is compared with the Rust's, outside the clock: every value, node bit, rim mark and cell place. A difference
+//! ends the program with 1.
 
 // Shared with the oracle, which uses all of these.
 #[allow(dead_code)]

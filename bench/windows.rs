@@ -5,7 +5,7 @@ use crate::clock::{count, grouped, median, micro, percent, timed, untested};
 use crate::differs;
 use crate::forms::{CELL_PLACES, NODE_PLACES};
 use crate::job::Job;
-use crate::library::{call, cell_image, node_image, whole, Guarded, Returned};
+use crate::library::{call, cell_image, node_image, Image, Returned};
 use crate::panes::{Between, Window};
 use std::hint::black_box;
 use std::time::Instant;
@@ -128,7 +128,7 @@ fn window(places: usize, between: Between) -> Divided {
     let passes = (0..PARTS).map(|part| {
         let some = share(&costs, part);
         let used = some.get(some.len() / 2).map_or(0, |c| c.used);
-        (used, pass(&image.list()[..2 * used]))
+        (used, pass(&image.nodes.list()[..2 * used]))
     });
     Divided {
         places,
@@ -186,21 +186,14 @@ fn timed_rust(rings: &[Ring], places: usize, times: &mut [Times]) {
     }
 }
 
-/// The whole job anew by the library: each row, new node and cell place compared, and at the end the whole list.
-fn timed_ours(rings: &[Ring], list: &NodeList, times: &mut [Times]) -> Guarded<f64> {
+/// The whole job anew by the library: each row, new node and cell place compared, and at the end the whole list with its marks.
+fn timed_ours(rings: &[Ring], list: &NodeList, times: &mut [Times]) -> Image {
     let mut image = node_image(&NodeList::empty(list.places), 0);
     for (ring, times) in rings.iter().zip(times) {
         let mut cells = cell_image(CELL_PLACES, 0);
         let mut expected = cells.clone();
         let start = Instant::now();
-        let returned = black_box(call(
-            whole(&ring.job),
-            &ring.job,
-            image.list(),
-            ring.used,
-            cells.list(),
-            0,
-        ));
+        let returned = black_box(call(&ring.job, image.lent(ring.used, &mut cells, 0)));
         times.ours.push(start.elapsed().as_nanos() as u64);
         expected.list()[..4 * ring.cells.len()].copy_from_slice(&ring.cells.concat());
         if returned != ring.answer {
@@ -215,12 +208,15 @@ fn timed_ours(rings: &[Ring], list: &NodeList, times: &mut [Times]) -> Guarded<f
         same_nodes(
             ring,
             list,
-            image.list(),
+            image.nodes.list(),
             ring.used..ring.answer.nodes as usize,
         );
     }
     if let Some(last) = rings.last() {
-        same_nodes(last, list, image.list(), 0..list.used);
+        same_nodes(last, list, image.nodes.list(), 0..list.used);
+        if image.rims.list() != list.rims {
+            differs(&last.job, "a mark")
+        }
     }
     image
 }
@@ -228,12 +224,11 @@ fn timed_ours(rings: &[Ring], list: &NodeList, times: &mut [Times]) -> Guarded<f
 /// Each ring by the library on a list of its own.
 fn on_empty_lists(rings: &[Ring], times: &mut [Times]) {
     for (ring, times) in rings.iter().zip(times) {
-        let mut nodes = node_image(&NodeList::empty(NODE_PLACES), 0);
+        let mut image = node_image(&NodeList::empty(NODE_PLACES), 0);
         let mut cells = cell_image(CELL_PLACES, 0);
-        let job = &ring.job;
-        times.empty.push(timed(|| {
-            call(whole(job), job, nodes.list(), 0, cells.list(), 0)
-        }));
+        times
+            .empty
+            .push(timed(|| call(&ring.job, image.lent(0, &mut cells, 0))));
     }
 }
 

@@ -1,6 +1,6 @@
 /* Divides the square of 1 mm, has the same square clockwise refused, and divides the square beside the first over the
- * same two lists; then the square above the first with given marks, one edge snapped to a point and one to a lead line. At
- * the end it prints the cell sheet of all nodes. Compiles as C and as C++. */
+ * same lists; then the square above the first with given marks, one edge snapped to a point and one to a lead line. At
+ * the end it prints the rim marks and the cell sheet of all nodes. Compiles as C and as C++. */
 #include "ring_divide.h"
 #include <stdio.h>
 
@@ -9,13 +9,14 @@
 #define CELLS 124
 
 static double nodes[2 * NODES];
+static uint8_t rims[NODES];
 static uint32_t cells[4 * CELLS];
 static uint8_t sheet[NODE_SHEET_LINE * NODES];
-static size_t node_count, cell_count; /* used places of the two lists, carried from call to call */
+static size_t node_count, cell_count; /* used places of the node list and of the cell list, carried from call to call */
 
 static struct ring_row divide(const int32_t *ring, size_t ring_len) {
     const int32_t none[] = {0};
-    struct ring_row row = ring_divide(ring, ring_len, none, 0, 1, nodes, 2 * NODES, node_count, cells, 4 * CELLS, cell_count);
+    struct ring_row row = ring_divide(ring, ring_len, none, 0, 1, nodes, 2 * NODES, node_count, rims, NODES, cells, 4 * CELLS, cell_count);
     node_count = row.nodes;
     cell_count = row.cells;
     return row;
@@ -23,7 +24,7 @@ static struct ring_row divide(const int32_t *ring, size_t ring_len) {
 
 /* The same with one mark an edge: straight, snapped to the point beside it, or to the lead line. */
 static struct ring_row divide_marked(const int32_t *ring, size_t ring_len, const uint8_t *kinds, const double *snaps, const int32_t *outline, size_t outline_len, const uint32_t *loops, size_t loops_len) {
-    struct ring_row row = ring_divide_marked(ring, ring_len, kinds, ring_len / 2, snaps, ring_len, outline, outline_len, loops, loops_len, 1, nodes, 2 * NODES, node_count, cells, 4 * CELLS, cell_count);
+    struct ring_row row = ring_divide_marked(ring, ring_len, kinds, ring_len / 2, snaps, ring_len, outline, outline_len, loops, loops_len, 1, nodes, 2 * NODES, node_count, rims, NODES, cells, 4 * CELLS, cell_count);
     node_count = row.nodes;
     cell_count = row.cells;
     return row;
@@ -54,6 +55,10 @@ int main(void) {
     const uint32_t loops[] = {3};
     print(divide_marked(above, 8, kinds, snaps, lead, 6, loops, 1), 8);
     printf("node 17 at %g %g, node 18 at %g %g\n", nodes[34], nodes[35], nodes[36], nodes[37]);
+    printf("rims ");
+    for (size_t i = 0; i < node_count; i++)
+        printf("%d", rims[i]);
+    printf("\n");
     if (node_sheet(nodes, 2 * NODES, node_count, sheet, sizeof sheet) == 0)
         fwrite(sheet, NODE_SHEET_LINE, node_count, stdout);
     return 0;

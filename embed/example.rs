@@ -1,6 +1,6 @@
 //! Divides the square of 1 mm, has the same square clockwise refused, and divides the square beside the first over the
-//! same two lists; then the square above the first with given marks, one edge snapped to a point and one to a lead line.
-//! At the end it prints the cell sheet of all nodes.
+//! same lists; then the square above the first with given marks, one edge snapped to a point and one to a lead line.
+//! At the end it prints the rim marks and the cell sheet of all nodes.
 
 /// A row of the table, as in ring_divide.h.
 #[repr(C)]
@@ -28,6 +28,8 @@ extern "C" {
         nodes: *mut f64,
         nodes_len: usize,
         node_count: usize,
+        rims: *mut u8,
+        rims_len: usize,
         cells: *mut u32,
         cells_len: usize,
         cell_count: usize,
@@ -48,6 +50,8 @@ extern "C" {
         nodes: *mut f64,
         nodes_len: usize,
         node_count: usize,
+        rims: *mut u8,
+        rims_len: usize,
         cells: *mut u32,
         cells_len: usize,
         cell_count: usize,
@@ -70,17 +74,18 @@ struct Marking<'a> {
     loops: &'a [u32],
 }
 
-/// The node list and the cell list, with how many places of each are used.
+/// The node list with its rim marks and the cell list, with how many places of each are used.
 struct Lists {
     nodes: Vec<f64>,
     node_count: usize,
+    rims: Vec<u8>,
     cells: Vec<u32>,
     cell_count: usize,
 }
 
 /// A safe call: the library tests all that it is handed. Both counts are carried on.
 fn divide(ring: &[i32], chain: &[i32], size: u32, lists: &mut Lists) -> Row {
-    let (nodes, cells) = (&mut lists.nodes, &mut lists.cells);
+    let (nodes, rims, cells) = (&mut lists.nodes, &mut lists.rims, &mut lists.cells);
     let row = unsafe {
         ring_divide(
             ring.as_ptr(),
@@ -91,6 +96,8 @@ fn divide(ring: &[i32], chain: &[i32], size: u32, lists: &mut Lists) -> Row {
             nodes.as_mut_ptr(),
             nodes.len(),
             lists.node_count,
+            rims.as_mut_ptr(),
+            rims.len(),
             cells.as_mut_ptr(),
             cells.len(),
             lists.cell_count,
@@ -103,7 +110,7 @@ fn divide(ring: &[i32], chain: &[i32], size: u32, lists: &mut Lists) -> Row {
 
 /// The same with given marks.
 fn divide_marked(ring: &[i32], marks: &Marking, size: u32, lists: &mut Lists) -> Row {
-    let (nodes, cells) = (&mut lists.nodes, &mut lists.cells);
+    let (nodes, rims, cells) = (&mut lists.nodes, &mut lists.rims, &mut lists.cells);
     let row = unsafe {
         ring_divide_marked(
             ring.as_ptr(),
@@ -120,6 +127,8 @@ fn divide_marked(ring: &[i32], marks: &Marking, size: u32, lists: &mut Lists) ->
             nodes.as_mut_ptr(),
             nodes.len(),
             lists.node_count,
+            rims.as_mut_ptr(),
+            rims.len(),
             cells.as_mut_ptr(),
             cells.len(),
             lists.cell_count,
@@ -166,6 +175,7 @@ fn main() {
     let mut lists = Lists {
         nodes: vec![0.0; 2 * 1536],
         node_count: 0,
+        rims: vec![0; 1536],
         cells: vec![0; 4 * 124],
         cell_count: 0,
     };
@@ -189,5 +199,7 @@ fn main() {
     print(&row, &lists, 8);
     let n = &lists.nodes;
     println!("node 17 at {} {}, node 18 at {} {}", n[34], n[35], n[36], n[37]);
+    let marks = lists.rims[..lists.node_count].iter().map(u8::to_string);
+    println!("rims {}", marks.collect::<String>());
     print!("{}", sheet(&lists));
 }

@@ -9,10 +9,18 @@
  *   ring, chain   coordinates in units of 1/8192 mm, x and y in turn, two numbers a point
  *   size          sheet size in whole mm, 1 to 2,048
  *   nodes         the node list, x and y in mm in turn, at most 1,000,000 places; node_count of them are used
+ *   rims          the rim marks, a byte beside each place of the node list; no fewer than its places, a used one is 0 or 1
  *   cells         the cell list, four node numbers a cell; cell_count of its places are used
  *
- * With code 0 the new nodes and cells follow the used ones; 1 to 7 leave all as found; 8 leaves its new nodes and zeros
- * the cell places that the ring had reserved. The row has both counts as they are afterwards: hand them to the next call.
+ * With code 0 the new nodes and cells follow the used ones; 1 to 7 leave all as found; 8 leaves its new nodes with their marks
+ * and zeros the cell places that the ring had reserved. The row has both counts as they are afterwards: hand them to the next
+ * call, with the same lists.
+ *
+ * Over calls of any entry from an empty node list (node_count 0; rims may hold anything), a mark is 1 exactly if its node was
+ * ever a corner of a piece or the middle of a ring edge, straight or snapped, and 0 if only a centre or the middle of a cut.
+ * What an attempt made that was given up, and what a ring refused with 8 made, counts the same. A node that is met again may
+ * have its mark set; none is ever cleared. The marks past the used nodes stay as found. Fewer marks than places, or a used mark
+ * that is neither 0 nor 1, is refused with 3.
  *
  * ring_divide_marked takes the marks of the ring's edges in place of a chain, and is ring_divide in all else.
  *
@@ -76,11 +84,11 @@
 extern "C" {
 #endif
 
-#define RING_DIVIDE_STACK 27832
-#define RING_DIVIDE_PRACTICE_STACK 27864
-#define RING_DIVIDE_SET_STACK 27832
-#define RING_DIVIDE_MARKED_SET_STACK 26456
-#define RING_DIVIDE_MARKED_STACK 26456
+#define RING_DIVIDE_STACK 29336
+#define RING_DIVIDE_PRACTICE_STACK 29384
+#define RING_DIVIDE_SET_STACK 29336
+#define RING_DIVIDE_MARKED_SET_STACK 27960
+#define RING_DIVIDE_MARKED_STACK 27960
 #define BLOCKS_WRITE_STACK 40
 #define NODE_SHEET_STACK 224
 #define RING_ROOT_BITS_STACK 8
@@ -112,6 +120,7 @@ struct ring_row ring_divide(const int32_t *ring, size_t ring_len,
                             const int32_t *chain, size_t chain_len,
                             uint32_t size,
                             double *nodes, size_t nodes_len, size_t node_count,
+                            uint8_t *rims, size_t rims_len,
                             uint32_t *cells, size_t cells_len, size_t cell_count);
 
 struct ring_row ring_divide_marked(const int32_t *ring, size_t ring_len,
@@ -121,6 +130,7 @@ struct ring_row ring_divide_marked(const int32_t *ring, size_t ring_len,
                                    const uint32_t *loops, size_t loops_len,
                                    uint32_t size,
                                    double *nodes, size_t nodes_len, size_t node_count,
+                                   uint8_t *rims, size_t rims_len,
                                    uint32_t *cells, size_t cells_len, size_t cell_count);
 
 struct ring_row ring_divide_set(double corner, double least, double greatest,
@@ -129,6 +139,7 @@ struct ring_row ring_divide_set(double corner, double least, double greatest,
                                 const int32_t *chain, size_t chain_len,
                                 uint32_t size,
                                 double *nodes, size_t nodes_len, size_t node_count,
+                                uint8_t *rims, size_t rims_len,
                                 uint32_t *cells, size_t cells_len, size_t cell_count);
 
 struct ring_row ring_divide_marked_set(double corner, double least, double greatest,
@@ -140,12 +151,14 @@ struct ring_row ring_divide_marked_set(double corner, double least, double great
                                        const uint32_t *loops, size_t loops_len,
                                        uint32_t size,
                                        double *nodes, size_t nodes_len, size_t node_count,
+                                       uint8_t *rims, size_t rims_len,
                                        uint32_t *cells, size_t cells_len, size_t cell_count);
 
 struct ring_row ring_divide_practice(const int32_t *ring, size_t ring_len,
                                      const int32_t *chain, size_t chain_len,
                                      uint32_t size,
                                      double *nodes, size_t nodes_len, size_t node_count,
+                                     uint8_t *rims, size_t rims_len,
                                      uint32_t *cells, size_t cells_len, size_t cell_count);
 
 uint64_t blocks_write(const int32_t *ring, size_t ring_len,

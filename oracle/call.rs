@@ -1,6 +1,6 @@
 //! A divider call: the tests that the scope adds, around the extracted Rust.
 
-use crate::job::{Entry, Job, Marking, Set, POINTS};
+use crate::job::{Entry, Given, Job, Marking, Set, POINTS};
 use crate::notes;
 use crate::stage::{self, Builder, Poly};
 use crate::standin;
@@ -71,6 +71,18 @@ impl NodeList {
             list.nodes.pool.entry(stage::pack(node)).or_insert(number);
         }
         list
+    }
+
+    /// A list as it is given, with its marks.
+    pub fn given(given: &Given) -> Self {
+        let mut rims = vec![NO_MARK; given.rims];
+        for (place, mark) in rims.iter_mut().zip(&given.marks) {
+            *place = *mark;
+        }
+        NodeList {
+            rims,
+            ..NodeList::holding(given.places, given.used, &given.nodes)
+        }
     }
 }
 

@@ -1,7 +1,8 @@
 //! The `.calls` form: node lists with what they hold, and calls over each.
 //!
-//! list PLACES USED            then a line for each used node, PLACES at most:
-//! put BX BY                   its two doubles as bits
+//! list PLACES USED [RIMS]     then a line for each used node, PLACES at most; RIMS
+//!                             places of the list of marks, or as many as PLACES
+//! put BX BY [MARK]            its two doubles as bits, and its mark, or 0
 //! set CORNER LEAST GREATEST CUTS SHARE   the next call brings this set, doubles as bits
 //! practice                    the next call is one of the practice entry
 //! call SIZE CELL_PLACES CELL_COUNT R C x y ..   R ring points, C chain points
@@ -22,8 +23,14 @@ pub fn read(text: &str) -> Vec<Given> {
         }
         let list = lists.last_mut().expect("a list comes first");
         match kind {
-            "list" => (list.places, list.used) = (number(words[0]), number(words[1])),
-            "put" => list.nodes.push([double(words[0]), double(words[1])]),
+            "list" => {
+                (list.places, list.used) = (number(words[0]), number(words[1]));
+                list.rims = words.get(2).map_or(list.places, |w| number(w));
+            }
+            "put" => {
+                list.nodes.push([double(words[0]), double(words[1])]);
+                list.marks.push(words.get(2).map_or(0, |w| number(w) as u8));
+            }
             "set" => entry = Entry::Limited(set(&words)),
             "practice" => entry = Entry::Practice,
             "call" => list.calls.push(call(std::mem::take(&mut entry), &words)),

@@ -8,6 +8,7 @@
 //! compare sheet FILE        the supplied calls of the cell sheet
 //! compare prints SEED COUNT sheets of 1,000 tried doubles beside an exact decimal printer
 //! compare details FOLDER    the detailed forms of a folder of vectors
+//! compare supplied FOLDER   the same of the supplied calls of the cards, with rim marks
 //! compare memory < BLOCKS   stack and heap of a call on both sides
 //!
 //! compare before COMMAND    the same before Card 11, whose test the Rust leaves out
@@ -26,6 +27,8 @@ mod emit;
 mod forms;
 mod job;
 mod library;
+#[allow(dead_code)]
+mod meeting;
 mod memory;
 #[allow(dead_code)]
 mod notes;
@@ -35,11 +38,17 @@ mod outline;
 #[allow(dead_code)]
 mod paper;
 mod sides;
+#[allow(dead_code)]
+mod random;
+#[allow(dead_code)]
+mod smallest;
 #[path = "../target/oracle/stage.rs"]
 #[allow(dead_code)]
 mod stage;
 #[allow(dead_code)]
 mod standin;
+#[allow(dead_code)]
+mod supplied;
 #[allow(dead_code)]
 mod traced;
 
@@ -47,7 +56,7 @@ use blocks::Jobs;
 use call::NodeList;
 use forms::{CELL_PLACES, NODE_PLACES};
 use job::{Entry, Job, Set};
-use library::{compared, listed, node_image, refused, whole, written};
+use library::{compared, listed, node_image, refused, written};
 use std::io::Read;
 use traced::Met;
 
@@ -99,10 +108,11 @@ fn main() {
         ["desk", file] => over_desk(file),
         ["sheet", file] => over_sheet(file),
         ["prints", seed, count] => over_prints(seed, count),
-        ["details", folder] => over_details(folder),
+        ["details", folder] => over_details(folder, sides::agrees_with_detail),
+        ["supplied", folder] => over_details(folder, sides::agrees_with_supplied),
         ["memory"] => print!("{}", memory::peaks(&input())),
         _ => {
-            eprintln!("use: compare [before] blocks|calls|writes|memory < INPUT, desk FILE, sheet FILE, prints SEED COUNT, or details FOLDER");
+            eprintln!("use: compare [before] blocks|calls|writes|memory < INPUT, desk FILE, sheet FILE, prints SEED COUNT, details FOLDER, or supplied FOLDER");
             std::process::exit(2)
         }
     }
@@ -143,17 +153,18 @@ fn over_blocks(bytes: &[u8]) -> ! {
     tally.end()
 }
 
-/// Odd lengths are 1, and come before counts above their lists, which are 3.
+/// Odd lengths are 1, and come before counts above their lists and too few marks,
+/// which are 3.
 fn wrong_lengths(tally: &mut Tally, number: usize, job: &Job) {
     let name = format!("ring {number} with wrong lengths");
-    let (ring, chain) = whole(job);
+    let (ring, chain) = (2 * job.ring.len(), 2 * job.chain.len());
     let beyond = (usize::MAX, usize::MAX);
     if ring > 0 {
-        tally.add(&name, job, refused((ring - 1, chain), job, (0, 0), 1));
-        tally.add(&name, job, refused((ring - 1, chain), job, beyond, 1));
+        tally.add(&name, job, refused((ring - 1, chain), job, (0, 0), 300, 1));
+        tally.add(&name, job, refused((ring - 1, chain), job, beyond, 0, 1));
     }
     if chain > 0 {
-        tally.add(&name, job, refused((ring, chain - 1), job, beyond, 1));
+        tally.add(&name, job, refused((ring, chain - 1), job, beyond, 299, 1));
     }
     let square = Job {
         ring: vec![[0, 0], [9, 0], [9, 9], [0, 9]],
@@ -161,14 +172,17 @@ fn wrong_lengths(tally: &mut Tally, number: usize, job: &Job) {
         ..Job::default()
     };
     for counts in [(usize::MAX, 0), (0, usize::MAX), (301, 0), (0, 125)] {
-        tally.add(&name, &square, refused(whole(&square), &square, counts, 3));
+        tally.add(&name, &square, refused((8, 0), &square, counts, 300, 3));
+    }
+    for marks in [0, 1, 299] {
+        tally.add(&name, &square, refused((8, 0), &square, (0, 0), marks, 3));
     }
 }
 
 fn over_calls(text: &str) -> ! {
     let (mut tally, mut met) = (Tally::default(), Met::default());
     for (list_number, given) in calls::read(text).iter().enumerate() {
-        let mut list = NodeList::holding(given.places, given.used, &given.nodes);
+        let mut list = NodeList::given(given);
         let mut image = node_image(&list, list_number % 2);
         for call in &given.calls {
             let (places, count, odd) = (call.cell_places, call.cell_count, list_number % 4);
@@ -267,7 +281,7 @@ fn over_prints(seed: &str, count: &str) -> ! {
     tally.end()
 }
 
-fn over_details(folder: &str) -> ! {
+fn over_details(folder: &str, agrees: fn(&std::path::Path) -> bool) -> ! {
     let mut different = 0;
     let mut names: Vec<_> = std::fs::read_dir(folder)
         .expect("the folder can be read")
@@ -276,7 +290,7 @@ fn over_details(folder: &str) -> ! {
         .collect();
     names.sort();
     for name in &names {
-        let agrees = sides::agrees_with_detail(name);
+        let agrees = agrees(name);
         println!(
             "{}  {}",
             if agrees { "agrees " } else { "DIFFERS" },

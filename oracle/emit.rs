@@ -28,11 +28,22 @@ pub fn seal(block: &mut [u8]) {
     block[CHECKED..].copy_from_slice(&sum.to_le_bytes());
 }
 
-/// A list and its calls as text.
+/// A list and its calls as text. Marks are written where they are not the usual:
+/// a place for each node, all 0.
 pub fn calls(given: &Given) -> String {
-    let mut text = format!("list {} {}\n", given.places, given.used);
-    for [x, y] in &given.nodes {
-        text += &format!("put {:016x} {:016x}\n", x.to_bits(), y.to_bits());
+    let usual = given.rims == given.places && given.marks.iter().all(|m| *m == 0);
+    let mark = |text: String| {
+        if usual {
+            String::new()
+        } else {
+            format!(" {text}")
+        }
+    };
+    let rims = mark(given.rims.to_string());
+    let mut text = format!("list {} {}{rims}\n", given.places, given.used);
+    for ([x, y], m) in given.nodes.iter().zip(&given.marks) {
+        let (x, y, m) = (x.to_bits(), y.to_bits(), mark(m.to_string()));
+        text += &format!("put {x:016x} {y:016x}{m}\n");
     }
     for call in &given.calls {
         text += &of_entry(&call.entry);

@@ -6,6 +6,7 @@ use crate::call::{divide_with, doubled, Answer, Cell, NodeList, UNTOUCHED};
 use crate::job::{Entry, Job, Marking};
 use crate::paper;
 use crate::stage::{polygon_area, Poly};
+use crate::standin;
 use std::fmt::Write;
 
 /// Places of the program's node list and cell list.
@@ -80,8 +81,7 @@ pub fn detailed_each(bytes: &[u8]) -> String {
         let mut list = NodeList::empty(NODE_PLACES);
         let run = run(&job, &mut list, CELL_PLACES, 0);
         detail(&mut out, number, &run, &list);
-        let marks = list.rims[..list.used].iter().map(u8::to_string);
-        line(&mut out, format_args!("rims {}", marks.collect::<String>()));
+        rims(&mut out, &list);
     }
     out
 }
@@ -194,13 +194,13 @@ fn list_cells(out: &mut String, name: &str, run: &Run) {
 
 /// The detailed form of calls over prefilled lists. After a call that got as
 /// far as its cells, the places of the cell list: `c` cell, `z` zero,
-/// `-` untouched.
+/// `-` untouched; and the rim marks, but in the form from before them.
 pub fn called(text: &str) -> String {
     let mut out = String::new();
     let mut number = 0;
     for given in crate::calls::read(text) {
         out.push_str("list\n");
-        let mut list = NodeList::holding(given.places, given.used, &given.nodes);
+        let mut list = NodeList::given(&given);
         for call in &given.calls {
             let marking = call.marking.as_ref();
             let (cells, count) = (call.cell_places, call.cell_count);
@@ -209,10 +209,19 @@ pub fn called(text: &str) -> String {
             if matches!(run.answer.code, 0 | 8) {
                 line(&mut out, format_args!("places {}", places(&run.cells)));
             }
+            if !standin::is_before() {
+                rims(&mut out, &list);
+            }
             number += 1;
         }
     }
     out
+}
+
+/// The marks of the used nodes.
+fn rims(out: &mut String, list: &NodeList) {
+    let marks = list.rims.iter().take(list.used).map(u8::to_string);
+    line(out, format_args!("rims {}", marks.collect::<String>()));
 }
 
 pub fn places(cells: &[Cell]) -> String {

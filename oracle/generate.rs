@@ -8,6 +8,7 @@
 //! generate leads SEED COUNT           the same, most calls with given marks
 //! generate sets SEED COUNT            the same, each call with a set of limits
 //! generate practice SEED COUNT        the same, each call of the practice entry
+//! generate rims SEED COUNT            the same, calls of every entry in turn on lists with marks
 //! generate ends SEED COUNT            COUNT rings, each with every set at an end
 //! generate damaged SEED COUNT FOLDER  COUNT damaged files
 
@@ -19,6 +20,7 @@ mod grid;
 mod job;
 mod kinds;
 mod known;
+mod lattice;
 mod leads;
 mod lists;
 mod marked;
@@ -45,6 +47,7 @@ fn main() {
         ["practice", seed, count] => {
             calls(number(seed), number(count), lists::for_practice).into_bytes()
         }
+        ["rims", seed, count] => calls(number(seed), number(count), lists::with_rims).into_bytes(),
         ["ends", seed, count] => ends(number(seed), number(count)).into_bytes(),
         ["grid", set, count] => file(grid::jobs(number(set)), number(count)),
         ["damaged", seed, count, folder] => damaged(number(seed), number(count), folder),
@@ -78,6 +81,7 @@ fn list() -> String {
     text += "leads     the same, most calls with given marks\n";
     text += "sets      the same, each call with a set of limits\n";
     text += "practice  the same, each call of the practice entry\n";
+    text += "rims      the same, calls of every entry in turn on lists with marks\n";
     text += "ends      rings, each with every set at an end of what is taken\n";
     text + "damaged   damaged block files, into a folder\n"
 }

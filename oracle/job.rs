@@ -84,12 +84,15 @@ pub struct Call {
     pub cell_count: usize,
 }
 
-/// A node list with what it holds, and the calls over it.
+/// A node list with what it holds, the places of its list of rim marks and the
+/// marks of its nodes, and the calls over it.
 #[derive(Default)]
 pub struct Given {
     pub places: usize,
     pub used: usize,
     pub nodes: Vec<[f64; 2]>,
+    pub rims: usize,
+    pub marks: Vec<u8>,
     pub calls: Vec<Call>,
 }
 

@@ -34,6 +34,8 @@ extern "C" {
         nodes: *mut f64,
         nodes_len: usize,
         node_count: usize,
+        rims: *mut u8,
+        rims_len: usize,
         cells: *mut NodeNumber,
         cells_len: usize,
         cell_count: usize,
@@ -54,6 +56,8 @@ extern "C" {
         nodes: *mut f64,
         nodes_len: usize,
         node_count: usize,
+        rims: *mut u8,
+        rims_len: usize,
         cells: *mut NodeNumber,
         cells_len: usize,
         cell_count: usize,
@@ -73,6 +77,8 @@ extern "C" {
         nodes: *mut f64,
         nodes_len: usize,
         node_count: usize,
+        rims: *mut u8,
+        rims_len: usize,
         cells: *mut NodeNumber,
         cells_len: usize,
         cell_count: usize,
@@ -87,6 +93,8 @@ extern "C" {
         nodes: *mut f64,
         nodes_len: usize,
         node_count: usize,
+        rims: *mut u8,
+        rims_len: usize,
         cells: *mut NodeNumber,
         cells_len: usize,
         cell_count: usize,
@@ -112,6 +120,8 @@ extern "C" {
         nodes: *mut f64,
         nodes_len: usize,
         node_count: usize,
+        rims: *mut u8,
+        rims_len: usize,
         cells: *mut NodeNumber,
         cells_len: usize,
         cell_count: usize,
@@ -178,14 +188,49 @@ impl<T: Copy> Guarded<T> {
     }
 }
 
-/// A node list of `places` with the listed nodes, and one more number if `odd`.
-pub fn node_image(list: &NodeList, odd: usize) -> Guarded<f64> {
+/// A node list with its marks, each between guards.
+#[derive(Clone)]
+pub struct Image {
+    pub nodes: Guarded<f64>,
+    pub rims: Guarded<u8>,
+}
+
+/// A node list of `places` with the listed nodes, one more number if `odd`, and
+/// its marks.
+pub fn node_image(list: &NodeList, odd: usize) -> Image {
     let filler = |place: usize| f64::from_bits(0x4012_3456_0000_0000 | place as u64);
-    let mut image = Guarded::new(2 * list.places + odd, filler);
-    for (number, value) in list.nodes.points.iter().flatten().enumerate() {
-        image.list()[number] = *value;
-    }
+    let mark = |place: usize| 0x60 | place as u8 & 0x0f;
+    let mut image = Image {
+        nodes: Guarded::new(2 * list.places + odd, filler),
+        rims: Guarded::new(list.rims.len(), mark),
+    };
+    image.holds(list);
     image
+}
+
+impl Image {
+    /// What the Rust has listed stands in it from here on.
+    fn holds(&mut self, list: &NodeList) {
+        let numbers = list.nodes.points.as_flattened();
+        self.nodes.list()[..numbers.len()].copy_from_slice(numbers);
+        self.rims.list().copy_from_slice(&list.rims);
+    }
+
+    /// The lists as a call is lent them.
+    pub fn lent<'a>(
+        &'a mut self,
+        node_count: usize,
+        cells: &'a mut Guarded<NodeNumber>,
+        cell_count: usize,
+    ) -> Lists<'a> {
+        Lists {
+            nodes: self.nodes.list(),
+            node_count,
+            rims: self.rims.list(),
+            cells: cells.list(),
+            cell_count,
+        }
+    }
 }
 
 /// A cell list of `places`, with `odd` more numbers.
@@ -193,61 +238,90 @@ pub fn cell_image(places: usize, odd: usize) -> Guarded<NodeNumber> {
     Guarded::new(4 * places + odd, |place| 0x9000_0000 ^ place as NodeNumber)
 }
 
-/// Calls the library's examination entry with these lengths and counts.
-pub fn call(
-    lengths: (usize, usize),
-    job: &Job,
-    nodes: &mut [f64],
-    node_count: usize,
-    cells: &mut [NodeNumber],
-    cell_count: usize,
-) -> Returned {
-    let entry = Entry::Examination;
-    call_by(&entry, lengths, job, nodes, node_count, cells, cell_count)
+/// What a call is handed, flat as it is lent: given marks stand in place of the
+/// chain where there are some.
+pub struct Handed<'a> {
+    pub entry: Entry,
+    pub ring: &'a [i32],
+    pub chain: &'a [i32],
+    pub marking: Option<&'a Marking>,
+    pub size: u32,
 }
 
-/// Calls the library's entry with these lengths and counts.
-pub fn call_by(
-    entry: &Entry,
-    lengths: (usize, usize),
-    job: &Job,
-    nodes: &mut [f64],
-    node_count: usize,
-    cells: &mut [NodeNumber],
-    cell_count: usize,
-) -> Returned {
-    assert!(lengths.0 <= 2 * job.ring.len() && lengths.1 <= 2 * job.chain.len());
-    let (ring, chain) = (job.ring.as_ptr().cast(), job.chain.as_ptr().cast());
-    let (ring_len, chain_len) = lengths;
-    let (numbers, numbers_len) = (nodes.as_mut_ptr(), nodes.len());
-    let (places, places_len) = (cells.as_mut_ptr(), cells.len());
+/// The lists that a call is lent.
+pub struct Lists<'a> {
+    pub nodes: &'a mut [f64],
+    pub node_count: usize,
+    pub rims: &'a mut [u8],
+    pub cells: &'a mut [NodeNumber],
+    pub cell_count: usize,
+}
+
+impl<'a> Handed<'a> {
+    pub fn new(entry: &Entry, job: &'a Job, marking: Option<&'a Marking>) -> Self {
+        Handed {
+            entry: *entry,
+            ring: job.ring.as_flattened(),
+            chain: job.chain.as_flattened(),
+            marking,
+            size: job.size,
+        }
+    }
+}
+
+/// Calls the library's examination entry.
+pub fn call(job: &Job, lists: Lists) -> Returned {
+    called(&Handed::new(&Entry::Examination, job, None), lists)
+}
+
+/// Calls the library's entry.
+pub fn called(handed: &Handed, lists: Lists) -> Returned {
+    match handed.marking {
+        Some(marking) => with_marks(handed, marking, lists),
+        None => with_chain(handed, lists),
+    }
+}
+
+fn with_chain(handed: &Handed, lists: Lists) -> Returned {
+    let (ring, chain, size) = (handed.ring, handed.chain, handed.size);
+    let Lists {
+        nodes,
+        node_count,
+        rims,
+        cells,
+        cell_count,
+    } = lists;
     // Each pointer comes with the length of its own list, which outlives the call.
     unsafe {
-        match *entry {
+        match handed.entry {
             Entry::Practice => ring_divide_practice(
-                ring,
-                ring_len,
-                chain,
-                chain_len,
-                job.size,
-                numbers,
-                numbers_len,
+                ring.as_ptr(),
+                ring.len(),
+                chain.as_ptr(),
+                chain.len(),
+                size,
+                nodes.as_mut_ptr(),
+                nodes.len(),
                 node_count,
-                places,
-                places_len,
+                rims.as_mut_ptr(),
+                rims.len(),
+                cells.as_mut_ptr(),
+                cells.len(),
                 cell_count,
             ),
             Entry::Examination => ring_divide(
-                ring,
-                ring_len,
-                chain,
-                chain_len,
-                job.size,
-                numbers,
-                numbers_len,
+                ring.as_ptr(),
+                ring.len(),
+                chain.as_ptr(),
+                chain.len(),
+                size,
+                nodes.as_mut_ptr(),
+                nodes.len(),
                 node_count,
-                places,
-                places_len,
+                rims.as_mut_ptr(),
+                rims.len(),
+                cells.as_mut_ptr(),
+                cells.len(),
                 cell_count,
             ),
             Entry::Limited(set) => ring_divide_set(
@@ -256,59 +330,56 @@ pub fn call_by(
                 set.greatest,
                 set.cuts,
                 set.share,
-                ring,
-                ring_len,
-                chain,
-                chain_len,
-                job.size,
-                numbers,
-                numbers_len,
+                ring.as_ptr(),
+                ring.len(),
+                chain.as_ptr(),
+                chain.len(),
+                size,
+                nodes.as_mut_ptr(),
+                nodes.len(),
                 node_count,
-                places,
-                places_len,
+                rims.as_mut_ptr(),
+                rims.len(),
+                cells.as_mut_ptr(),
+                cells.len(),
                 cell_count,
             ),
         }
     }
 }
 
-/// Calls the library with given marks and so many numbers of the ring.
-pub fn call_marked(
-    entry: &Entry,
-    length: usize,
-    (job, m): (&Job, &Marking),
-    nodes: &mut [f64],
-    node_count: usize,
-    cells: &mut [NodeNumber],
-    cell_count: usize,
-) -> Returned {
-    assert!(length <= 2 * job.ring.len());
-    let ring = job.ring.as_ptr().cast();
-    let (kinds, snaps) = (m.kinds.as_ptr(), m.snaps.as_ptr());
-    let (outline, loops) = (m.outline.as_ptr(), m.loops.as_ptr());
-    let (numbers, numbers_len) = (nodes.as_mut_ptr(), nodes.len());
-    let (places, places_len) = (cells.as_mut_ptr(), cells.len());
+fn with_marks(handed: &Handed, m: &Marking, lists: Lists) -> Returned {
+    let (ring, size) = (handed.ring, handed.size);
+    let Lists {
+        nodes,
+        node_count,
+        rims,
+        cells,
+        cell_count,
+    } = lists;
     // Each pointer comes with the length of its own list, which outlives the call.
     unsafe {
-        match *entry {
+        match handed.entry {
             Entry::Practice => unreachable!("the practice paper has a chain"),
             Entry::Examination => ring_divide_marked(
-                ring,
-                length,
-                kinds,
+                ring.as_ptr(),
+                ring.len(),
+                m.kinds.as_ptr(),
                 m.kinds.len(),
-                snaps,
+                m.snaps.as_ptr(),
                 m.snaps.len(),
-                outline,
+                m.outline.as_ptr(),
                 m.outline.len(),
-                loops,
+                m.loops.as_ptr(),
                 m.loops.len(),
-                job.size,
-                numbers,
-                numbers_len,
+                size,
+                nodes.as_mut_ptr(),
+                nodes.len(),
                 node_count,
-                places,
-                places_len,
+                rims.as_mut_ptr(),
+                rims.len(),
+                cells.as_mut_ptr(),
+                cells.len(),
                 cell_count,
             ),
             Entry::Limited(set) => ring_divide_marked_set(
@@ -317,76 +388,76 @@ pub fn call_marked(
                 set.greatest,
                 set.cuts,
                 set.share,
-                ring,
-                length,
-                kinds,
+                ring.as_ptr(),
+                ring.len(),
+                m.kinds.as_ptr(),
                 m.kinds.len(),
-                snaps,
+                m.snaps.as_ptr(),
                 m.snaps.len(),
-                outline,
+                m.outline.as_ptr(),
                 m.outline.len(),
-                loops,
+                m.loops.as_ptr(),
                 m.loops.len(),
-                job.size,
-                numbers,
-                numbers_len,
+                size,
+                nodes.as_mut_ptr(),
+                nodes.len(),
                 node_count,
-                places,
-                places_len,
+                rims.as_mut_ptr(),
+                rims.len(),
+                cells.as_mut_ptr(),
+                cells.len(),
                 cell_count,
             ),
         }
     }
 }
 
-pub fn whole(job: &Job) -> (usize, usize) {
-    (2 * job.ring.len(), 2 * job.chain.len())
-}
-
-/// Runs a call on both sides and compares every value, node bit, cell place
-/// and guard. `odd` numbers more than its places stand at each list's end.
+/// Runs a call on both sides and compares every value, node bit, mark, cell
+/// place and guard. `odd` numbers more than its places stand at the end of the
+/// cell list.
 pub fn compared(
     entry: &Entry,
     job: &Job,
     marking: Option<&Marking>,
     list: &mut NodeList,
-    image: &mut Guarded<f64>,
+    image: &mut Image,
     cell_places: usize,
     cell_count: usize,
     odd: usize,
 ) -> Result<Returned, String> {
     let mut cells = cell_image(cell_places, odd);
     let mut expected_cells = cells.clone();
-    let mut expected_nodes = image.clone();
-    let used = list.used;
-    let lent = (image.list(), cells.list());
-    let returned = match marking {
-        Some(m) => call_marked(entry, whole(job).0, (job, m), lent.0, used, lent.1, cell_count),
-        None => call_by(entry, whole(job), job, lent.0, used, lent.1, cell_count),
-    };
+    let mut expected = image.clone();
+    let handed = Handed::new(entry, job, marking);
+    let returned = called(&handed, image.lent(list.used, &mut cells, cell_count));
 
     let run = run_with(entry, job, marking, list, cell_places, cell_count);
-    for (number, value) in list.nodes.points.iter().flatten().enumerate() {
-        expected_nodes.list()[number] = *value;
-    }
+    expected.holds(list);
     overlay(expected_cells.list(), &run.cells);
     let answer = Returned::from(&run.answer);
     if returned != answer {
         return Err(format!("returned\n  {returned:?}, the Rust\n  {answer:?}"));
     }
+    same_lists((image, &cells), (&expected, &expected_cells))?;
+    Ok(returned)
+}
+
+type Both<'a> = (&'a Image, &'a Guarded<NodeNumber>);
+
+fn same_lists((ours, cells): Both, (rust, rust_cells): Both) -> Result<(), String> {
     same(
         "node number",
-        &image.numbers,
-        &expected_nodes.numbers,
-        |f| f.to_bits(),
+        &ours.nodes.numbers,
+        &rust.nodes.numbers,
+        f64::to_bits,
     )?;
+    same("mark", &ours.rims.numbers, &rust.rims.numbers, u64::from)?;
     same(
         "cell number",
         &cells.numbers,
-        &expected_cells.numbers,
+        &rust_cells.numbers,
         u64::from,
-    )?;
-    Ok(returned)
+    )
 }
 
 /// The cells that the Rust wrote, over what was there.
@@ -412,17 +483,27 @@ fn same<T: Copy>(name: &str, ours: &[T], rust: &[T], bits: fn(T) -> u64) -> Resu
     }
 }
 
-/// A call that must leave all as found: nothing may change but the answer.
+/// A call of the examination entry that must leave all as found: nothing may
+/// change but the answer. Of the ring and the chain so many numbers are lent, and
+/// of the marks of 300 places so many.
 pub fn refused(
     lengths: (usize, usize),
     job: &Job,
     counts: (usize, usize),
+    marks: usize,
     code: u64,
 ) -> Result<(), String> {
-    let list = NodeList::empty(300);
-    let (mut nodes, mut cells) = (node_image(&list, 1), cell_image(124, 3));
-    let (nodes_before, cells_before) = (nodes.clone(), cells.clone());
-    let returned = call(lengths, job, nodes.list(), counts.0, cells.list(), counts.1);
+    let mut list = NodeList::empty(300);
+    list.rims.truncate(marks);
+    let (mut image, mut cells) = (node_image(&list, 1), cell_image(124, 3));
+    let before = (image.clone(), cells.clone());
+    let whole = Handed::new(&Entry::Examination, job, None);
+    let handed = Handed {
+        ring: &whole.ring[..lengths.0],
+        chain: &whole.chain[..lengths.1],
+        ..whole
+    };
+    let returned = called(&handed, image.lent(counts.0, &mut cells, counts.1));
     let kept = Answer {
         nodes: counts.0,
         cells: counts.1,
@@ -435,15 +516,7 @@ pub fn refused(
     if returned != answer {
         return Err(format!("returned\n  {returned:?}, wanted\n  {answer:?}"));
     }
-    same("node number", &nodes.numbers, &nodes_before.numbers, |f| {
-        f.to_bits()
-    })?;
-    same(
-        "cell number",
-        &cells.numbers,
-        &cells_before.numbers,
-        u64::from,
-    )
+    same_lists((&image, &cells), (&before.0, &before.1))
 }
 
 /// A call of the writer, twice, over a destination of `room` bytes and over one

@@ -3,6 +3,7 @@
 
 use crate::job::{Call, Entry, Given, Job};
 use crate::kinds;
+use crate::lattice;
 use crate::leads;
 use crate::place::Ring;
 use crate::random::Random;
@@ -10,16 +11,17 @@ use crate::sets;
 
 /// A list of one to four calls, the first ring called again at the end.
 pub fn given(random: &mut Random, job: impl Fn(&mut Random, usize) -> Job) -> Given {
-    given_by(random, job, |_| Entry::Examination)
+    given_by(random, 3, job, |_| Entry::Examination)
 }
 
-/// The same, each call of some entry.
+/// The same, each call of some entry, and so many calls at most but for the last.
 fn given_by(
     random: &mut Random,
+    most: usize,
     job: impl Fn(&mut Random, usize) -> Job,
     entry: impl Fn(&mut Random) -> Entry,
 ) -> Given {
-    let count = 1 + random.below(3);
+    let count = 1 + random.below(most);
     let mut jobs: Vec<Job> = (0..count).map(|k| job(random, k)).collect();
     if random.one_in(2) {
         jobs.push(jobs[0].clone());
@@ -43,6 +45,8 @@ fn given_by(
     Given {
         places,
         used,
+        rims: places,
+        marks: vec![0; nodes.len()],
         nodes,
         calls,
     }
@@ -56,7 +60,7 @@ pub fn with_marks(random: &mut Random, job: impl Fn(&mut Random, usize) -> Job) 
 
 /// The same, each call with a set of limits and two of three with given marks.
 pub fn with_sets(random: &mut Random, job: impl Fn(&mut Random, usize) -> Job) -> Given {
-    let given = given_by(random, job, sets::any);
+    let given = given_by(random, 3, job, sets::any);
     marked(random, given)
 }
 
@@ -66,12 +70,44 @@ pub fn for_practice(random: &mut Random, job: impl Fn(&mut Random, usize) -> Job
         true => job(random, place),
         false => kinds::paper(random),
     };
-    given_by(random, either, |_| Entry::Practice)
+    given_by(random, 3, either, |_| Entry::Practice)
+}
+
+/// Calls of every entry in turn on a list with marks; two rings of three are of
+/// one small lattice, where corners, middles and centres meet.
+pub fn with_rims(random: &mut Random, job: impl Fn(&mut Random, usize) -> Job) -> Given {
+    let either = |random: &mut Random, place| match random.one_in(3) {
+        true => job(random, place),
+        false => lattice::job(random),
+    };
+    let entry = |random: &mut Random| match random.below(4) {
+        0 => Entry::Examination,
+        1 => Entry::Practice,
+        _ => sets::any(random),
+    };
+    let given = given_by(random, 6, either, entry);
+    let mut given = marked(random, given);
+    for mark in &mut given.marks {
+        *mark = random.below(2) as u8;
+    }
+    let places = given.places;
+    given.rims = match random.below(20) {
+        0 => places.saturating_sub(1),
+        1 => random.pick(&[0, given.used, places / 2]).min(places),
+        2..=4 => places + 1 + random.below(40),
+        _ => places,
+    };
+    if random.one_in(16) && !given.marks.is_empty() {
+        let at = random.below(given.marks.len());
+        given.marks[at] = random.pick(&[2, 3, 7, 128, 254, 255]);
+    }
+    given
 }
 
 fn marked(random: &mut Random, mut given: Given) -> Given {
+    let chained = |call: &Call| call.entry == Entry::Practice || call.job.ring.is_empty();
     for call in &mut given.calls {
-        if !call.job.ring.is_empty() && !random.one_in(3) {
+        if !chained(call) && !random.one_in(3) {
             call.marking = Some(leads::marking(random, &call.job));
         }
     }
@@ -89,6 +125,7 @@ pub fn alone(entry: Entry, job: &Job) -> Given {
     };
     Given {
         places: 1_536,
+        rims: 1_536,
         calls: vec![call],
         ..Given::default()
     }

@@ -41,6 +41,7 @@ mod supplied;
 mod traced;
 
 use std::io::{Read, Write};
+use supplied::Lent;
 
 fn main() {
     let mut words = std::env::args().skip(1).peekable();
@@ -61,8 +62,8 @@ fn main() {
         "census" => census::all(&input),
         "stages" => stages::all(&input),
         "calls" => forms::called(lines()),
-        "rims" => supplied::of_blocks(&input),
-        "supplied" => supplied::all(lines()),
+        "rims" => supplied::of_blocks(&input, Lent::run),
+        "supplied" => supplied::all(lines(), Lent::run, smallest::answer),
         "crossings" => supplied::crossings(lines()),
         _ => {
             eprintln!("use: oracle [before] divide|sheet|detail|each|stages|census|calls|rims|supplied|crossings < INPUT");

@@ -6,7 +6,7 @@ use crate::blocks::Jobs;
 use crate::call::{divide, NodeList, UNTOUCHED};
 use crate::forms::{line, CELL_PLACES, NODE_PLACES};
 use crate::job::Job;
-use crate::library::{call, cell_image, node_image, whole};
+use crate::library::{call, cell_image, node_image};
 use std::alloc::{GlobalAlloc, Layout, System};
 use std::sync::atomic::{AtomicUsize, Ordering::Relaxed};
 
@@ -109,9 +109,9 @@ fn rust(job: &Job) -> (usize, usize) {
 }
 
 fn library(job: &Job) -> (usize, usize) {
-    let mut nodes = node_image(&NodeList::empty(NODE_PLACES), 0);
+    let mut image = node_image(&NodeList::empty(NODE_PLACES), 0);
     let mut cells = cell_image(CELL_PLACES, 0);
     measured(&mut || {
-        call(whole(job), job, nodes.list(), 0, cells.list(), 0);
+        call(job, image.lent(0, &mut cells, 0));
     })
 }

@@ -8,11 +8,13 @@
 //! record sheets FILE               the calls of the cell sheet, likewise; those over 64 numbers are left out
 //! record crossings FILE            the segments of FILE.cross, answered as FILE.answers says
 //!
-//! 1 PLACES USED, then for each used node (PLACES at most) four words: x, y
+//! 1 PLACES USED RIMS, then for each used node (PLACES at most) four words: x, y,
+//!   and the marks of these (RIMS at most), four to a word
 //! 2 SIZE CELL_NUMBERS CELL_COUNT RING_NUMBERS CHAIN_NUMBERS, the coordinates,
 //!   code corners k marked cuts pieces, turned and area (two words each),
 //!   nodes cells, the count of new node numbers and two words for each,
-//!   the first cell number that is written, how many, and a word for each
+//!   the first cell number that is written, how many, and a word for each, the
+//!   count of marks, with 0 and 8 those of all nodes, and these, four to a word
 //! 5 SIZE CELL_NUMBERS CELL_COUNT RING_NUMBERS KINDS SNAPS OUTLINE LOOPS, the
 //!   ring, the kinds, two words for each number of the snaps, the outline, the
 //!   loops, and as in 2 what is left
@@ -85,13 +87,16 @@ impl Words {
         self.put((long >> 32) as u32);
     }
 
-    fn list(&mut self, places: usize, used: usize, nodes: &[[f64; 2]]) {
+    fn list(&mut self, list: &NodeList) {
+        let nodes = &list.nodes.points;
         self.put(1);
-        self.count(places);
-        self.count(used);
+        self.count(list.places);
+        self.count(list.used);
+        self.count(list.rims.len());
         for x in nodes.iter().flatten() {
             self.long(x.to_bits());
         }
+        self.packed(&list.rims[..nodes.len().min(list.rims.len())]);
     }
 
     fn call(&mut self, job: &Job, run: &Run, list: &NodeList) {
@@ -169,6 +174,8 @@ impl Words {
         for number in run.cells[first..end].iter().flatten() {
             self.put((*number).into());
         }
+        let marked = matches!(a.code, 0 | 8);
+        self.bytes(&list.rims[..if marked { a.nodes } else { 0 }]);
     }
 
     fn block(&mut self, number: usize, bytes: &[u8], code: u8) {
@@ -198,6 +205,11 @@ impl Words {
 
     fn bytes(&mut self, bytes: &[u8]) {
         self.count(bytes.len());
+        self.packed(bytes);
+    }
+
+    /// Four to a word.
+    fn packed(&mut self, bytes: &[u8]) {
         self.0.extend(bytes);
         self.0.resize(self.0.len().next_multiple_of(4), 0);
     }
@@ -244,7 +256,7 @@ fn rings(bytes: &[u8], chosen: &[usize]) -> Words {
             continue;
         }
         let mut list = NodeList::empty(NODE_PLACES);
-        words.list(NODE_PLACES, 0, &[]);
+        words.list(&list);
         let ran = run(&job, &mut list, CELL_PLACES, 0);
         words.call(&job, &ran, &list);
     }
@@ -255,11 +267,11 @@ fn lists(text: &str) -> Words {
     let mut words = Words::default();
     for given in calls::read(text) {
         let small = |c: &job::Call| held(&c.job) && c.cell_places <= MOST_CELLS;
-        if given.places > NODE_PLACES || !given.calls.iter().all(small) {
+        if given.places.max(given.rims) > NODE_PLACES || !given.calls.iter().all(small) {
             continue;
         }
-        let mut list = NodeList::holding(given.places, given.used, &given.nodes);
-        words.list(given.places, given.used, &given.nodes);
+        let mut list = NodeList::given(&given);
+        words.list(&list);
         for call in &given.calls {
             let marking = call.marking.as_ref();
             let (places, count) = (call.cell_places, call.cell_count);

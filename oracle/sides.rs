@@ -1,73 +1,120 @@
 //! The library alone: its detailed form against kept files.
 
-use crate::blocks::Jobs;
 use crate::call::{Answer, NodeList, NodeNumber};
 use crate::calls;
-use crate::forms::{self, answer_line, line, CELL_PLACES, NODE_PLACES};
-use crate::job::Job;
-use crate::library::{call, cell_image, node_image, whole, Guarded, Returned};
+use crate::forms::{self, line, Run};
+use crate::job::Given;
+use crate::library::{called, Handed, Lists, Returned};
+use crate::supplied::{self, Called, Lent};
 use std::path::Path;
 
-/// Does the library give the detailed form that stands beside `input`? The
-/// lines of pieces are left out: pieces are not returned. A file from before
-/// Card 11 is held to the Rust with its test.
+/// Does the library give the detailed form that stands beside `input`, a file
+/// without rim marks? The lines of pieces are left out: pieces are not returned.
+/// A file from before Card 11 is held to the Rust with its test.
 pub fn agrees_with_detail(input: &Path) -> bool {
     let bytes = std::fs::read(input).expect("the input can be read");
-    let kept = std::fs::read_to_string(input.with_extension("detail")).expect("a detailed form");
     let (ours, rust) = match input.extension().is_some_and(|e| e == "calls") {
         true => {
             let text = String::from_utf8(bytes).expect("calls are text");
             (detail_of_calls(&text), forms::called(&text))
         }
-        false => (detail_of_blocks(&bytes), forms::detailed(&bytes)),
+        false => (supplied::of_blocks(&bytes, run), forms::detailed(&bytes)),
     };
-    let returned = |l: &&str| !l.starts_with("piece ");
-    let equal = |kept: &str| ours.lines().eq(kept.lines().filter(returned));
-    equal(&kept) || equal(&rust)
+    let ours: Vec<&str> = ours.lines().filter_map(without_mark).collect();
+    let equal = |kept: &str| {
+        let other = |l: &&str| !l.starts_with("piece ") && !l.starts_with("rims ");
+        let kept = kept.lines().filter(other);
+        kept.eq(ours.iter().copied())
+    };
+    equal(&kept(input)) || equal(&rust)
 }
 
-fn detail_of_blocks(bytes: &[u8]) -> String {
-    let mut out = String::new();
-    let mut image = node_image(&NodeList::empty(NODE_PLACES), 0);
-    let mut used = 0;
-    for (number, job) in Jobs::new(bytes).enumerate() {
-        match job {
-            Ok(job) => {
-                let mut cells = cell_image(CELL_PLACES, 0);
-                detail(&mut out, number, &job, &mut image, &mut used, &mut cells, 0);
-            }
-            Err(r) => line(
-                &mut out,
-                format_args!("block {} refused {}", r.block, r.code),
-            ),
+/// The same with rim marks, of the supplied calls and blocks of the cards. The
+/// smallest rings still refused are left out.
+pub fn agrees_with_supplied(input: &Path) -> bool {
+    let bytes = std::fs::read(input).expect("the input can be read");
+    let ours = match input.extension().is_some_and(|e| e == "calls") {
+        true => {
+            let text = String::from_utf8(bytes).expect("calls are text");
+            supplied::all(&text, run, |_| [0; 4])
         }
-    }
-    out
+        false => supplied::of_blocks(&bytes, run),
+    };
+    let divided = |l: &&str| !l.starts_with("smallest ");
+    let kept = kept(input);
+    ours.lines()
+        .filter(divided)
+        .eq(kept.lines().filter(divided))
 }
 
+fn kept(input: &Path) -> String {
+    std::fs::read_to_string(input.with_extension("detail")).expect("a detailed form")
+}
+
+/// A line of the form with marks as the form without has it.
+fn without_mark(line: &str) -> Option<&str> {
+    match line.split(' ').next() {
+        Some("rim") => None,
+        Some("node") => line.rsplit_once(' ').map(|(node, _)| node),
+        _ => Some(line),
+    }
+}
+
+/// A call of the library, which leaves its nodes, marks and count in the list.
+fn run(lent: &mut Lent, call: &Called) -> Run {
+    let mut cells = vec![NodeNumber::MAX; call.cell_numbers];
+    let nodes_before = lent.used;
+    let handed = Handed {
+        entry: call.entry,
+        ring: &call.ring,
+        chain: &call.chain,
+        marking: call.marking.as_ref(),
+        size: call.size,
+    };
+    let lists = Lists {
+        nodes: &mut lent.numbers,
+        node_count: lent.used,
+        rims: &mut lent.rims,
+        cells: &mut cells,
+        cell_count: call.cell_count,
+    };
+    let returned = called(&handed, lists);
+    lent.used = returned.nodes as usize;
+    let cell = |c: &[NodeNumber]| [c[0], c[1], c[2], c[3]];
+    Run {
+        answer: answer(&returned),
+        pieces: Vec::new(),
+        cells: cells.chunks_exact(4).map(cell).collect(),
+        nodes_before,
+        cells_before: call.cell_count,
+    }
+}
+
+/// The detailed form of calls over prefilled lists, all of whose nodes are inside.
 fn detail_of_calls(text: &str) -> String {
-    let mut out = String::new();
-    let mut number = 0;
+    let (mut out, mut number) = (String::new(), 0);
     for given in calls::read(text) {
         out.push_str("list\n");
-        let list = NodeList::holding(given.places, given.used, &given.nodes);
-        let (mut image, mut used) = (node_image(&list, 0), given.used);
-        for c in &given.calls {
-            let mut cells = cell_image(c.cell_places, 0);
-            let before = cells.list().to_vec();
-            let a = detail(
-                &mut out,
-                number,
-                &c.job,
-                &mut image,
-                &mut used,
-                &mut cells,
-                c.cell_count,
-            );
-            if matches!(a.code, 0 | 8) {
+        let mut lent = lent(&given);
+        for c in given.calls {
+            let before = lent.rims.clone();
+            let call = Called {
+                entry: c.entry,
+                size: c.job.size,
+                ring: c.job.ring.concat(),
+                chain: c.job.chain.concat(),
+                marking: c.marking,
+                cell_numbers: 4 * c.cell_places,
+                cell_count: c.cell_count,
+                ..Called::default()
+            };
+            let run = run(&mut lent, &call);
+            let name = format!("ring {number}");
+            supplied::detail(&mut out, &name, &run, &before, &lent);
+            if matches!(run.answer.code, 0 | 8) {
                 line(
                     &mut out,
-                    format_args!("places {}", places(&before, cells.list())),
+                    format_args!("places {}", forms::places(&run.cells)),
                 );
             }
             number += 1;
@@ -76,49 +123,16 @@ fn detail_of_calls(text: &str) -> String {
     out
 }
 
-fn places(before: &[NodeNumber], after: &[NodeNumber]) -> String {
-    let pairs = before.chunks_exact(4).zip(after.chunks_exact(4));
-    let sign = |(old, new): (&[NodeNumber], &[NodeNumber])| match new {
-        _ if old == new => '-',
-        [0, 0, 0, 0] => 'z',
-        _ => 'c',
-    };
-    pairs.map(sign).collect()
-}
-
-fn detail(
-    out: &mut String,
-    number: usize,
-    job: &Job,
-    image: &mut Guarded<f64>,
-    used: &mut usize,
-    cells: &mut Guarded<NodeNumber>,
-    cell_count: usize,
-) -> Returned {
-    let before = *used;
-    let a = call(
-        whole(job),
-        job,
-        image.list(),
-        before,
-        cells.list(),
-        cell_count,
-    );
-    *used = a.nodes as usize;
-    answer_line(out, &format!("ring {number}"), &answer(&a), before);
-    for i in before..*used {
-        let [x, y] = [image.list()[2 * i], image.list()[2 * i + 1]].map(f64::to_bits);
-        line(out, format_args!("node {i} {x:016x} {y:016x}"));
+fn lent(given: &Given) -> Lent {
+    let list = NodeList::given(given);
+    let mut numbers = vec![f64::INFINITY; 2 * given.places];
+    let listed = list.nodes.points.as_flattened();
+    numbers[..listed.len()].copy_from_slice(listed);
+    Lent {
+        numbers,
+        used: list.used,
+        rims: list.rims,
     }
-    if a.code == 0 {
-        for c in cells.list()[4 * cell_count..4 * a.cells as usize].chunks_exact(4) {
-            line(
-                out,
-                format_args!("cell {} {} {} {}", c[0], c[1], c[2], c[3]),
-            );
-        }
-    }
-    a
 }
 
 /// The answer with its corners where the detailed form has them.

@@ -10,9 +10,13 @@ thread_local! {
     static THIRD_CORNER: Cell<bool> = const { Cell::new(true) };
 }
 
-/// Card 11's test is left out from here on.
+/// From here on all is as it was before Card 11: its test is left out.
 pub fn before_card_11() {
     THIRD_CORNER.set(false);
+}
+
+pub fn is_before() -> bool {
+    !THIRD_CORNER.get()
 }
 
 /// The set of limits of the call that runs.

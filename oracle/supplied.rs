@@ -1,5 +1,5 @@
 //! The supplied calls of the cards: their text form, and the detailed form of
-//! what the Rust returns and leaves, rim marks included.
+//! what the Rust, or the library, returns and leaves, rim marks included.
 //!
 //! list LEN USED RIMS       LEN numbers of nodes, all infinite; RIMS marks, all 9
 //! put X Y MARK             the next place of the list
@@ -12,11 +12,11 @@
 //! A slice is written flat and may have any length. `#` begins a comment.
 
 use crate::blocks::Jobs;
-use crate::call::{Answer, Cell, NodeList, UNTOUCHED};
-use crate::forms::{self, answer_line, line, run, run_with, Run, CELL_PLACES, NODE_PLACES};
+use crate::call::{Answer, Cell, NodeList, NO_MARK, UNTOUCHED};
+use crate::forms::{self, answer_line, line, run_with, Run, CELL_PLACES, NODE_PLACES};
 use crate::job::{Entry, Job, Marking, Set};
 use crate::meeting;
-use crate::smallest::{self, Case};
+use crate::smallest::{Answer as Least, Case};
 
 /// One line, after which the list and the calls before it stay as they are.
 pub enum Step {
@@ -60,7 +60,7 @@ pub fn read(text: &str) -> Vec<Step> {
                 steps.push(Step::List(Lent {
                     numbers: vec![f64::INFINITY; number(numbers)],
                     used: number(used),
-                    rims: vec![9; number(rims)],
+                    rims: vec![NO_MARK; number(rims)],
                 }));
             }
             ["put", x, y, mark] => {
@@ -188,7 +188,7 @@ impl Lent {
     }
 
     /// A call by the Rust, which leaves its nodes, marks and count here.
-    fn run(&mut self, call: &Called) -> Run {
+    pub fn run(&mut self, call: &Called) -> Run {
         let places = call.cell_numbers / 4;
         let Some(job) = call.job() else {
             return refused(1, self.used, places, call.cell_count);
@@ -226,8 +226,12 @@ fn refused(code: u8, used: usize, places: usize, cell_count: usize) -> Run {
     }
 }
 
-/// The detailed form of supplied calls.
-pub fn all(text: &str) -> String {
+/// The detailed form of supplied calls, each run by one side.
+pub fn all(
+    text: &str,
+    run: impl Fn(&mut Lent, &Called) -> Run,
+    smallest: impl Fn(&Case) -> Least,
+) -> String {
     let (mut out, mut number) = (String::new(), 0);
     let mut lent = Lent::default();
     for step in read(text) {
@@ -240,7 +244,7 @@ pub fn all(text: &str) -> String {
             Step::Rim(place, mark) => lent.rims[place] = mark,
             Step::Call(call) => {
                 let before = lent.rims.clone();
-                let run = lent.run(&call);
+                let run = run(&mut lent, &call);
                 let name = format!("call {number} {}", call.name);
                 detail(&mut out, &name, &run, &before, &lent);
                 if matches!(run.answer.code, 0 | 8) {
@@ -249,7 +253,7 @@ pub fn all(text: &str) -> String {
                 number += 1;
             }
             Step::Smallest(call) => {
-                let [code, refusal, choice, points] = smallest::answer(&call.case());
+                let [code, refusal, choice, points] = smallest(&call.case());
                 line(
                     &mut out,
                     format_args!("smallest {number} code {code} refusal {refusal} choice {choice} points {points}"),
@@ -262,31 +266,42 @@ pub fn all(text: &str) -> String {
 }
 
 /// The same of blocks, over one list of the program's.
-pub fn of_blocks(bytes: &[u8]) -> String {
+pub fn of_blocks(bytes: &[u8], run: impl Fn(&mut Lent, &Called) -> Run) -> String {
     let mut out = String::new();
-    let mut list = NodeList::empty(NODE_PLACES);
+    let mut lent = Lent {
+        numbers: vec![f64::INFINITY; 2 * NODE_PLACES],
+        used: 0,
+        rims: vec![NO_MARK; NODE_PLACES],
+    };
     for (number, job) in Jobs::new(bytes).enumerate() {
-        let Ok(job) = job else {
-            let r = job.err().expect("a refused block");
-            line(
+        match job {
+            Ok(job) => {
+                let before = lent.rims.clone();
+                let run = run(&mut lent, &of_job(&job));
+                detail(&mut out, &format!("ring {number}"), &run, &before, &lent);
+            }
+            Err(r) => line(
                 &mut out,
                 format_args!("block {} refused {}", r.block, r.code),
-            );
-            break;
-        };
-        let before = list.rims.clone();
-        let run = run(&job, &mut list, CELL_PLACES, 0);
-        let lent = Lent {
-            numbers: list.nodes.points.concat(),
-            used: list.used,
-            rims: list.rims.clone(),
-        };
-        detail(&mut out, &format!("ring {number}"), &run, &before, &lent);
+            ),
+        }
     }
     out
 }
 
-fn detail(out: &mut String, name: &str, run: &Run, before: &[u8], lent: &Lent) {
+/// A call of the examination entry with the program's cell list.
+fn of_job(job: &Job) -> Called {
+    Called {
+        size: job.size,
+        ring: job.ring.concat(),
+        chain: job.chain.concat(),
+        cell_numbers: 4 * CELL_PLACES,
+        ..Called::default()
+    }
+}
+
+/// What a call returned, new nodes with their marks, marks that changed, cells.
+pub fn detail(out: &mut String, name: &str, run: &Run, before: &[u8], lent: &Lent) {
     answer_line(out, name, &run.answer, run.nodes_before);
     if !matches!(run.answer.code, 0 | 8) {
         return;

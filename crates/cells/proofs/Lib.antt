@@ -11,3 +11,6 @@ pub mod EdgeMiddles
 pub mod CellList
 pub mod OneAttempt
 pub mod TwoAttempts
+pub mod Rims
+pub mod Marking
+pub mod Asking

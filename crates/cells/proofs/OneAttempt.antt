@@ -28,7 +28,9 @@ use Rattle.cells.specs.declared.Tried.{Tried}
 use Rattle.cells.specs.Cells.{tooFar, edgeMiddle, total, mean, holds, cellsTo, noCell, Attempt, attempt}
 use Rattle.cells.specs.Stages.{marksOf}
 use Rattle.marks.specs.Edges.{marksIn}
-use Rattle.cells.specs.Flat.{partIn, cornerAt, CanAdd, Adds, ListedTo, endAt, middleAt, farAt, overCells, attemptIn, triedOf, CanTry}
+use Rattle.cells.specs.Asks.{Ask, asksFor, attemptAsks}
+use Rattle.cells.specs.Rims.{rimsBy}
+use Rattle.cells.specs.Flat.{partIn, cornerAt, CanAdd, Adds, ListedTo, endAt, middleAt, farAt, overCells, sideAt, attemptIn, attemptAsksIn, triedOf, CanTry}
 use Rattle.cells.proofs.Ranges.{corner-ranged, middle-ranged, mean-ranged, edge-by}
 use Rattle.cells.proofs.Adding as adding
 use Rattle.cells.proofs.Turns as turns
@@ -65,6 +67,19 @@ tryWith share ns ps e n =
 same-try : (share : Float) (ns : List Point) (ps : List GridPoint) (e : ℕ → EdgeMark) → tryWith share ns ps e (length ps) ≡ attempt share ns ps e
 unfolding attempt
 same-try share ns ps e = refl
+
+-- what it asks for, likewise
+abbrev askWith : Float → List Point → List GridPoint → (ℕ → EdgeMark) → (ℕ → Bool) → ℕ → List Ask
+askWith share ns ps e o n =
+    let vs = addNodes ns (λ i. inMm (getD ps i origin)) n in
+    let a : ℕ → Point = λ i. nodeAt (vs .nodes) (getD (vs .numbers) (i % n) 0) in
+    let ms = addNodes (vs .nodes) (λ i. edgeMiddle share (e i) (a i) (a (suc i))) n in
+    let cs = addNodes (ms .nodes) (λ i. mean a n) 1 in
+    asksFor (vs .numbers) (ms .numbers) (getD (cs .numbers) 0 0) o n
+
+same-asks : (share : Float) (ns : List Point) (ps : List GridPoint) (e : ℕ → EdgeMark) (o : ℕ → Bool) → askWith share ns ps e o (length ps) ≡ attemptAsks share ns ps e o
+unfolding attemptAsks
+same-asks share ns ps e o = refl
 
 -- its stages, over what the arrays and the lent list hold
 module _ (share : Float) (l : List Float) (u : ℕ) (ps : List GridPoint) (es : List Edge) (n : ℕ) where
@@ -222,16 +237,36 @@ module _ {share : Float} {l : List Float} {u : ℕ} {ps : List GridPoint} {es : 
           pub corners-listed : ListedTo (r .used) vs n
           corners-listed j h = omega (arith, adding.listed s j h, adding.used-more add-middles t, more)
 
+          -- the rim marks: rs before, qs after
+          pub used-up : u ≤ r .used
+          used-up = omega (arith, adding.used-more add-corners s, adding.used-more add-middles t, more)
+
+          pub used-all : r .used ≡ length (attemptIn share l u ps es n .nodes)
+          used-all = used-is ∙ ap (λ (t : Attempt). length (t .nodes)) try-is
+
+          asks-is : (o : ℕ → Bool) → asksFor (take n vs) (take n ks) (r .number) o n ≡ askWith share (nodesIn l u) (take n ps) (marksOf (partIn ps es n)) o n
+          unfolding addNodes
+          asks-is o = λ j. asksFor (s .numbers j) ((t .numbers ∙ ap (λ (e : Added). e .numbers) ms-is) j) (r-is j .number) o n
+
+          pub rims-are : (bs : List Bool) (rs : List ℕ) {qs : List ℕ} → qs ≡ rimsBy u (r .used) (asksFor (take n vs) (take n ks) (r .number) (sideAt bs) n) rs
+              → qs ≡ rimsBy u (length (attemptIn share l u ps es n .nodes)) (attemptAsksIn share l u ps es bs n) rs
+          rims-are bs rs e =
+              let a = ap (askWith share (nodesIn l u) (take n ps) (marksOf (partIn ps es n)) (sideAt bs)) (sym corners) ∙ same-asks share (nodesIn l u) (take n ps) (marksOf (partIn ps es n)) (sideAt bs) in
+              e ∙ (λ j. rimsBy u (used-all j) ((asks-is (sideAt bs) ∙ a) j) rs)
+
           -- what the function answers
-          pub answer : (q : List ℕ) {b : Bool} {k : ℕ} {q' : List ℕ} → b ≡ any (farAt share m v vs es n) n
+          pub answer : (q : List ℕ) (bs : List Bool) (rs : List ℕ) {b : Bool} {k : ℕ} {q' qs : List ℕ} → b ≡ any (farAt share m v vs es n) n
               → k ≡ first (λ k. not (holds (nodesIn m'' (r .used)) (getD (cellsTo (r .number) (take n ks) (take n vs) n) k noCell))) n 0
               → q' ≡ overCells q (cellsTo (r .number) (take n ks) (take n vs) n)
+              → qs ≡ rimsBy u (r .used) (asksFor (take n vs) (take n ks) (r .number) (sideAt bs) n) rs
               → (_≡_ {A = Tried} (record { used = r .used; fails = k; far = b }) (triedOf (attemptIn share l u ps es n)))
               × (m'' ≡ over l (attemptIn share l u ps es n .nodes)) × (q' ≡ overCells q (attemptIn share l u ps es n .cells))
-          answer q {b} {k} {q'} eb ek eq =
+              × (qs ≡ rimsBy u (length (attemptIn share l u ps es n .nodes)) (attemptAsksIn share l u ps es bs n) rs)
+          answer q bs rs {b} {k} {q'} eb ek eq et =
               let eb' : b ≡ A share l u ps es n .far = eb ∙ (λ j. any (λ i. tooFar share (getD (marksIn es n) i Straight) (end-is i j) (end-is (suc i) j)) n) in
               let ek' : k ≡ A share l u ps es n .fails = ek ∙ (λ j. first (λ k. not (holds (all-now j) (getD (cells-is j) k noCell))) n 0) in (
                 (λ j. record { used = used-is j; fails = ek' j; far = eb' j }) ∙ ap triedOf try-is,
                 nodes-is ∙ ap (λ (t : Attempt). over l (t .nodes)) try-is,
                 eq ∙ ap (overCells q) cells-is ∙ ap (λ (t : Attempt). overCells q (t .cells)) try-is,
+                rims-are bs rs et,
               )

@@ -1,10 +1,10 @@
 -- A piece as the code divides it, one attempt or two over the lent lists, is `subdivide` of the definition. The second
 -- attempt writes its cells over those of the first.
 use mathlib.Core.Path.{_≡_, refl, sym, ap, _∙_, subst, fun-ext}
-use mathlib.Core.List.{List}
+use mathlib.Core.List.{List, _++_, append-nil}
 use Prim.Native.Nat.{ℕ, zero, suc, _≤_}
 use native.Mathlib.Omega.{arith}
-use mathlib.Core.Bool.{true, false}
+use mathlib.Core.Bool.{Bool, true, false}
 use borrow.Author.Tests.{eq-eqb, ne-eqb}
 use lib.ListN.{length, getD, take, replicate, List·getD-map}
 use lib.Seq.{length-take-le}
@@ -18,17 +18,21 @@ use Rattle.nodes.specs.declared.nearby.Nearby.{Nearby}
 use Rattle.nodes.specs.Nearby.{Held}
 use Rattle.nodes.proofs.Collection.{held-over}
 use Rattle.nodes.proofs.Growth.{grown-each}
-use Rattle.nodes.proofs.Flat.{in-over, length-over, over-over}
+use Rattle.nodes.proofs.Flat.{length-in, in-over, length-over, over-over}
 use Rattle.cells.specs.declared.Tried.{Tried}
 use Rattle.cells.specs.Cells.{Attempt, attempt, subdivide}
 use Rattle.cells.specs.Stages.{marksOf, straight}
 use Rattle.marks.specs.Edges.{marksIn}
-use Rattle.cells.specs.Flat.{partIn, overCells, attemptIn, subdivideIn, triedOf, CanTry, CanDivide}
+use Rattle.cells.specs.Asks.{Ask, attemptAsks, subdivideAsks}
+use Rattle.cells.specs.Rims.{rimsBy}
+use Rattle.cells.specs.Flat.{partIn, overCells, sideAt, attemptIn, attemptAsksIn, subdivideIn, subdivideAsksIn, triedOf, CanTry, CanDivide}
 use Rattle.cells.proofs.Attempts.{attempt-any, subdivide-by}
 use Rattle.cells.proofs.Ranges.{attempt-ranged, straight≢snap}
 use Rattle.cells.proofs.NewCells.{attempt-cells}
 use Rattle.cells.proofs.Adding.{nodes-ranged, over-usable}
 use Rattle.cells.proofs.CellList as cell
+use Rattle.cells.proofs.Rims.{rims-length, rims-then}
+use Rattle.cells.proofs.Asking.{attempt-listed}
 
 -- ---- marks that are all straight
 abbrev plainEdge : Edge
@@ -44,11 +48,11 @@ plain-at : (n m k : ℕ) → getD (marksIn (replicate m plainEdge) n) k Straight
 plain-at n m k = List·getD-map (λ (e : Edge). e .mark) (take n (replicate m plainEdge)) k plainEdge ∙ ap (λ (e : Edge). e .mark) (all-plain n m k)
 
 -- what an attempt t over the lists l and q answers and leaves, as the contracts have it
-abbrev Answers : Attempt → List Float → List ℕ → Tried → List Float → List ℕ → Type 0
-Answers t l q r m q' = (r ≡ triedOf t) × (m ≡ over l (t .nodes)) × (q' ≡ overCells q (t .cells))
+abbrev Answers : Attempt → List Ask → List Float → ℕ → List ℕ → List ℕ → Tried → List Float → List ℕ → List ℕ → Type 0
+Answers t xs l u q rs r m q' rs' = (r ≡ triedOf t) × (m ≡ over l (t .nodes)) × (q' ≡ overCells q (t .cells)) × (rs' ≡ rimsBy u (length (t .nodes)) xs rs)
 
-same-answers : (t s : Attempt) (l : List Float) (q : List ℕ) {r : Tried} {m : List Float} {q' : List ℕ} → t ≡ s → Answers t l q r m q' → Answers s l q r m q'
-same-answers t s l q {r} {m} {q'} e a = subst (λ (t : Attempt). Answers t l q r m q') e a
+same-answers : (t s : Attempt) (xs ys : List Ask) (l : List Float) (u : ℕ) (q rs : List ℕ) {r : Tried} {m : List Float} {q' rs' : List ℕ} → t ≡ s → xs ≡ ys → Answers t xs l u q rs r m q' rs' → Answers s ys l u q rs r m q' rs'
+same-answers t s xs ys l u q rs {r} {m} {q'} {rs'} e f a = subst (λ (xs : List Ask). Answers s xs l u q rs r m q' rs') f (subst (λ (t : Attempt). Answers t xs l u q rs r m q' rs') e a)
 
 module _ {share : Float} {l : List Float} {u : ℕ} {ps : List GridPoint} {es : List Edge} {n : ℕ} (f : CanDivide share l u ps es n) where
   abbrev T1 : Attempt
@@ -60,6 +64,16 @@ module _ {share : Float} {l : List Float} {u : ℕ} {ps : List GridPoint} {es : 
   abbrev S : Attempt
   S = subdivideIn share l u ps es n
 
+  -- what they ask for, bs saying which edges are ring edges
+  abbrev A1 : List Bool → List Ask
+  A1 bs = attemptAsksIn share l u ps es bs n
+
+  abbrev A2 : List Bool → List Ask
+  A2 bs = attemptAsks share (T1 .nodes) (take n ps) straight (sideAt bs)
+
+  abbrev AS : List Bool → List Ask
+  AS bs = subdivideAsksIn share l u ps es bs n
+
   corners : length (take n ps) ≡ n
   corners = length-take-le n ps (omega (arith, f .long, f .few))
 
@@ -68,6 +82,10 @@ module _ {share : Float} {l : List Float} {u : ℕ} {ps : List GridPoint} {es : 
 
   pub try-first : CanTry share l u ps es n
   try-first = record { usable = f .usable; some = f .some; few = f .few; long = f .long; fair = f .fair; fits = omega (arith, once, f .fits); room = omega (arith, once, f .room) }
+
+  -- there are marks for the nodes of the first attempt
+  pub rims-first : (k : ℕ) → length (S .nodes) ≤ k → length (T1 .nodes) ≤ k
+  rims-first k h = omega (arith, once, h)
 
   held : T1 .fails ≡ n → T1 ≡ S
   unfolding subdivide
@@ -81,14 +99,29 @@ module _ {share : Float} {l : List Float} {u : ℕ} {ps : List GridPoint} {es : 
   unfolding subdivide
   again h e = sym (rw (ne-eqb (T1 .fails) (length (take n ps)) (λ q. h (q ∙ corners)), e))
 
+  asks-held : (bs : List Bool) → T1 .fails ≡ n → A1 bs ≡ AS bs
+  unfolding subdivideAsks
+  asks-held bs e = sym (append-nil (A1 bs)) ∙ sym (rw (eq-eqb (T1 .fails) (length (take n ps)) (e ∙ sym corners)))
+
+  asks-refused : (bs : List Bool) → (T1 .fails ≡ n → ⊥) → T1 .far ≡ true → A1 bs ≡ AS bs
+  unfolding subdivideAsks
+  asks-refused bs h e = sym (append-nil (A1 bs)) ∙ sym (rw (ne-eqb (T1 .fails) (length (take n ps)) (λ q. h (q ∙ corners)), e))
+
+  asks-again : (bs : List Bool) → (T1 .fails ≡ n → ⊥) → T1 .far ≡ false → A1 bs ++ A2 bs ≡ AS bs
+  unfolding subdivideAsks
+  asks-again bs h e = sym (rw (ne-eqb (T1 .fails) (length (take n ps)) (λ q. h (q ∙ corners)), e))
+
   -- the nodes of the first attempt
+  first-longer : u ≤ length (T1 .nodes)
+  first-longer = omega (arith, attempt-any share (nodesIn l u) (take n ps) (marksOf (partIn ps es n)) .longer, length-in l u)
+
   ranged : EachNode InRange (T1 .nodes)
   ranged =
       let a = nodes-ranged (f .usable) in
       grown-each {P = InRange} (nodesIn l u) (T1 .nodes) (attempt-ranged share (nodesIn l u) (partIn ps es n) (marksOf (partIn ps es n)) (f .fair) (f .fair .snap) a) a
 
   -- the first attempt is made: r, m and q'
-  module _ (q : List ℕ) {r : Tried} {m : List Float} {q' : List ℕ} (t : Answers T1 l q r m q') where
+  module _ (q : List ℕ) (bs : List Bool) (rs : List ℕ) {r : Tried} {m : List Float} {q' rs' : List ℕ} (t : Answers T1 (A1 bs) l u q rs r m q' rs') where
     fails-is : r .fails ≡ T1 .fails
     fails-is = ap (λ (r : Tried). r .fails) (t .0)
 
@@ -96,11 +129,12 @@ module _ {share : Float} {l : List Float} {u : ℕ} {ps : List GridPoint} {es : 
     far-is = ap (λ (r : Tried). r .far) (t .0)
 
     -- ---- one attempt, which holds, or in which a snap was too far
-    pub if-held : r .fails ≡ n → Answers S l q r m q'
-    if-held e = same-answers T1 S l q (held (sym fails-is ∙ e)) t
+    pub if-held : r .fails ≡ n → Answers S (AS bs) l u q rs r m q' rs'
+    if-held e = same-answers T1 S (A1 bs) (AS bs) l u q rs (held (sym fails-is ∙ e)) (asks-held bs (sym fails-is ∙ e)) t
 
-    pub if-far : (r .fails ≡ n → ⊥) → r .far ≡ true → Answers S l q r m q'
-    if-far h e = same-answers T1 S l q (refused (λ k. h (fails-is ∙ k)) (sym far-is ∙ e)) t
+    pub if-far : (r .fails ≡ n → ⊥) → r .far ≡ true → Answers S (AS bs) l u q rs r m q' rs'
+    if-far h e =
+        same-answers T1 S (A1 bs) (AS bs) l u q rs (refused (λ k. h (fails-is ∙ k)) (sym far-is ∙ e)) (asks-refused bs (λ k. h (fails-is ∙ k)) (sym far-is ∙ e)) t
 
     -- what was collected of the list stays true of it
     pub held-first : {c : Nearby} {numbers : List ℕ} {xs : List Float} → Held l u c numbers xs → Held m (r .used) c numbers xs
@@ -137,12 +171,27 @@ module _ {share : Float} {l : List Float} {u : ℕ} {ps : List GridPoint} {es : 
             room = omega (arith, z, f .room, w);
           }
 
-      pub if-again : {r' : Tried} {m' : List Float} {q'' : List ℕ} → Answers (attemptIn share m (r .used) ps plain n) m q' r' m' q'' → Answers S l q r' m' q''
-      if-again {r'} {m'} {q''} d =
+      -- and for those of the second
+      pub rims-second : length (S .nodes) ≤ length rs → length (attemptIn share m (r .used) ps plain n .nodes) ≤ length rs'
+      rims-second k = omega (arith, k, ap (λ (t : Attempt). length (t .nodes)) (second-is ∙ last), ap length (t .3), rims-length u (length (T1 .nodes)) (A1 bs) rs)
+
+      asks-second : attemptAsksIn share m (r .used) ps plain bs n ≡ A2 bs
+      asks-second = λ j. attemptAsks share (now-is j) (take n ps) (fun-ext (λ k. plain-at n 60 k) j) (sideAt bs)
+
+      rims-both : rimsBy (length (T1 .nodes)) (length (T2 .nodes)) (A2 bs) (rimsBy u (length (T1 .nodes)) (A1 bs) rs) ≡ rimsBy u (length (T2 .nodes)) (A1 bs ++ A2 bs) rs
+      rims-both =
+          rims-then u (length (T1 .nodes)) (length (T2 .nodes)) (A1 bs) (A2 bs) rs first-longer (attempt-any share (T1 .nodes) (take n ps) straight .longer)
+          (attempt-listed share (nodesIn l u) (take n ps) (marksOf (partIn ps es n)) (sideAt bs))
+
+      pub if-again : {r' : Tried} {m' : List Float} {q'' rs'' : List ℕ} → Answers (attemptIn share m (r .used) ps plain n) (attemptAsksIn share m (r .used) ps plain bs n) m (r .used) q' rs' r' m' q'' rs''
+          → Answers S (AS bs) l u q rs r' m' q'' rs''
+      if-again {r'} {m'} {q''} {rs''} d =
           let a = attempt-cells share (nodesIn l u) (take n ps) (marksOf (partIn ps es n)) .many in
           let b = attempt-cells share (T1 .nodes) (take n ps) straight .many in
           let all = second-is ∙ last in (
             d .0 ∙ ap triedOf all,
             d .1 ∙ (λ j. over (t .1 j) (all j .nodes)) ∙ over-over l (T1 .nodes) (S .nodes) once,
             d .2 ∙ (λ j. overCells (t .2 j) (second-is j .cells)) ∙ cell.over-over q (T1 .cells) (T2 .cells) (omega (arith, a, b)) ∙ ap (λ (t : Attempt). overCells q (t .cells)) last,
+            d .3 ∙ (λ j. rimsBy (used-is j) (length (second-is j .nodes)) (asks-second j) (t .3 j)) ∙ rims-both
+                ∙ (λ j. rimsBy u (length (last j .nodes)) (asks-again bs (λ k. h (fails-is ∙ k)) (sym far-is ∙ e) j) rs),
           )

@@ -1,11 +1,11 @@
 -- A piece as the code has it: arrays whose first n places hold its corners and its marks, the lent node list of nodes'
 -- Flat, and a lent list that holds a cell as four numbers; what the functions ask of these, and what they answer.
 -- Definitions only.
-use Prim.Native.Nat.{ℕ, suc, _*_, _%_, _≤_, _<_}
-use mathlib.Core.Bool.{Bool, _&&_}
+use Prim.Native.Nat.{ℕ, zero, suc, _+_, _*_, _%_, _≤_, _<_}
+use mathlib.Core.Bool.{Bool, false, _&&_, cond}
 use mathlib.Core.Path.{_≡_}
 use mathlib.Core.List.{List, [], _∷_, _++_}
-use lib.ListN.{length, getD, take, drop}
+use lib.ListN.{length, getD, set, take, drop}
 use lib.Ieee.{Float}
 use Rattle.vector.specs.declared.GridPoint.{GridPoint}
 use Rattle.vector.specs.declared.Point.{Point}
@@ -25,6 +25,7 @@ use Rattle.cells.specs.declared.Tried.{Tried}
 use Rattle.cells.specs.Cells.{tooFar, edgeMiddle, turnsLeft, Attempt, attempt, subdivide}
 use Rattle.cells.specs.Stages.{marksOf}
 use Rattle.cells.specs.Claims.{Fair}
+use Rattle.cells.specs.Asks.{Ask, attemptAsks, subdivideAsks}
 
 -- ---- the piece that arrays hold
 abbrev pub partIn : List GridPoint → List Edge → ℕ → Part
@@ -86,12 +87,33 @@ flatCells (c ∷ cs) = four c ++ flatCells cs
 unfoldable pub overCells : List ℕ → List Cell → List ℕ
 overCells l cs = flatCells cs ++ drop (length cs * 4) l
 
+-- ---- rim marks, one a node place
+-- those from place u on, d of them, cleared
+unfoldable pub cleared : List ℕ → ℕ → ℕ → List ℕ
+cleared rs u zero = rs
+cleared rs u (suc d) = set (cleared rs u d) (u + d) 0
+
+-- those of the nodes ks 0 .. ks (n - 1) set, node ks i where b i
+unfoldable pub setAt : List ℕ → List ℕ → List Bool → ℕ → List ℕ
+setAt rs ks bs zero = rs
+setAt rs ks bs (suc i) =
+    let r = setAt rs ks bs i in
+    cond (getD bs i false) (set r (getD ks i 0) 1) r
+
+-- which edges of a piece are ring edges, as an array says
+abbrev pub sideAt : List Bool → ℕ → Bool
+sideAt bs i = getD bs i false
+
 -- ---- an attempt
 abbrev pub attemptIn : Float → List Float → ℕ → List GridPoint → List Edge → ℕ → Attempt
 attemptIn share l u ps es n = attempt share (nodesIn l u) (take n ps) (marksOf (partIn ps es n))
 
 abbrev pub triedOf : Attempt → Tried
 triedOf t = record { used = length (t .nodes); fails = t .fails; far = t .far }
+
+-- what it asks for, bs saying which edges are ring edges
+abbrev pub attemptAsksIn : Float → List Float → ℕ → List GridPoint → List Edge → List Bool → ℕ → List Ask
+attemptAsksIn share l u ps es bs n = attemptAsks share (nodesIn l u) (take n ps) (marksOf (partIn ps es n)) (sideAt bs)
 
 -- a fair piece, with room for the nodes of one attempt
 pub record CanTry (share : Float) (l : List Float) (u : ℕ) (ps : List GridPoint) (es : List Edge) (n : ℕ) : Type 0 where
@@ -106,6 +128,9 @@ pub record CanTry (share : Float) (l : List Float) (u : ℕ) (ps : List GridPoin
 -- ---- a piece
 abbrev pub subdivideIn : Float → List Float → ℕ → List GridPoint → List Edge → ℕ → Attempt
 subdivideIn share l u ps es n = subdivide share (nodesIn l u) (partIn ps es n)
+
+abbrev pub subdivideAsksIn : Float → List Float → ℕ → List GridPoint → List Edge → List Bool → ℕ → List Ask
+subdivideAsksIn share l u ps es bs n = subdivideAsks share (nodesIn l u) (partIn ps es n) (sideAt bs)
 
 -- a fair piece, with room for the nodes of all attempts that are made
 pub record CanDivide (share : Float) (l : List Float) (u : ℕ) (ps : List GridPoint) (es : List Edge) (n : ℕ) : Type 0 where

@@ -4,4 +4,6 @@ pub mod Pieces
 pub mod Stages
 pub mod Claims
 pub mod Cover
+pub mod Asks
+pub mod Rims
 pub mod Flat

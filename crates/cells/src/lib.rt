@@ -7,7 +7,7 @@
 ghost use mathlib.Core.Path.{_≡_};
 ghost use mathlib.Core.Bool.{not};
 ghost use mathlib.Core.List.{_++_};
-ghost use Prim.Native.Nat.{ℕ, _+_, _*_, _≤_, _<_};
+ghost use Prim.Native.Nat.{ℕ, _+_, _-_, _*_, _≤_, _<_};
 ghost use lib.ListN.{length, getD, take, drop};
 ghost use Rattle.laws.specs.Bounded.{any, first};
 ghost use Rattle.nodes.specs.Flat.{pointAt, nodesIn, over};
@@ -15,7 +15,10 @@ ghost use Rattle.nodes.specs.Nearby.{Held};
 ghost use Rattle.cells.specs.Cells as Cells;
 ghost use Rattle.cells.specs.Cells.{noCell};
 ghost use Rattle.cells.specs.Claims.{Listed};
+ghost use Rattle.cells.specs.Asks.{asksFor};
+ghost use Rattle.cells.specs.Rims.{rimsBy};
 ghost use Rattle.cells.specs.Flat.{middleOf, positive, CanAdd, Adds, ListedTo, cornerAt, middleAt, farAt, four, overCells, CanTry, CanDivide, attemptIn, subdivideIn, triedOf};
+ghost use Rattle.cells.specs.Flat.{cleared, setAt, sideAt, attemptAsksIn, subdivideAsksIn};
 use marks::Edge;
 use marks::EdgeMark;
 use nodes::Nearby;
@@ -301,24 +304,71 @@ fn first_failing(
     n
 }
 
+// The rim marks from place u to place v cleared.
+fn clear_rims(rims: &mut [u8], u: usize, v: usize)
+    requires { ⌜ (u ≤ v) × (v ≤ length (now rims)) ⌝ }
+    ensures { λ _. ⌜ now (rims .exit) ≡ cleared (now (rims .entry)) u (v - u) ⌝ }
+{
+    for k in u..v {
+        rims[k] = 0;
+    }
+}
+
+// Those of the first n of these nodes set, where they are on the rim.
+fn set_rims(rims: &mut [u8], list: [NodeNumber; 60], on: [bool; 60], n: usize)
+    requires { ⌜ (n ≤ 60) × ListedTo (length (now rims)) list n ⌝ }
+    ensures { λ _. ⌜ now (rims .exit) ≡ setAt (now (rims .entry)) list on n ⌝ }
+{
+    for i in 0..n {
+        if on[i] {
+            let k = list[i] as usize;
+            rims[k] = 1;
+        }
+    }
+}
+
+// The marks after an attempt that found u nodes and left v, vs the numbers of its corners and ms those of its middles: a
+// corner is on the rim, and so is the middle of a ring edge. A new node that is neither has its mark cleared, and an old
+// one keeps it.
+fn mark_rims(
+    rims: &mut [u8],
+    u: usize,
+    v: usize,
+    vs: [NodeNumber; 60],
+    ms: [NodeNumber; 60],
+    sides: [bool; 60],
+    n: usize,
+)
+    requires { ⌜ (u ≤ v) × (v ≤ length (now rims)) × (n ≤ 60) × ListedTo v vs n × ListedTo v ms n × (length vs ≡ 60) × (length ms ≡ 60) ⌝ }
+    ensures { λ _. ⌜ ((c : ℕ) → now (rims .exit) ≡ rimsBy u v (asksFor (take n vs) (take n ms) c (sideAt sides) n) (now (rims .entry))) ⌝ }
+{
+    clear_rims(rims, u, v);
+    set_rims(rims, vs, [true; 60], n);
+    set_rims(rims, ms, sides, n);
+}
+
 // One attempt: the piece's nodes are added and all its cells are put, also where one fails. The retry puts its own over
 // the same places, so no cell of an abandoned attempt is left.
 fn attempt(
     nodes: &mut [f64],
     used: usize,
+    rims: &mut [u8],
     cells: &mut [NodeNumber],
     points: [GridPoint; 60],
     marks: [Edge; 60],
+    sides: [bool; 60],
     n: usize,
     share: f64,
     near: Nearby,
     numbers: &[NodeNumber],
     xs: &[f64],
 ) -> Tried
-    requires { ⌜ CanTry share (now nodes) used points marks n × (n * 4 ≤ length (now cells)) × Held (now nodes) used near (now numbers) (now xs) ⌝ }
+    requires { ⌜ CanTry share (now nodes) used points marks n × (n * 4 ≤ length (now cells)) × Held (now nodes) used near (now numbers) (now xs)
+        × (length (attemptIn share (now nodes) used points marks n .nodes) ≤ length (now rims)) ⌝ }
     ensures { λ r. ⌜ (r ≡ triedOf (attemptIn share (now (nodes .entry)) used points marks n))
         × (now (nodes .exit) ≡ over (now (nodes .entry)) (attemptIn share (now (nodes .entry)) used points marks n .nodes))
-        × (now (cells .exit) ≡ overCells (now (cells .entry)) (attemptIn share (now (nodes .entry)) used points marks n .cells)) ⌝ }
+        × (now (cells .exit) ≡ overCells (now (cells .entry)) (attemptIn share (now (nodes .entry)) used points marks n .cells))
+        × (now (rims .exit) ≡ rimsBy used (length (attemptIn share (now (nodes .entry)) used points marks n .nodes)) (attemptAsksIn share (now (nodes .entry)) used points marks sides n) (now (rims .entry))) ⌝ }
 {
     let c = add_corners(nodes, used, points, n, near, numbers, xs);
     let vs = c.list;
@@ -327,6 +377,7 @@ fn attempt(
     let p = mean(nodes, vs, n);
     let z = nodes::add_node(nodes, m.used, p, near, numbers, xs);
     put_cells(cells, z.number, ms, vs, n);
+    mark_rims(rims, used, z.used, vs, ms, sides, n);
     let f = first_failing(nodes, z.used, z.number, ms, vs, n);
     Tried {
         used: z.used,
@@ -339,26 +390,32 @@ fn attempt(
 pub fn subdivide(
     nodes: &mut [f64],
     used: usize,
+    rims: &mut [u8],
     cells: &mut [NodeNumber],
     points: [GridPoint; 60],
     marks: [Edge; 60],
+    sides: [bool; 60],
     n: usize,
     share: f64,
     near: Nearby,
     numbers: &[NodeNumber],
     xs: &[f64],
 ) -> Tried
-    requires { ⌜ CanDivide share (now nodes) used points marks n × (n * 4 ≤ length (now cells)) × Held (now nodes) used near (now numbers) (now xs) ⌝ }
+    requires { ⌜ CanDivide share (now nodes) used points marks n × (n * 4 ≤ length (now cells)) × Held (now nodes) used near (now numbers) (now xs)
+        × (length (subdivideIn share (now nodes) used points marks n .nodes) ≤ length (now rims)) ⌝ }
     ensures { λ r. ⌜ (r ≡ triedOf (subdivideIn share (now (nodes .entry)) used points marks n))
         × (now (nodes .exit) ≡ over (now (nodes .entry)) (subdivideIn share (now (nodes .entry)) used points marks n .nodes))
-        × (now (cells .exit) ≡ overCells (now (cells .entry)) (subdivideIn share (now (nodes .entry)) used points marks n .cells)) ⌝ }
+        × (now (cells .exit) ≡ overCells (now (cells .entry)) (subdivideIn share (now (nodes .entry)) used points marks n .cells))
+        × (now (rims .exit) ≡ rimsBy used (length (subdivideIn share (now (nodes .entry)) used points marks n .nodes)) (subdivideAsksIn share (now (nodes .entry)) used points marks sides n) (now (rims .entry))) ⌝ }
 {
     let t = attempt(
         nodes,
         used,
+        rims,
         cells,
         points,
         marks,
+        sides,
         n,
         share,
         near,
@@ -378,9 +435,11 @@ pub fn subdivide(
     attempt(
         nodes,
         t.used,
+        rims,
         cells,
         points,
         plain,
+        sides,
         n,
         share,
         near,

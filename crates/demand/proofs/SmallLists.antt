@@ -1,6 +1,6 @@
 -- Card 2: "The small lists of the controller give the numbers they gave before." With a node list of at most 65,535 places
---   every entry returns the row, the nodes and the cells that it returns with 01's limit of 65,535 places, whatever its own tests are (`as-before`), and so do the divider call
---   (`divide-as-before`) and the same over lent lists (`lent-as-before`);
+--   every entry returns the row and leaves the nodes, the rim marks and the cells that it does with 01's limit of 65,535 places, whatever its own tests are (`as-before`),
+--   and so do the divider call (`divide-as-before`) and the same over lent lists (`lent-as-before`);
 --   where the ring is divided, each number of its cells is below 65,535, and so has the 16 bits that it had (`sixteen-bits`).
 use Prim.Native.Nat.{ℕ, _/_, _≤_}
 use native.Mathlib.Omega.{arith}

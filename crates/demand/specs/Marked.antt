@@ -88,11 +88,12 @@ pub record LentMarked : Type 0 where
   pub size : ℕ
   pub nodes : List Float
   pub nodeCount : ℕ
+  pub rims : List ℕ
   pub cells : List ℕ
   pub cellCount : ℕ
 
 abbrev pub markedLists : LentMarked → Lists
-markedLists l = record { nodes = nodesIn (l .nodes) (length (l .nodes) / 2); nodeCount = l .nodeCount; cells = allCells (l .cells); cellCount = l .cellCount }
+markedLists l = record { nodes = nodesIn (l .nodes) (length (l .nodes) / 2); nodeCount = l .nodeCount; rims = l .rims; cells = allCells (l .cells); cellCount = l .cellCount }
 
 -- the ring that the core gets
 abbrev pub markedStart : LentMarked → Part

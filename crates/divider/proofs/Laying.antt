@@ -1,10 +1,10 @@
 -- Laying out the pieces of a ring that passed every test. What the split answers shows the pieces of the definition (`shown`), and all that the cells ask of them holds
--- (`can-subdivide`).
-use Prim.Native.Nat.{ℕ, _+_, _/_, _≤_}
+-- (`can-subdivide`). By the same split with every edge marked, the rim marks that the pieces leave are the definition's (`rims-are`).
+use Prim.Native.Nat.{ℕ, zero, suc, _+_, _/_, _≤_}
 use native.Mathlib.Omega.{arith}
-use mathlib.Core.Path.{_≡_, sym, ap, _∙_, subst}
-use mathlib.Core.List.{List}
-use lib.ListN.{length, getD, take, length-map, length-take}
+use mathlib.Core.Path.{_≡_, refl, sym, ap, _∙_, subst}
+use mathlib.Core.List.{List, [], _∷_, map}
+use lib.ListN.{length, getD, take, replicate, length-map, length-take, length-replicate}
 use lib.Ieee.{Float}
 use Rattle.laws.proofs.Table.{length-tab}
 use Rattle.vector.specs.declared.Point.{Point}
@@ -14,6 +14,7 @@ use Rattle.marks.specs.declared.Edge.{Edge}
 use Rattle.marks.specs.declared.EdgeMark.{EdgeMark}
 use Rattle.marks.specs.declared.MarkedRing.{MarkedRing}
 use Rattle.marks.specs.Part.{Part, noPart}
+use Rattle.marks.specs.Edges.{marksIn}
 use Rattle.corner.specs.declared.Limits.{Limits}
 use Rattle.split.specs.declared.Splitting.{Splitting}
 use Rattle.split.specs.Split.{splitBadVertices}
@@ -27,8 +28,11 @@ use Rattle.nodes.proofs.Flat.{length-in, node-in}
 use Rattle.cells.specs.Pieces.{piecesTo}
 use Rattle.cells.specs.Stages.{nodesOf}
 use Rattle.cells.specs.Claims.{Fair, cornersTo}
-use Rattle.pieces.specs.Flat.{outcomeIn, CanSubdivide}
+use Rattle.cells.specs.Asks.{label, allMarked, asksTo}
+use Rattle.cells.specs.Rims.{rimsBy}
+use Rattle.pieces.specs.Flat.{outcomeIn, everyMark, labelledIn, asksIn, CanSubdivide}
 use Rattle.demand.specs.Call.{Lists, usedIn, cellReserve}
+use Rattle.demand.specs.Divide.{asked, rimsLeft}
 use Rattle.demand.specs.Demand.{Prepared, piecesOf}
 use Rattle.demand.specs.Lent.{cellIn}
 use Rattle.demand.proofs.Course.{Sought, outcomeOf}
@@ -41,12 +45,26 @@ use Rattle.divider.specs.Steps.{partIn, listsIn}
 pub marks-length : (es : List Edge) → length es ≡ 60 → length (marksOf es) ≡ 60
 marks-length es h = length-map es (λ (e : Edge). e .mark) ∙ h
 
-module _ (L : Limits) (r : ℕ) (m : MarkedRing) (l : List Float) (u : ℕ) (q : List ℕ) (k : ℕ) (s : Sought L r (partIn m) (listsIn l u q k)) where
+-- every mark of the ring, and of its first n edges
+pub every-length : length everyMark ≡ 60
+unfolding everyMark
+every-length = length-replicate 60 label
+
+labels-taken : (n : ℕ) (es : List Edge) → take n (replicate (length es) label) ≡ map (λ (e : EdgeMark). label) (marksIn es n)
+labels-taken zero es = refl
+labels-taken (suc n) [] = refl
+labels-taken (suc n) (e ∷ es) = ap (λ (l : List EdgeMark). label ∷ l) (labels-taken n es)
+
+every-taken : (n : ℕ) (es : List Edge) → length es ≡ 60 → take n everyMark ≡ map (λ (e : EdgeMark). label) (marksIn es n)
+unfolding everyMark
+every-taken n es h = ap (λ (k : ℕ). take n (replicate k label)) (sym h) ∙ labels-taken n es
+
+module _ (L : Limits) (r : ℕ) (m : MarkedRing) (l : List Float) (u : ℕ) (rs q : List ℕ) (k : ℕ) (s : Sought L r (partIn m) (listsIn l u rs q k)) where
   abbrev p : Part
   p = partIn m
 
   abbrev x : Lists
-  x = listsIn l u q k
+  x = listsIn l u rs q k
 
   abbrev h : Prepared L r p x
   h = s .prepared
@@ -68,6 +86,9 @@ module _ (L : Limits) (r : ℕ) (m : MarkedRing) (l : List Float) (u : ℕ) (q :
 
   pub node-room : length (nodesOf (outcomeOf L p x)) ≤ length l / 2
   node-room = omega (arith, NodeList.fits L r p x s, length-in l (length l / 2))
+
+  mark-room : length (nodesOf (outcomeOf L p x)) ≤ length rs
+  mark-room = omega (arith, NodeList.fits L r p x s, h .ready .rimmed)
 
   pub corners : cornersTo (piecesOf L p) (length (piecesOf L p)) ≤ cellReserve L r
   corners = corners-fit L r p x s
@@ -104,3 +125,18 @@ module _ (L : Limits) (r : ℕ) (m : MarkedRing) (l : List Float) (u : ℕ) (q :
           corners = rw e (subst (λ (n : ℕ). n ≤ cellReserve L r) (λ j. cornersTo (sym (shown .pieces) j) (sym count-is j)) corners);
           places = omega (arith, cell-room, e);
         }
+
+    pub mark-room-in : length (nodesOf (outcomeIn (L .share) l u (m .points) (m .edges) (t .pieces))) ≤ length rs
+    mark-room-in = rw outcome-is mark-room
+
+    -- the same ring split with every edge marked: what the pieces ask for, and the rim marks that they leave
+    module _ (many : length (m .edges) ≡ 60) (labels : Shows (m .points) everyMark t (splitBadVertices L (ringPart (m .points) everyMark (m .count)))) where
+      labelled : labelledIn (m .points) (t .pieces) ≡ splitBadVertices L (allMarked p) .pieces
+      unfolding allMarked
+      labelled = labels .pieces ∙ ap (λ (e : List EdgeMark). splitBadVertices L (record { points = take (m .count) (m .points); edges = e }) .pieces) (every-taken (m .count) (m .edges) many)
+
+      asks-are : asksIn (L .share) l u (m .points) (m .edges) (t .pieces) ≡ asked L p (usedIn x)
+      asks-are = λ j. asksTo (L .share) (shown .pieces j) (labelled j) (sym used-is j) (count-is j)
+
+      pub rims-are : rimsBy u (length (nodesOf (outcomeIn (L .share) l u (m .points) (m .edges) (t .pieces)))) (asksIn (L .share) l u (m .points) (m .edges) (t .pieces)) rs ≡ rimsLeft L p x (length (nodesOf (outcomeOf L p x)))
+      rims-are = λ j. rimsBy u (length (nodesOf (outcome-is j))) (asks-are j) rs

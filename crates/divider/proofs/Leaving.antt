@@ -1,5 +1,5 @@
--- What each kind of answer leaves in the lists that the call lends: a refusal all as found; pieces that are done their nodes and cells after the old ones; a piece that
--- failed its nodes, and zeros over the reserve of cell places.
+-- What each kind of answer leaves in the lists that the call lends: a refusal all as found; pieces that are done their nodes and cells after the old ones, and their rim
+-- marks; a piece that failed its nodes and marks, and zeros over the reserve of cell places.
 use Prim.Native.Nat.{ℕ, _+_, _/_, _≤_}
 use mathlib.Core.Path.{_≡_, refl, sym, _∙_}
 use mathlib.Core.List.{List}
@@ -20,23 +20,23 @@ use Rattle.pieces.specs.Flat.{overFrom}
 use Rattle.table.specs.declared.Values.{Values}
 use Rattle.table.specs.Answers.{dividedRow, refusedRow, failedRow}
 use Rattle.demand.specs.Call.{Lists, cellReserve}
-use Rattle.demand.specs.Divide.{Answer, put, refused, answered}
+use Rattle.demand.specs.Divide.{Answer, put, refused, rimsLeft, answered}
 use Rattle.demand.specs.Lent.{allCells}
 use Rattle.divider.specs.Promise.{Leaves}
 use Rattle.divider.specs.Steps.{listsIn}
 use Rattle.divider.proofs.WrittenOut.{nodes-as-found, nodes-out, cells-as-found, cells-out}
 
 -- lists that are the same
-pub moved : {a : Answer} {v : Values} {l m n : List Float} {q p r : List ℕ} → n ≡ m → r ≡ p → Leaves a v l m q p → Leaves a v l n q r
-moved e f h = record { values = h .values; nodes = e ∙ h .nodes; cells = f ∙ h .cells }
+pub moved : {a : Answer} {v : Values} {l m n : List Float} {s t q p r : List ℕ} → n ≡ m → t ≡ s → r ≡ p → Leaves a v l m s q p → Leaves a v l n t q r
+moved e f g h = record { values = h .values; nodes = e ∙ h .nodes; rims = f ∙ h .rims; cells = g ∙ h .cells }
 
-module _ (l : List Float) (u : ℕ) (q : List ℕ) (k : ℕ) where
+module _ (l : List Float) (u : ℕ) (rs q : List ℕ) (k : ℕ) where
   abbrev x : Lists
-  x = listsIn l u q k
+  x = listsIn l u rs q k
 
-  pub refused-leaves : (n : ℕ) → Leaves (refused x n) (refusedRow n u k) l l q q
+  pub refused-leaves : (n : ℕ) → Leaves (refused x n) (refusedRow n u k) l l rs q q
   unfolding refused
-  refused-leaves n = record { values = refl; nodes = sym (nodes-as-found l); cells = sym (cells-as-found q) }
+  refused-leaves n = record { values = refl; nodes = sym (nodes-as-found l); rims = refl; cells = sym (cells-as-found q) }
 
   cells-left : (cs : List Cell) → k + length cs ≤ length q / 4 → overFrom q k cs ≡ overCells q (put (allCells q) k cs)
   unfolding overFrom
@@ -44,16 +44,17 @@ module _ (l : List Float) (u : ℕ) (q : List ℕ) (k : ℕ) where
 
   module _ (L : Limits) (r : ℕ) (p : Part) (s : Stack) (ns : List Point) (b : length ns ≤ length l / 2) where
     pub done-leaves : (cs : List Cell) → k + length cs ≤ length q / 4
-        → Leaves (answered L r p x s (done ns cs)) (dividedRow (length (p .points)) (markCount (p .edges)) (s .cuts) (length (s .pieces)) (s .turned) (natAbs (polygonArea (p .points))) (length ns) (k + length cs)) l (over l ns) q (overFrom q k cs)
+        → Leaves (answered L r p x s (done ns cs)) (dividedRow (length (p .points)) (markCount (p .edges)) (s .cuts) (length (s .pieces)) (s .turned) (natAbs (polygonArea (p .points))) (length ns) (k + length cs)) l (over l ns) (rimsLeft L p x (length ns)) q (overFrom q k cs)
     unfolding answered
-    done-leaves cs d = record { values = refl; nodes = sym (nodes-out l ns b); cells = cells-left cs d }
+    done-leaves cs d = record { values = refl; nodes = sym (nodes-out l ns b); rims = refl; cells = cells-left cs d }
 
     pub failed-leaves : (n i : ℕ) → k + cellReserve L r ≤ length q / 4
-        → Leaves (answered L r p x s (failed ns n i)) (failedRow n i (length ns) k) l (over l ns) q (overFrom q k (replicate (cellReserve L r) noCell))
+        → Leaves (answered L r p x s (failed ns n i)) (failedRow n i (length ns) k) l (over l ns) (rimsLeft L p x (length ns)) q (overFrom q k (replicate (cellReserve L r) noCell))
     unfolding answered
     failed-leaves n i d =
         record {
           values = refl;
           nodes = sym (nodes-out l ns b);
+          rims = refl;
           cells = cells-left (replicate (cellReserve L r) noCell) (rw (length-replicate (cellReserve L r) noCell) d);
         }

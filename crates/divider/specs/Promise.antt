@@ -1,4 +1,4 @@
--- The promise of the divider call, for every input: what it returns, every place of the two lists afterwards, and demand 3 of an accepted ring.
+-- The promise of the divider call, for every input: what it returns, every place of the lists afterwards, and demand 3 of an accepted ring.
 use Prim.Native.Nat.{ℕ}
 use mathlib.Core.Path.{_≡_}
 use mathlib.Core.List.{List}
@@ -12,13 +12,15 @@ use Rattle.demand.specs.Divide.{Answer, startOf}
 use Rattle.demand.specs.Demand.{Demand3}
 use Rattle.demand.specs.Lent.{Lent, callOf, divideLent}
 
--- the values v are the row of the answer a; the node list, l before, is m, and the cell list, q before, is p: its nodes and its cells over the places they came from
-pub record Leaves (a : Answer) (v : Values) (l m : List Float) (q p : List ℕ) : Type 0 where
+-- the values v are the row of the answer a; the node list, l before, is m, and the cell list, q before, is p: its nodes and its cells over the places they came from; the rim
+-- marks are t
+pub record Leaves (a : Answer) (v : Values) (l m : List Float) (t : List ℕ) (q p : List ℕ) : Type 0 where
   pub values : v ≡ a .row
   pub nodes : m ≡ over l (a .nodes)
+  pub rims : t ≡ a .rims
   pub cells : p ≡ overCells q (a .cells)
 
--- a call with the set of limits L over what the caller lent returned v and left the nodes m and the cells p
-pub record Promise (L : Limits) (l : Lent) (v : Values) (m : List Float) (p : List ℕ) : Type 0 where
-  pub leaves : Leaves (divideLent L l) v (l .nodes) m (l .cells) p
+-- a call with the set of limits L over what the caller lent returned v and left the nodes m, the rim marks t and the cells p
+pub record Promise (L : Limits) (l : Lent) (v : Values) (m : List Float) (t : List ℕ) (p : List ℕ) : Type 0 where
+  pub leaves : Leaves (divideLent L l) v (l .nodes) m t (l .cells) p
   pub accepted : v .code ≡ 0 → Demand3 L (startOf (callOf l)) (listsOf (callOf l)) (divideLent L l)

@@ -50,9 +50,9 @@ pub record Prepares (ring chain : List ℤ) (size : ℕ) (m : MarkedRing) : Type
   pub part : partIn m ≡ marked (simplifyChain (pointsOf chain)) (cleanPolygon size (pointsOf ring))
   pub held : Held m
 
--- the lists that doubles and numbers hold, u and k of their places used
-abbrev pub listsIn : List Float → ℕ → List ℕ → ℕ → Lists
-listsIn l u q k = record { nodes = nodesIn l (length l / 2); nodeCount = u; cells = allCells q; cellCount = k }
+-- the lists that doubles and numbers hold, u and k of their places used, t the rim marks
+abbrev pub listsIn : List Float → ℕ → List ℕ → List ℕ → ℕ → Lists
+listsIn l u t q k = record { nodes = nodesIn l (length l / 2); nodeCount = u; rims = t; cells = allCells q; cellCount = k }
 
 -- the answer of pieces of which one failed. It is not asked of pieces that are done: these have the number alone
 abbrev pub failedAnswer : Subdivision → ℕ → table.Answer
@@ -60,16 +60,16 @@ failedAnswer (subdivision.Failed n k u) cells = answer.Failed n k u cells
 failedAnswer (subdivision.Done u d) cells = answer.Refused 8 0 cells
 
 -- what the core asks for: a ring of r points that was prepared, whatever its marks came from, and a set of at most 32 cuts
-pub record CanDivide (L : Limits) (r : ℕ) (m : MarkedRing) (l : List Float) (u : ℕ) (q : List ℕ) (k : ℕ) : Type 0 where
+pub record CanDivide (L : Limits) (r : ℕ) (m : MarkedRing) (l : List Float) (u : ℕ) (t q : List ℕ) (k : ℕ) : Type 0 where
   pub cuts : L .cuts ≤ 32
   pub held : Held m
-  pub prepared : Prepared L r (partIn m) (listsIn l u q k)
+  pub prepared : Prepared L r (partIn m) (listsIn l u t q k)
 
 -- a call whose cells go to place k of the numbers q on, which need not be the list that is tested
 abbrev pub divideInto : Limits → LentRecords → List ℕ → ℕ → Answer
 divideInto L l q k =
     let c = callOfRecords l in
-    let x = listsIn (l .nodes) (l .nodeCount) q k in
+    let x = listsIn (l .nodes) (l .nodeCount) (l .rims) q k in
     refusedOr x (testsBy (λ cs. cs) L l) (core L (length (c .ring)) (startOf c) x)
 
 -- where the tested list has room for a ring, the numbers do

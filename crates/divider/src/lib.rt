@@ -2,7 +2,7 @@
 //
 // It is where the way of a ring comes together. An entry tests, prepares a ring with the marks of its edges, and hands it
 // to the core: the tests of the cleaned ring, the split, and the cells of its pieces. Whatever is handed over, the call
-// ends, returns one row of the table and says of every place of both lists what is left there. specs/Promise has the
+// ends, returns one row of the table and says of every place of the lists what is left there. specs/Promise has the
 // promise, in which stands what holds of every accepted ring.
 
 ghost use mathlib.Core.Path.{_≡_};
@@ -69,12 +69,13 @@ fn laid_out(
     own: usize,
     nodes: &mut [f64],
     node_count: usize,
+    rims: &mut [u8],
     cells: &mut [NodeNumber],
     cell_count: usize,
 ) -> Answer
-    requires { ⌜ CanDivide limits own ring (now nodes) «node_count» (now cells) «cell_count» × Whole (partIn ring .points) ⌝ }
-    ensures { λ r. ⌜ Leaves (answered limits own (partIn ring) (listsIn (now (nodes .entry)) «node_count» (now (cells .entry)) «cell_count») (splitBadVertices limits (partIn ring)) (outcomeOf limits (partIn ring) (listsIn (now (nodes .entry)) «node_count» (now (cells .entry)) «cell_count»)))
-        (Answers.values r) (now (nodes .entry)) (now (nodes .exit)) (now (cells .entry)) (now (cells .exit)) ⌝ }
+    requires { ⌜ CanDivide limits own ring (now nodes) «node_count» (now rims) (now cells) «cell_count» × Whole (partIn ring .points) ⌝ }
+    ensures { λ r. ⌜ Leaves (answered limits own (partIn ring) (listsIn (now (nodes .entry)) «node_count» (now (rims .entry)) (now (cells .entry)) «cell_count») (splitBadVertices limits (partIn ring)) (outcomeOf limits (partIn ring) (listsIn (now (nodes .entry)) «node_count» (now (rims .entry)) (now (cells .entry)) «cell_count»)))
+        (Answers.values r) (now (nodes .entry)) (now (nodes .exit)) (now (rims .exit)) (now (cells .entry)) (now (cells .exit)) ⌝ }
 {
     let n = ring.count;
     let points = ring.points;
@@ -87,6 +88,7 @@ fn laid_out(
     let laid = pieces::subdivide_all(
         nodes,
         node_count,
+        rims,
         cells,
         cell_count,
         reserve,
@@ -122,12 +124,13 @@ pub fn divide_core(
     own: usize,
     nodes: &mut [f64],
     node_count: usize,
+    rims: &mut [u8],
     cells: &mut [NodeNumber],
     cell_count: usize,
 ) -> Answer
-    requires { ⌜ CanDivide limits own ring (now nodes) «node_count» (now cells) «cell_count» ⌝ }
-    ensures { λ r. ⌜ Leaves (core limits own (partIn ring) (listsIn (now (nodes .entry)) «node_count» (now (cells .entry)) «cell_count»))
-        (Answers.values r) (now (nodes .entry)) (now (nodes .exit)) (now (cells .entry)) (now (cells .exit)) ⌝ }
+    requires { ⌜ CanDivide limits own ring (now nodes) «node_count» (now rims) (now cells) «cell_count» ⌝ }
+    ensures { λ r. ⌜ Leaves (core limits own (partIn ring) (listsIn (now (nodes .entry)) «node_count» (now (rims .entry)) (now (cells .entry)) «cell_count»))
+        (Answers.values r) (now (nodes .entry)) (now (nodes .exit)) (now (rims .exit)) (now (cells .entry)) (now (cells .exit)) ⌝ }
 {
     let n = ring.count;
     let points = ring.points;
@@ -139,7 +142,16 @@ pub fn divide_core(
             cells: cell_count,
         };
     }
-    laid_out(limits, ring, own, nodes, node_count, cells, cell_count)
+    laid_out(
+        limits,
+        ring,
+        own,
+        nodes,
+        node_count,
+        rims,
+        cells,
+        cell_count,
+    )
 }
 
 // The ring of a call, cleaned, with the marks that the chain gives its edges.
@@ -177,13 +189,14 @@ pub fn divide_with(
     size: u32,
     nodes: &mut [f64],
     node_count: usize,
+    rims: &mut [u8],
     cells: &mut [NodeNumber],
     room: CellRoom,
 ) -> Answer
     requires { ⌜ HasRoom limits room (now cells) ⌝ }
     ensures { λ a. ⌜ ((cs : List Cell) → length cs ≡ room .places
-        → Leaves (divideInto limits (record { ring = now (ring .entry); chain = now (chain .entry); size = size; nodes = now (nodes .entry); nodeCount = «node_count»; cells = cs; cellCount = room .used }) (now (cells .entry)) (room .at))
-        (Answers.values a) (now (nodes .entry)) (now (nodes .exit)) (now (cells .entry)) (now (cells .exit))) ⌝ }
+        → Leaves (divideInto limits (record { ring = now (ring .entry); chain = now (chain .entry); size = size; nodes = now (nodes .entry); nodeCount = «node_count»; rims = now (rims .entry); cells = cs; cellCount = room .used }) (now (cells .entry)) (room .at))
+        (Answers.values a) (now (nodes .entry)) (now (nodes .exit)) (now (rims .exit)) (now (cells .entry)) (now (cells .exit))) ⌝ }
 {
     let code = entry::refusal(
         limits,
@@ -192,6 +205,7 @@ pub fn divide_with(
         size,
         nodes,
         node_count,
+        rims,
         room.places,
         room.used,
     );
@@ -204,7 +218,7 @@ pub fn divide_with(
     }
     let own = ring.len() / 2;
     let marked = prepared(ring, chain, size);
-    divide_core(limits, marked, own, nodes, node_count, cells, room.at)
+    divide_core(limits, marked, own, nodes, node_count, rims, cells, room.at)
 }
 
 // The divider call with the caller's set of limits, over the lists that the caller lends.
@@ -215,18 +229,29 @@ pub fn divide_set(
     size: u32,
     nodes: &mut [f64],
     node_count: usize,
+    rims: &mut [u8],
     cells: &mut [NodeNumber],
     cell_count: usize,
 ) -> Answer
-    ensures { λ a. ⌜ Promise limits (record { ring = now (ring .entry); chain = now (chain .entry); size = size; nodes = now (nodes .entry); nodeCount = «node_count»; cells = now (cells .entry); cellCount = «cell_count» })
-        (Answers.values a) (now (nodes .exit)) (now (cells .exit)) ⌝ }
+    ensures { λ a. ⌜ Promise limits (record { ring = now (ring .entry); chain = now (chain .entry); size = size; nodes = now (nodes .entry); nodeCount = «node_count»; rims = now (rims .entry); cells = now (cells .entry); cellCount = «cell_count» })
+        (Answers.values a) (now (nodes .exit)) (now (rims .exit)) (now (cells .exit)) ⌝ }
 {
     let room = CellRoom {
         places: cells.len() / 4,
         used: cell_count,
         at: cell_count,
     };
-    divide_with(limits, ring, chain, size, nodes, node_count, cells, room)
+    divide_with(
+        limits,
+        ring,
+        chain,
+        size,
+        nodes,
+        node_count,
+        rims,
+        cells,
+        room,
+    )
 }
 
 // The divider call with the set on delivery.
@@ -236,11 +261,12 @@ pub fn divide(
     size: u32,
     nodes: &mut [f64],
     node_count: usize,
+    rims: &mut [u8],
     cells: &mut [NodeNumber],
     cell_count: usize,
 ) -> Answer
-    ensures { λ a. ⌜ Promise delivered (record { ring = now (ring .entry); chain = now (chain .entry); size = size; nodes = now (nodes .entry); nodeCount = «node_count»; cells = now (cells .entry); cellCount = «cell_count» })
-        (Answers.values a) (now (nodes .exit)) (now (cells .exit)) ⌝ }
+    ensures { λ a. ⌜ Promise delivered (record { ring = now (ring .entry); chain = now (chain .entry); size = size; nodes = now (nodes .entry); nodeCount = «node_count»; rims = now (rims .entry); cells = now (cells .entry); cellCount = «cell_count» })
+        (Answers.values a) (now (nodes .exit)) (now (rims .exit)) (now (cells .exit)) ⌝ }
 {
     let limits = Limits::new();
     divide_set(
@@ -250,6 +276,7 @@ pub fn divide(
         size,
         nodes,
         node_count,
+        rims,
         cells,
         cell_count,
     )

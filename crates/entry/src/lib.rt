@@ -2,14 +2,16 @@
 // it reads once they have passed.
 //
 // It is the first step in the way of a ring. What a caller lends are flat lists: a ring and a chain are numbers, x and y in
-// turn, and so are the nodes; a cell is four numbers. Nothing is asked of them: every count and every number is tested.
+// turn, and so are the nodes; a rim mark is a byte, a cell four numbers. Nothing is asked of them: every count and every
+// number is tested.
 
 ghost use mathlib.Core.Path.{_≡_};
 ghost use mathlib.Core.Bool.{_||_, not};
 ghost use mathlib.Core.List.{List, _++_};
 ghost use Prim.Native.Nat.{_-_, _*_, _/_, _%_, _≤_};
 ghost use lib.Dec.{eqb, ltb};
-ghost use lib.ListN.{length, replicate};
+ghost use lib.ListN.{length, getD, replicate};
+ghost use Rattle.laws.specs.Bounded.{any};
 ghost use Rattle.vector.specs.Grid.{origin};
 ghost use Rattle.vector.specs.Size.{AllOnSheet};
 ghost use Rattle.nodes.specs.Flat.{nodesIn};
@@ -98,9 +100,28 @@ fn usable(nodes: &[f64], used: usize) -> bool
     nodes::all_held(nodes, used * 2)
 }
 
-// 3: a used count, the number of places, or a used node. The nodes are looked at last, when all of them are there.
-pub fn lists_out(nodes: &[f64], node_count: usize, cell_places: usize, cell_count: usize) -> bool
-    ensures { λ r. ⌜ ((cells : List Cell) → length cells ≡ «cell_places» → r ≡ Call.listsOut (record { nodes = nodesIn (now (nodes .entry)) (length (now (nodes .entry)) / 2); nodeCount = «node_count»; cells = cells; cellCount = «cell_count» })) ⌝ }
+// A used rim mark is neither set (1) nor clear (0). Nothing ends the loop, so that several are judged at once.
+fn any_mark_out(rims: &[u8], used: usize) -> bool
+    requires { ⌜ used ≤ length (now rims) ⌝ }
+    ensures { λ r. ⌜ r ≡ any (λ i. ltb 1 (getD (now (rims .entry)) i 0)) used ⌝ }
+{
+    let mut found = false;
+    for i in 0..used {
+        found = found | (1 < rims[i]);
+    }
+    found
+}
+
+// 3: a used count, the number of places, of nodes or of rim marks, a used node, or a used mark. Nodes and marks are looked at
+// last, when all of them are there.
+pub fn lists_out(
+    nodes: &[f64],
+    node_count: usize,
+    rims: &[u8],
+    cell_places: usize,
+    cell_count: usize,
+) -> bool
+    ensures { λ r. ⌜ ((cells : List Cell) → length cells ≡ «cell_places» → r ≡ Call.listsOut (record { nodes = nodesIn (now (nodes .entry)) (length (now (nodes .entry)) / 2); nodeCount = «node_count»; rims = now (rims .entry); cells = cells; cellCount = «cell_count» })) ⌝ }
 {
     let places = nodes.len() / 2;
     if places < node_count {
@@ -110,6 +131,12 @@ pub fn lists_out(nodes: &[f64], node_count: usize, cell_places: usize, cell_coun
         return true;
     }
     if MOST_PLACES < places {
+        return true;
+    }
+    if rims.len() < places {
+        return true;
+    }
+    if any_mark_out(rims, node_count) {
         return true;
     }
     !usable(nodes, node_count)
@@ -149,10 +176,11 @@ pub fn refusal(
     size: u32,
     nodes: &[f64],
     node_count: usize,
+    rims: &[u8],
     cell_places: usize,
     cell_count: usize,
 ) -> u32
-    ensures { λ r. ⌜ ((cells : List Cell) → length cells ≡ «cell_places» → r ≡ Refusal.refusal limits (record { ring = now (ring .entry); chain = now (chain .entry); size = size; nodes = now (nodes .entry); nodeCount = «node_count»; cells = cells; cellCount = «cell_count» })) ⌝ }
+    ensures { λ r. ⌜ ((cells : List Cell) → length cells ≡ «cell_places» → r ≡ Refusal.refusal limits (record { ring = now (ring .entry); chain = now (chain .entry); size = size; nodes = now (nodes .entry); nodeCount = «node_count»; rims = now (rims .entry); cells = cells; cellCount = «cell_count» })) ⌝ }
 {
     if counts_out(ring.len(), chain.len()) {
         return 1;
@@ -163,7 +191,7 @@ pub fn refusal(
     if sets::limits_out(limits) {
         return 15;
     }
-    if lists_out(nodes, node_count, cell_places, cell_count) {
+    if lists_out(nodes, node_count, rims, cell_places, cell_count) {
         return 3;
     }
     if room_out(

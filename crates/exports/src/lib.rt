@@ -16,7 +16,7 @@ ghost use Rattle.listing.specs.Sheet as Sheet;
 use nodes::NodeNumber;
 use table::Values;
 
-// The divider call: one row of the table, and the two lists as it says.
+// The divider call: one row of the table, and the lists as it says: nodes, their rim marks, and cells.
 #[no_mangle]
 pub extern "C" fn ring_divide(
     ring: &[i32],
@@ -24,13 +24,23 @@ pub extern "C" fn ring_divide(
     size: u32,
     nodes: &mut [f64],
     node_count: usize,
+    rims: &mut [u8],
     cells: &mut [NodeNumber],
     cell_count: usize,
 ) -> Values
-    ensures { λ v. ⌜ Promise delivered (record { ring = now (ring .entry); chain = now (chain .entry); size = size; nodes = now (nodes .entry); nodeCount = «node_count»; cells = now (cells .entry); cellCount = «cell_count» })
-        v (now (nodes .exit)) (now (cells .exit)) ⌝ }
+    ensures { λ v. ⌜ Promise delivered (record { ring = now (ring .entry); chain = now (chain .entry); size = size; nodes = now (nodes .entry); nodeCount = «node_count»; rims = now (rims .entry); cells = now (cells .entry); cellCount = «cell_count» })
+        v (now (nodes .exit)) (now (rims .exit)) (now (cells .exit)) ⌝ }
 {
-    let a = divider::divide(ring, chain, size, nodes, node_count, cells, cell_count);
+    let a = divider::divide(
+        ring,
+        chain,
+        size,
+        nodes,
+        node_count,
+        rims,
+        cells,
+        cell_count,
+    );
     Values::new(a)
 }
 
@@ -61,12 +71,13 @@ pub extern "C" fn ring_divide_set(
     size: u32,
     nodes: &mut [f64],
     node_count: usize,
+    rims: &mut [u8],
     cells: &mut [NodeNumber],
     cell_count: usize,
 ) -> Values
     ensures { λ v. ⌜ Promise (record { cuts = cuts; corner = corner; least = least; greatest = greatest; share = share })
-        (record { ring = now (ring .entry); chain = now (chain .entry); size = size; nodes = now (nodes .entry); nodeCount = «node_count»; cells = now (cells .entry); cellCount = «cell_count» })
-        v (now (nodes .exit)) (now (cells .exit)) ⌝ }
+        (record { ring = now (ring .entry); chain = now (chain .entry); size = size; nodes = now (nodes .entry); nodeCount = «node_count»; rims = now (rims .entry); cells = now (cells .entry); cellCount = «cell_count» })
+        v (now (nodes .exit)) (now (rims .exit)) (now (cells .exit)) ⌝ }
 {
     let limits = set_of(corner, least, greatest, cuts, share);
     let a = divider::divide_set(
@@ -76,6 +87,7 @@ pub extern "C" fn ring_divide_set(
         size,
         nodes,
         node_count,
+        rims,
         cells,
         cell_count,
     );
@@ -93,11 +105,12 @@ pub extern "C" fn ring_divide_marked(
     size: u32,
     nodes: &mut [f64],
     node_count: usize,
+    rims: &mut [u8],
     cells: &mut [NodeNumber],
     cell_count: usize,
 ) -> Values
-    ensures { λ v. ⌜ MarkedPromise delivered (record { ring = now (ring .entry); marking = record { kinds = now (kinds .entry); snaps = now (snaps .entry); outline = now (outline .entry); loops = now (loops .entry) }; size = size; nodes = now (nodes .entry); nodeCount = «node_count»; cells = now (cells .entry); cellCount = «cell_count» })
-        v (now (nodes .exit)) (now (cells .exit)) ⌝ }
+    ensures { λ v. ⌜ MarkedPromise delivered (record { ring = now (ring .entry); marking = record { kinds = now (kinds .entry); snaps = now (snaps .entry); outline = now (outline .entry); loops = now (loops .entry) }; size = size; nodes = now (nodes .entry); nodeCount = «node_count»; rims = now (rims .entry); cells = now (cells .entry); cellCount = «cell_count» })
+        v (now (nodes .exit)) (now (rims .exit)) (now (cells .exit)) ⌝ }
 {
     let a = marked::divide_marked(
         ring,
@@ -108,6 +121,7 @@ pub extern "C" fn ring_divide_marked(
         size,
         nodes,
         node_count,
+        rims,
         cells,
         cell_count,
     );
@@ -130,12 +144,13 @@ pub extern "C" fn ring_divide_marked_set(
     size: u32,
     nodes: &mut [f64],
     node_count: usize,
+    rims: &mut [u8],
     cells: &mut [NodeNumber],
     cell_count: usize,
 ) -> Values
     ensures { λ v. ⌜ MarkedPromise (record { cuts = cuts; corner = corner; least = least; greatest = greatest; share = share })
-        (record { ring = now (ring .entry); marking = record { kinds = now (kinds .entry); snaps = now (snaps .entry); outline = now (outline .entry); loops = now (loops .entry) }; size = size; nodes = now (nodes .entry); nodeCount = «node_count»; cells = now (cells .entry); cellCount = «cell_count» })
-        v (now (nodes .exit)) (now (cells .exit)) ⌝ }
+        (record { ring = now (ring .entry); marking = record { kinds = now (kinds .entry); snaps = now (snaps .entry); outline = now (outline .entry); loops = now (loops .entry) }; size = size; nodes = now (nodes .entry); nodeCount = «node_count»; rims = now (rims .entry); cells = now (cells .entry); cellCount = «cell_count» })
+        v (now (nodes .exit)) (now (rims .exit)) (now (cells .exit)) ⌝ }
 {
     let limits = set_of(corner, least, greatest, cuts, share);
     let a = marked::divide_marked_set(
@@ -148,6 +163,7 @@ pub extern "C" fn ring_divide_marked_set(
         size,
         nodes,
         node_count,
+        rims,
         cells,
         cell_count,
     );
@@ -162,13 +178,23 @@ pub extern "C" fn ring_divide_practice(
     size: u32,
     nodes: &mut [f64],
     node_count: usize,
+    rims: &mut [u8],
     cells: &mut [NodeNumber],
     cell_count: usize,
 ) -> Values
-    ensures { λ v. ⌜ Practice.Promise (record { ring = now (ring .entry); chain = now (chain .entry); size = size; nodes = now (nodes .entry); nodeCount = «node_count»; cells = now (cells .entry); cellCount = «cell_count» })
-        v (now (nodes .exit)) (now (cells .exit)) ⌝ }
+    ensures { λ v. ⌜ Practice.Promise (record { ring = now (ring .entry); chain = now (chain .entry); size = size; nodes = now (nodes .entry); nodeCount = «node_count»; rims = now (rims .entry); cells = now (cells .entry); cellCount = «cell_count» })
+        v (now (nodes .exit)) (now (rims .exit)) (now (cells .exit)) ⌝ }
 {
-    let a = practice::divide_practice(ring, chain, size, nodes, node_count, cells, cell_count);
+    let a = practice::divide_practice(
+        ring,
+        chain,
+        size,
+        nodes,
+        node_count,
+        rims,
+        cells,
+        cell_count,
+    );
     Values::new(a)
 }
 

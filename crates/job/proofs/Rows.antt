@@ -23,7 +23,7 @@ use Rattle.blocks.proofs.Counts.{points, few-points, all-places}
 use Rattle.report.specs.Report.{mostText, Printed, holds, fewCells, ringText, refusedRing}
 use Rattle.job.specs.Row.{rowText, Shown}
 
-module _ (l : Lent) (v : Values) (m : List Float) (p : List ℕ) (q : Promise delivered l v m p) (e : length p ≡ length (l .cells)) where
+module _ (l : Lent) (v : Values) (m : List Float) (t : List ℕ) (p : List ℕ) (q : Promise delivered l v m t p) (e : length p ≡ length (l .cells)) where
   grown : v .code ≡ 0 → l .nodeCount ≤ v .nodes
   grown h = go (decLe (l .nodeCount) (v .nodes))
     where

@@ -39,27 +39,27 @@ either : {A : Type 0} (p : A → Type 0) (t : Bool) (x y : A) → p x → p y �
 either p true x y a b = a
 either p false x y a b = b
 
-module _ (s : State) (ps : List ℤ) (l : List Float) where
+module _ (s : State) (ps : List ℤ) (l : List Float) (rs : List ℕ) where
   -- an accepted block: a ring that waits, or one that is divided
-  accepted : (t : Bool) (count size : ℕ) (qs : List ℤ) → (taken s ps l qs (cond t (Ring count size) (Chain count)) .state .block ≡ s .block + 1) × (taken s ps l qs (cond t (Ring count size) (Chain count)) .state .ended ≡ false)
+  accepted : (t : Bool) (count size : ℕ) (qs : List ℤ) → (taken s ps l rs qs (cond t (Ring count size) (Chain count)) .state .block ≡ s .block + 1) × (taken s ps l rs qs (cond t (Ring count size) (Chain count)) .state .ended ≡ false)
   unfolding taken waits divides
   accepted true count size qs = (refl, refl)
   accepted false count size qs = (refl, refl)
 
-  refused-ends : (k n : ℕ) (qs : List ℤ) → taken s ps l qs (Refused k n) .state .ended ≡ true
+  refused-ends : (k n : ℕ) (qs : List ℤ) → taken s ps l rs qs (Refused k n) .state .ended ≡ true
   unfolding taken ends
   refused-ends k n qs = refl
 
-  ends-ended : (t : List ℕ) → ends s ps l t .state .ended ≡ true
+  ends-ended : (t : List ℕ) → ends s ps l rs t .state .ended ≡ true
   unfolding ends
   ends-ended t = refl
 
   module _ (few : s .count ≤ 60) (long : length ps ≡ 120) where
-    ends-held : (t : List ℕ) → Held (ends s ps l t)
+    ends-held : (t : List ℕ) → Held (ends s ps l rs t)
     unfolding ends
     ends-held t = record { few = few; long = long }
 
-    taken-held : (qs : List ℤ) (a : Block) → points a ≤ 60 → length qs ≡ 120 → Held (taken s ps l qs a)
+    taken-held : (qs : List ℤ) (a : Block) → points a ≤ 60 → length qs ≡ 120 → Held (taken s ps l rs qs a)
     unfolding taken waits divides ends
     taken-held qs (Ring count size) f g = record { few = f; long = g }
     taken-held qs (Chain count) f g = record { few = few; long = long }
@@ -67,7 +67,7 @@ module _ (s : State) (ps : List ℤ) (l : List Float) where
 
   module _ (b : List ℕ) where
     abbrev goesOn : Step
-    goesOn = taken s ps l (readBlock b (s .block) .points) (readBlock b (s .block) .block)
+    goesOn = taken s ps l rs (readBlock b (s .block) .points) (readBlock b (s .block) .block)
 
     by-answer : Dec (refusal b (s .block) ≤ 0) → (goesOn .state .ended ≡ true) ⊎ Went s b goesOn
     unfolding acceptedBlock refusedBlock
@@ -79,20 +79,20 @@ module _ (s : State) (ps : List ℤ) (l : List Float) where
         )
     by-answer (no h) = rw (refused-it b (s .block) (λ q. h (omega arith))) (inl (refused-ends _ _ _))
 
-    pub outcome : (stepOf s ps l b .state .ended ≡ true) ⊎ Went s b (stepOf s ps l b)
+    pub outcome : (stepOf s ps l rs b .state .ended ≡ true) ⊎ Went s b (stepOf s ps l rs b)
     unfolding stepOf
     outcome =
-        either (λ (e : Step). (e .state .ended ≡ true) ⊎ Went s b e) (eqb (s .block % 2) 0 && eqb (length b) 0) (ends s ps l []) goesOn (inl (ends-ended []))
+        either (λ (e : Step). (e .state .ended ≡ true) ⊎ Went s b e) (eqb (s .block % 2) 0 && eqb (length b) 0) (ends s ps l rs []) goesOn (inl (ends-ended []))
         (by-answer (decLe (refusal b (s .block)) 0))
 
-    pub step-held : s .count ≤ 60 → length ps ≡ 120 → Held (stepOf s ps l b)
+    pub step-held : s .count ≤ 60 → length ps ≡ 120 → Held (stepOf s ps l rs b)
     unfolding stepOf
     step-held f g =
-        either Held (eqb (s .block % 2) 0 && eqb (length b) 0) (ends s ps l []) goesOn (ends-held f g [])
+        either Held (eqb (s .block % 2) 0 && eqb (length b) 0) (ends s ps l rs []) goesOn (ends-held f g [])
         (taken-held f g (readBlock b (s .block) .points) (readBlock b (s .block) .block) (few-points b (s .block) (readBlock b (s .block)) refl) (all-places b (s .block) (readBlock b (s .block)) refl))
 
     -- a number of two bytes
-    pub number-below : Bytes b → Went s b (stepOf s ps l b) → s .block < 65536
+    pub number-below : Bytes b → Went s b (stepOf s ps l rs b) → s .block < 65536
     unfolding pair
     number-below f w = omega (arith, w .number, f 2, f 3)
 
@@ -110,40 +110,40 @@ module _ (r : Step) (b : List ℕ) where
   unfolding onward
   stays e = rw e
 
-  pub goes : r .state .ended ≡ false → onward r b ≡ record { state = stepOf (r .state) (r .points) (r .nodes) b .state; points = stepOf (r .state) (r .points) (r .nodes) b .points; nodes = stepOf (r .state) (r .points) (r .nodes) b .nodes; text = r .text ++ stepOf (r .state) (r .points) (r .nodes) b .text }
+  pub goes : r .state .ended ≡ false → onward r b ≡ record { state = stepOf (r .state) (r .points) (r .nodes) (r .rims) b .state; points = stepOf (r .state) (r .points) (r .nodes) (r .rims) b .points; nodes = stepOf (r .state) (r .points) (r .nodes) (r .rims) b .nodes; rims = stepOf (r .state) (r .points) (r .nodes) (r .rims) b .rims; text = r .text ++ stepOf (r .state) (r .points) (r .nodes) (r .rims) b .text }
   unfolding onward
   goes e = rw e
 
-  goes-state : r .state .ended ≡ false → onward r b .state ≡ stepOf (r .state) (r .points) (r .nodes) b .state
+  goes-state : r .state .ended ≡ false → onward r b .state ≡ stepOf (r .state) (r .points) (r .nodes) (r .rims) b .state
   goes-state e = ap (λ (x : Step). x .state) (goes e)
 
   onward-held : Held r → Held (onward r b)
   unfolding onward
-  onward-held h = let k = step-held (r .state) (r .points) (r .nodes) b (h .few) (h .long) in either Held (r .state .ended) r _ h (record { few = k .few; long = k .long })
+  onward-held h = let k = step-held (r .state) (r .points) (r .nodes) (r .rims) b (h .few) (h .long) in either Held (r .state .ended) r _ h (record { few = k .few; long = k .long })
 
   -- a short block ends it
   pub short-ends : length b < 512 → onward r b .state .ended ≡ true
   short-ends h = go (known (r .state .ended))
     where
-      by : (stepOf (r .state) (r .points) (r .nodes) b .state .ended ≡ true) ⊎ Went (r .state) b (stepOf (r .state) (r .points) (r .nodes) b) → stepOf (r .state) (r .points) (r .nodes) b .state .ended ≡ true
+      by : (stepOf (r .state) (r .points) (r .nodes) (r .rims) b .state .ended ≡ true) ⊎ Went (r .state) b (stepOf (r .state) (r .points) (r .nodes) (r .rims) b) → stepOf (r .state) (r .points) (r .nodes) (r .rims) b .state .ended ≡ true
       by (inl e) = e
       by (inr w) = absurd (omega (arith, w .whole))
 
       go : (r .state .ended ≡ true) ⊎ (r .state .ended ≡ false) → onward r b .state .ended ≡ true
       go (inl e) = ap (λ (x : Step). x .state .ended) (stays e) ∙ e
-      go (inr e) = ap (λ (x : State). x .ended) (goes-state e) ∙ by (outcome (r .state) (r .points) (r .nodes) b)
+      go (inr e) = ap (λ (x : State). x .ended) (goes-state e) ∙ by (outcome (r .state) (r .points) (r .nodes) (r .rims) b)
 
   -- one that goes on has the next number, and that is no higher than 65,536
   pub numbered : (n : ℕ) → (r .state .ended ≡ false → r .state .block ≡ n) → onward r b .state .ended ≡ false → (onward r b .state .block ≡ suc n) × (Bytes b → n < 65536)
   numbered n h f = go (known (r .state .ended))
     where
-      by : r .state .ended ≡ false → (stepOf (r .state) (r .points) (r .nodes) b .state .ended ≡ true) ⊎ Went (r .state) b (stepOf (r .state) (r .points) (r .nodes) b) → (onward r b .state .block ≡ suc n) × (Bytes b → n < 65536)
+      by : r .state .ended ≡ false → (stepOf (r .state) (r .points) (r .nodes) (r .rims) b .state .ended ≡ true) ⊎ Went (r .state) b (stepOf (r .state) (r .points) (r .nodes) (r .rims) b) → (onward r b .state .block ≡ suc n) × (Bytes b → n < 65536)
       by e (inl x) = not-both _ (ap (λ (z : State). z .ended) (goes-state e) ∙ x) f
-      by e (inr w) = (omega (arith, ap (λ (z : State). z .block) (goes-state e), w .next, h e), λ q. omega (arith, number-below (r .state) (r .points) (r .nodes) b q w, h e))
+      by e (inr w) = (omega (arith, ap (λ (z : State). z .block) (goes-state e), w .next, h e), λ q. omega (arith, number-below (r .state) (r .points) (r .nodes) (r .rims) b q w, h e))
 
       go : (r .state .ended ≡ true) ⊎ (r .state .ended ≡ false) → (onward r b .state .block ≡ suc n) × (Bytes b → n < 65536)
       go (inl e) = not-both _ e (ap (λ (x : Step). x .state .ended) (sym (stays e)) ∙ f)
-      go (inr e) = by e (outcome (r .state) (r .points) (r .nodes) b)
+      go (inr e) = by e (outcome (r .state) (r .points) (r .nodes) (r .rims) b)
 
 -- ---- a run over blocks
 pub ran-held : (bs : List (List ℕ)) → Held (ran bs)

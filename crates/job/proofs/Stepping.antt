@@ -29,46 +29,50 @@ no-text : (t : List ℕ) → Printed true t [] 0 t
 unfolding put
 no-text t = record { bytes = refl; list = refl; room = omega arith }
 
-module _ (s : State) (ps : List ℤ) (l : List Float) where
+module _ (s : State) (ps : List ℤ) (l : List Float) (rs : List ℕ) where
   -- a refused block
   pub refuses : (qs : List ℤ) (a : Block) (code n : ℕ) (q : State) (k : ℕ) (t u : List ℕ) → a ≡ Refused code n → q ≡ closed s → mostText ≤ length t
       → Printed (holds t) t (refusedBlock n code) k u
-      → Steps (taken s ps l qs a) (record { state = q; count = k }) ps l t u
+      → Steps (taken s ps l rs qs a) (record { state = q; count = k }) ps l rs t u
   unfolding taken ends
-  refuses qs a code n q k t u e d h p = rw e (record { state = d; points = refl; nodes = refl; text = printed-as (holds t) t _ _ k u (has-room t h) refl p })
+  refuses qs a code n q k t u e d h p = rw e (record { state = d; points = refl; nodes = refl; rims = refl; text = printed-as (holds t) t _ _ k u (has-room t h) refl p })
 
   -- a ring's answer, its points kept
   pub ring-waits : (qs : List ℤ) (a : Block) (count size : ℕ) → a ≡ Ring count size → (q : List ℤ) → q ≡ qs → (t : List ℕ)
-      → Steps (taken s ps l qs a) (record { state = record { block = s .block + 1; count = count; size = size; used = s .used; ended = false }; count = 0 }) q l t t
+      → Steps (taken s ps l rs qs a) (record { state = record { block = s .block + 1; count = count; size = size; used = s .used; ended = false }; count = 0 }) q l rs t t
   unfolding taken waits
-  ring-waits qs a count size d q g t = rw d (record { state = refl; points = g; nodes = refl; text = no-text t })
+  ring-waits qs a count size d q g t = rw d (record { state = refl; points = g; nodes = refl; rims = refl; text = no-text t })
 
   -- a chain's answer
-  pub chain-divides : (qs : List ℤ) (a : Block) (count : ℕ) → a ≡ Chain count → (q : List ℤ) (m : List Float) (x : Stepped) (t u : List ℕ) → Steps (divides s ps l (take (count * 2) qs)) x q m t u
-      → Steps (taken s ps l qs a) x q m t u
+  pub chain-divides : (qs : List ℤ) (a : Block) (count : ℕ) → a ≡ Chain count → (q : List ℤ) (m : List Float) (w : List ℕ) (x : Stepped) (t u : List ℕ)
+      → Steps (divides s ps l rs (take (count * 2) qs)) x q m w t u
+      → Steps (taken s ps l rs qs a) x q m w t u
   unfolding taken
-  chain-divides qs a count d q m x t u p = rw d p
+  chain-divides qs a count d q m w x t u p = rw d p
 
   -- the answer that was read is what the step goes by, unless the input has ended before a ring block
   module _ (b : List ℕ) (t : Bool) (h : t ≡ (eqb (s .block % 2) 0 && eqb (length b) 0)) where
-    pub goes-on : t ≡ false → (r : Reading) → r ≡ readBlock b (s .block) → (q : List ℤ) (m : List Float) (x : Stepped) (v u : List ℕ) → Steps (taken s ps l (r .points) (r .block)) x q m v u → Steps (stepOf s ps l b) x q m v u
+    pub goes-on : t ≡ false → (r : Reading) → r ≡ readBlock b (s .block) → (q : List ℤ) (m : List Float) (w : List ℕ) (x : Stepped) (v u : List ℕ)
+        → Steps (taken s ps l rs (r .points) (r .block)) x q m w v u
+        → Steps (stepOf s ps l rs b) x q m w v u
     unfolding stepOf
-    goes-on f r e q m x v u p = rw (sym h ∙ f, ← e) p
+    goes-on f r e q m w x v u p = rw (sym h ∙ f, ← e) p
 
-    pub has-ended : t ≡ true → (q : State) (u : List ℕ) → q ≡ closed s → Steps (stepOf s ps l b) (record { state = q; count = 0 }) ps l u u
+    pub has-ended : t ≡ true → (q : State) (u : List ℕ) → q ≡ closed s → Steps (stepOf s ps l rs b) (record { state = q; count = 0 }) ps l rs u u
     unfolding stepOf ends
-    has-ended f q u d = rw (sym h ∙ f) (record { state = d; points = refl; nodes = refl; text = no-text u })
+    has-ended f q u d = rw (sym h ∙ f) (record { state = d; points = refl; nodes = refl; rims = refl; text = no-text u })
 
   -- the ring that waits was divided, by a call that kept its promise, and its row was printed
-  pub divided : (chain : List ℤ) (v : Values) (m : List Float) (p : List ℕ) → Promise delivered (lentBy s ps l chain) v m p → (w : Values) → w ≡ v → (k : ℕ) (t u : List ℕ)
+  pub divided : (chain : List ℤ) (v : Values) (m : List Float) (y : List ℕ) (p : List ℕ) → Promise delivered (lentBy s ps l rs chain) v m y p → (w : Values) → w ≡ v → (k : ℕ) (t u : List ℕ)
       → Printed true t (rowText (s .block / 2) (s .used) w p) k u
-      → Steps (divides s ps l chain) (record { state = record { block = s .block + 1; count = s .count; size = s .size; used = w .nodes; ended = false }; count = k }) ps m t u
+      → Steps (divides s ps l rs chain) (record { state = record { block = s .block + 1; count = s .count; size = s .size; used = w .nodes; ended = false }; count = k }) ps m y t u
   unfolding divides
-  divided chain v m p q w e k t u h =
-      let d : w ≡ divideLent delivered (lentBy s ps l chain) .row = e ∙ q .leaves .values in
+  divided chain v m y p q w e k t u h =
+      let d : w ≡ divideLent delivered (lentBy s ps l rs chain) .row = e ∙ q .leaves .values in
       record {
         state = λ i. record { block = s .block + 1; count = s .count; size = s .size; used = d i .nodes; ended = false };
         points = refl;
         nodes = q .leaves .nodes;
+        rims = q .leaves .rims;
         text = subst (λ (z : List ℕ). Printed true t z k u) (λ i. rowText (s .block / 2) (s .used) (d i) (q .leaves .cells i)) h;
       }

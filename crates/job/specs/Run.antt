@@ -13,7 +13,7 @@ use Rattle.job.specs.Step.{Step, stepOf}
 abbrev pub Bytes : List ℕ → Type 0
 Bytes l = (i : ℕ) → getD l i 0 < 256
 
--- before the first block: no ring waits, and "one node list of 1,536 places", none of it used
+-- before the first block: no ring waits, and "one node list of 1,536 places", none of it used, with a rim mark to a place beside it
 abbrev pub start : State
 start = record { block = 0; count = 0; size = 0; used = 0; ended = false }
 
@@ -23,15 +23,18 @@ noPoints = replicate 120 (pos 0)
 abbrev pub noNodes : List Float
 noNodes = replicate 3072 naught
 
+abbrev pub noRims : List ℕ
+noRims = replicate 1536 0
+
 -- the run up to here, one block on; a run that has ended stays as it is
 unfoldable pub onward : Step → List ℕ → Step
 onward r b =
-    let e = stepOf (r .state) (r .points) (r .nodes) b in
-    cond (r .state .ended) r (record { state = e .state; points = e .points; nodes = e .nodes; text = r .text ++ e .text })
+    let e = stepOf (r .state) (r .points) (r .nodes) (r .rims) b in
+    cond (r .state .ended) r (record { state = e .state; points = e .points; nodes = e .nodes; rims = e .rims; text = r .text ++ e .text })
 
 -- the run over some blocks, the latest first: what it leaves, and all that it printed
 unfoldable pub ran : List (List ℕ) → Step
-ran [] = record { state = start; points = noPoints; nodes = noNodes; text = [] }
+ran [] = record { state = start; points = noPoints; nodes = noNodes; rims = noRims; text = [] }
 ran (b ∷ bs) = onward (ran bs) b
 
 -- what read number i gives of an input, from 0: the next 512 bytes, or what is left of it; and the first n reads, the latest first

@@ -21,61 +21,64 @@ use Rattle.job.specs.declared.State.{State}
 use Rattle.job.specs.declared.Stepped.{Stepped}
 use Rattle.job.specs.Row.{rowText}
 
--- what a step leaves: the state, the points of the ring that waits for its chain, in all 60 places, and the nodes; and the text that it prints
+-- what a step leaves: the state, the points of the ring that waits for its chain, in all 60 places, the nodes and their rim marks; and the text that it prints
 pub record Step : Type 0 where
   pub state : State
   pub points : List ℤ
   pub nodes : List Float
+  pub rims : List ℕ
   pub text : List ℕ
 
 -- the run ends, with this text as its last; "both lists keep what earlier rings left"
 abbrev pub closed : State → State
 closed s = record { block = s .block; count = s .count; size = s .size; used = s .used; ended = true }
 
-unfoldable pub ends : State → List ℤ → List Float → List ℕ → Step
-ends s ps l t = record { state = closed s; points = ps; nodes = l; text = t }
+unfoldable pub ends : State → List ℤ → List Float → List ℕ → List ℕ → Step
+ends s ps l rs t = record { state = closed s; points = ps; nodes = l; rims = rs; text = t }
 
 -- a ring block: its ring waits for its chain, and nothing is printed yet
-unfoldable pub waits : State → List Float → ℕ → ℕ → List ℤ → Step
-waits s l count size qs = record { state = record { block = s .block + 1; count = count; size = size; used = s .used; ended = false }; points = qs; nodes = l; text = [] }
+unfoldable pub waits : State → List Float → List ℕ → ℕ → ℕ → List ℤ → Step
+waits s l rs count size qs = record { state = record { block = s .block + 1; count = count; size = size; used = s .used; ended = false }; points = qs; nodes = l; rims = rs; text = [] }
 
 -- "its cell list has 124 and starts empty for each ring": the places, four numbers each
 abbrev pub noCells : List ℕ
 noCells = replicate 496 0
 
--- the call of the ring that waits, with its chain, over the run's node list
-abbrev pub lentBy : State → List ℤ → List Float → List ℤ → Lent
-lentBy s ps l chain = record { ring = take (s .count * 2) ps; chain = chain; size = s .size; nodes = l; nodeCount = s .used; cells = noCells; cellCount = 0 }
+-- the call of the ring that waits, with its chain, over the run's node list and the rim marks beside it
+abbrev pub lentBy : State → List ℤ → List Float → List ℕ → List ℤ → Lent
+lentBy s ps l rs chain = record { ring = take (s .count * 2) ps; chain = chain; size = s .size; nodes = l; nodeCount = s .used; rims = rs; cells = noCells; cellCount = 0 }
 
 -- a chain block: the ring that waits is divided, and its row printed. "ring number from 0, refused rings counted": two blocks a ring
-unfoldable pub divides : State → List ℤ → List Float → List ℤ → Step
-divides s ps l chain =
-    let a = divideLent delivered (lentBy s ps l chain) in
+unfoldable pub divides : State → List ℤ → List Float → List ℕ → List ℤ → Step
+divides s ps l rs chain =
+    let a = divideLent delivered (lentBy s ps l rs chain) in
     record {
       state = record { block = s .block + 1; count = s .count; size = s .size; used = a .row .nodes; ended = false };
       points = ps;
       nodes = over l (a .nodes);
+      rims = a .rims;
       text = rowText (s .block / 2) (s .used) (a .row) (overCells noCells (a .cells));
     }
 
 -- a block with the points qs, as it was read. "A block refusal ends the run with `block NUMBER refused CODE`"
-unfoldable pub taken : State → List ℤ → List Float → List ℤ → Block → Step
-taken s ps l qs (Ring count size) = waits s l count size qs
-taken s ps l qs (Chain count) = divides s ps l (take (count * 2) qs)
-taken s ps l qs (Refused code n) = ends s ps l (refusedBlock n code)
+unfoldable pub taken : State → List ℤ → List Float → List ℕ → List ℤ → Block → Step
+taken s ps l rs qs (Ring count size) = waits s l rs count size qs
+taken s ps l rs qs (Chain count) = divides s ps l rs (take (count * 2) qs)
+taken s ps l rs qs (Refused code n) = ends s ps l rs (refusedBlock n code)
 
 -- the step over the bytes b of the next block: 512 of them, or what is left of the input, or none where it has ended. "part of a block, or the input ends after a
 -- ring block" is 9, with the number "of the missing chain block"; where the input ends after a chain block, or is empty, nothing is printed
-unfoldable pub stepOf : State → List ℤ → List Float → List ℕ → Step
-stepOf s ps l b =
+unfoldable pub stepOf : State → List ℤ → List Float → List ℕ → List ℕ → Step
+stepOf s ps l rs b =
     let r = readBlock b (s .block) in
-    cond (eqb (s .block % 2) 0 && eqb (length b) 0) (ends s ps l []) (taken s ps l (r .points) (r .block))
+    cond (eqb (s .block % 2) 0 && eqb (length b) 0) (ends s ps l rs []) (taken s ps l rs (r .points) (r .block))
 
--- the code's step answered r, and left the points q, the nodes m, and the bytes u where t were
-pub record Steps (e : Step) (r : Stepped) (q : List ℤ) (m : List Float) (t u : List ℕ) : Type 0 where
+-- the code's step answered r, and left the points q, the nodes m, the rim marks w, and the bytes u where t were
+pub record Steps (e : Step) (r : Stepped) (q : List ℤ) (m : List Float) (w : List ℕ) (t u : List ℕ) : Type 0 where
   pub state : r .state ≡ e .state
   pub points : q ≡ e .points
   pub nodes : m ≡ e .nodes
+  pub rims : w ≡ e .rims
   pub text : Printed true t (e .text) (r .count) u
 
 -- of an answer: that it is a refusal, no chain, no ring; and how many points it has

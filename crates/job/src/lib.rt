@@ -2,12 +2,13 @@
 // below the run that reads and writes.
 //
 // specs/Run says what the program prints as one definition, `printed`, from the bytes that go in to those that come out. A
-// step is proved equal to the definition's: the state it answers, every double of the node list and every byte of the text.
+// step is proved equal to the definition's: the state it answers, every double of the node list, every rim mark and every
+// byte of the text.
 
 ghost use mathlib.Core.Path.{_≡_};
 ghost use mathlib.Core.Bool.{true, _&&_};
 ghost use mathlib.Core.List.{List};
-ghost use Prim.Native.Nat.{_*_, _%_, _≤_, _<_};
+ghost use Prim.Native.Nat.{ℕ, _*_, _%_, _≤_, _<_};
 ghost use lib.ListN.{length, take};
 ghost use lib.Dec.{eqb};
 ghost use lib.IntN.{ℤ};
@@ -95,10 +96,11 @@ fn divide_ring(
     chain: &[i32],
     run: usize,
     nodes: &mut [f64],
+    rims: &mut [u8],
     text: &mut [u8],
 ) -> Stepped
     requires { ⌜ CanStep s (now ring) (now text) × (s .block < 65536) × (run ≤ 60) × (length (now chain) ≡ 120) ⌝ }
-    ensures { λ r. ⌜ Steps (divides s (now (ring .entry)) (now (nodes .entry)) (take (run * 2) (now (chain .entry)))) r (now (ring .entry)) (now (nodes .exit)) (now (text .entry)) (now (text .exit)) ⌝ }
+    ensures { λ r. ⌜ Steps (divides s (now (ring .entry)) (now (nodes .entry)) (now (rims .entry)) (take (run * 2) (now (chain .entry)))) r (now (ring .entry)) (now (nodes .exit)) (now (rims .exit)) (now (text .entry)) (now (text .exit)) ⌝ }
 {
     let end = s.count * 2;
     let stop = run * 2;
@@ -110,6 +112,7 @@ fn divide_ring(
         s.size,
         nodes,
         used,
+        rims,
         &mut cells,
         0,
     ));
@@ -128,7 +131,7 @@ fn divide_ring(
 // The line of a refused block, which is the last.
 fn refuse(s: State, block: Block, text: &mut [u8]) -> Stepped
     requires { ⌜ Refusal block × (mostText ≤ length (now text)) ⌝ }
-    ensures { λ r. ⌜ ((ps qs : List ℤ) (l : List Float) → Steps (taken s ps l qs block) r ps l (now (text .entry)) (now (text .exit))) ⌝ }
+    ensures { λ r. ⌜ ((ps qs : List ℤ) (l : List Float) (rs : List ℕ) → Steps (taken s ps l rs qs block) r ps l rs (now (text .entry)) (now (text .exit))) ⌝ }
 {
     let Block::Refused { code, block } = block else {
         return Stepped { state: s, count: 0 };
@@ -153,7 +156,7 @@ fn keep(ring: &mut [i32], points: &[i32])
 // A ring block: its ring waits for its chain.
 fn ring_block(s: State, head: Block, points: &[i32], ring: &mut [i32], text: &mut [u8]) -> Stepped
     requires { ⌜ CanStep s (now ring) (now text) × Answered (s .block) head (now points) × (s .block % 2 ≡ 0) ⌝ }
-    ensures { λ r. ⌜ ((l : List Float) → Steps (taken s (now (ring .entry)) l (now (points .entry)) head) r (now (ring .exit)) l (now (text .entry)) (now (text .exit))) ⌝ }
+    ensures { λ r. ⌜ ((l : List Float) (rs : List ℕ) → Steps (taken s (now (ring .entry)) l rs (now (points .entry)) head) r (now (ring .exit)) l rs (now (text .entry)) (now (text .exit))) ⌝ }
 {
     let Block::Ring { count, size } = head else {
         return refuse(s, head, text);
@@ -176,15 +179,16 @@ fn chain_block(
     points: &[i32],
     ring: &[i32],
     nodes: &mut [f64],
+    rims: &mut [u8],
     text: &mut [u8],
 ) -> Stepped
     requires { ⌜ CanStep s (now ring) (now text) × Answered (s .block) tail (now points) × (s .block % 2 ≡ 1) ⌝ }
-    ensures { λ r. ⌜ Steps (taken s (now (ring .entry)) (now (nodes .entry)) (now (points .entry)) tail) r (now (ring .entry)) (now (nodes .exit)) (now (text .entry)) (now (text .exit)) ⌝ }
+    ensures { λ r. ⌜ Steps (taken s (now (ring .entry)) (now (nodes .entry)) (now (rims .entry)) (now (points .entry)) tail) r (now (ring .entry)) (now (nodes .exit)) (now (rims .exit)) (now (text .entry)) (now (text .exit)) ⌝ }
 {
     let Block::Chain { count } = tail else {
         return refuse(s, tail, text);
     };
-    divide_ring(s, ring, points, count, nodes, text)
+    divide_ring(s, ring, points, count, nodes, rims, text)
 }
 
 // Whether the input has ended where a ring block would begin. After a ring block that is part of a block.
@@ -199,9 +203,16 @@ fn at_end(block: u32, bytes: &[u8]) -> bool
 
 // One step: the bytes of the next block, or what is left of the input, or none where it has ended. That they are bytes is
 // for the caller's proof.
-pub fn step(s: State, bytes: &[u8], ring: &mut [i32], nodes: &mut [f64], text: &mut [u8]) -> Stepped
+pub fn step(
+    s: State,
+    bytes: &[u8],
+    ring: &mut [i32],
+    nodes: &mut [f64],
+    rims: &mut [u8],
+    text: &mut [u8],
+) -> Stepped
     requires { ⌜ CanStep s (now ring) (now text) ⌝ }
-    ensures { λ r. ⌜ Steps (stepOf s (now (ring .entry)) (now (nodes .entry)) (now (bytes .entry))) r (now (ring .exit)) (now (nodes .exit)) (now (text .entry)) (now (text .exit)) × Bytes (now (bytes .entry)) ⌝ }
+    ensures { λ r. ⌜ Steps (stepOf s (now (ring .entry)) (now (nodes .entry)) (now (rims .entry)) (now (bytes .entry))) r (now (ring .exit)) (now (nodes .exit)) (now (rims .exit)) (now (text .entry)) (now (text .exit)) × Bytes (now (bytes .entry)) ⌝ }
 {
     if at_end(s.block, bytes) {
         return Stepped {
@@ -214,5 +225,5 @@ pub fn step(s: State, bytes: &[u8], ring: &mut [i32], nodes: &mut [f64], text: &
     if s.block % 2 == 0 {
         return ring_block(s, block, &reading.points, ring, text);
     }
-    chain_block(s, block, &reading.points, ring, nodes, text)
+    chain_block(s, block, &reading.points, ring, nodes, rims, text)
 }

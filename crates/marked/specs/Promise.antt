@@ -1,4 +1,4 @@
--- The promise of the call with given marks, for every input: what it returns, every place of the two lists afterwards, and demand 3 of an accepted ring.
+-- The promise of the call with given marks, for every input: what it returns, every place of the lists afterwards, and demand 3 of an accepted ring.
 use Prim.Native.Nat.{ℕ}
 use mathlib.Core.Path.{_≡_}
 use mathlib.Core.List.{List}
@@ -9,7 +9,7 @@ use Rattle.demand.specs.Demand.{Demand3}
 use Rattle.demand.specs.Marked.{LentMarked, markedLists, markedStart, divideMarked}
 use Rattle.divider.specs.Promise.{Leaves}
 
--- a call with the set of limits L over what the caller lent returned v and left the nodes m and the cells p
-pub record MarkedPromise (L : Limits) (l : LentMarked) (v : Values) (m : List Float) (p : List ℕ) : Type 0 where
-  pub leaves : Leaves (divideMarked L l) v (l .nodes) m (l .cells) p
+-- a call with the set of limits L over what the caller lent returned v and left the nodes m, the rim marks t and the cells p
+pub record MarkedPromise (L : Limits) (l : LentMarked) (v : Values) (m : List Float) (t : List ℕ) (p : List ℕ) : Type 0 where
+  pub leaves : Leaves (divideMarked L l) v (l .nodes) m t (l .cells) p
   pub accepted : v .code ≡ 0 → Demand3 L (markedStart l) (markedLists l) (divideMarked L l)

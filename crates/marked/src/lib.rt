@@ -1,7 +1,7 @@
 // Marked: the divider call with given marks, from a ring and its marks to its cells over the lists that a caller lends.
 //
 // It is an entry beside that of `divider`: it tests, prepares the ring with the marks that survive cleaning, and hands it to
-// the core. Whatever is handed over, the call ends, returns one row of the table and says of every place of both lists what
+// the core. Whatever is handed over, the call ends, returns one row of the table and says of every place of the lists what
 // is left there. specs/Promise has the promise, in which stands what holds of every accepted ring.
 
 ghost use mathlib.Core.Path.{_≡_};
@@ -45,11 +45,12 @@ fn refusal(
     size: u32,
     nodes: &[f64],
     node_count: usize,
+    rims: &[u8],
     cell_places: usize,
     cell_count: usize,
 ) -> u32
     ensures { λ r. ⌜ ((q : List ℕ) → length q / 4 ≡ «cell_places»
-        → r ≡ firstOf (markedTests limits (record { ring = now (ring .entry); marking = record { kinds = now (kinds .entry); snaps = now (snaps .entry); outline = now (outline .entry); loops = now (loops .entry) }; size = size; nodes = now (nodes .entry); nodeCount = «node_count»; cells = q; cellCount = «cell_count» }))) ⌝ }
+        → r ≡ firstOf (markedTests limits (record { ring = now (ring .entry); marking = record { kinds = now (kinds .entry); snaps = now (snaps .entry); outline = now (outline .entry); loops = now (loops .entry) }; size = size; nodes = now (nodes .entry); nodeCount = «node_count»; rims = now (rims .entry); cells = q; cellCount = «cell_count» }))) ⌝ }
 {
     if entry::counts_out(ring.len(), 0) {
         return 1;
@@ -66,7 +67,7 @@ fn refusal(
     if sets::limits_out(limits) {
         return 15;
     }
-    if entry::lists_out(nodes, node_count, cell_places, cell_count) {
+    if entry::lists_out(nodes, node_count, rims, cell_places, cell_count) {
         return 3;
     }
     if entry::room_out(
@@ -116,11 +117,12 @@ pub fn divide_marked_set(
     size: u32,
     nodes: &mut [f64],
     node_count: usize,
+    rims: &mut [u8],
     cells: &mut [NodeNumber],
     cell_count: usize,
 ) -> Answer
-    ensures { λ a. ⌜ MarkedPromise limits (record { ring = now (ring .entry); marking = record { kinds = now (kinds .entry); snaps = now (snaps .entry); outline = now (outline .entry); loops = now (loops .entry) }; size = size; nodes = now (nodes .entry); nodeCount = «node_count»; cells = now (cells .entry); cellCount = «cell_count» })
-        (Answers.values a) (now (nodes .exit)) (now (cells .exit)) ⌝ }
+    ensures { λ a. ⌜ MarkedPromise limits (record { ring = now (ring .entry); marking = record { kinds = now (kinds .entry); snaps = now (snaps .entry); outline = now (outline .entry); loops = now (loops .entry) }; size = size; nodes = now (nodes .entry); nodeCount = «node_count»; rims = now (rims .entry); cells = now (cells .entry); cellCount = «cell_count» })
+        (Answers.values a) (now (nodes .exit)) (now (rims .exit)) (now (cells .exit)) ⌝ }
 {
     let places = cells.len() / 4;
     let code = refusal(
@@ -133,6 +135,7 @@ pub fn divide_marked_set(
         size,
         nodes,
         node_count,
+        rims,
         places,
         cell_count,
     );
@@ -145,7 +148,16 @@ pub fn divide_marked_set(
     }
     let own = ring.len() / 2;
     let marked = marked_ring(ring, kinds, snaps, outline, loops, size);
-    divider::divide_core(limits, marked, own, nodes, node_count, cells, cell_count)
+    divider::divide_core(
+        limits,
+        marked,
+        own,
+        nodes,
+        node_count,
+        rims,
+        cells,
+        cell_count,
+    )
 }
 
 // The same with the set on delivery.
@@ -158,11 +170,12 @@ pub fn divide_marked(
     size: u32,
     nodes: &mut [f64],
     node_count: usize,
+    rims: &mut [u8],
     cells: &mut [NodeNumber],
     cell_count: usize,
 ) -> Answer
-    ensures { λ a. ⌜ MarkedPromise delivered (record { ring = now (ring .entry); marking = record { kinds = now (kinds .entry); snaps = now (snaps .entry); outline = now (outline .entry); loops = now (loops .entry) }; size = size; nodes = now (nodes .entry); nodeCount = «node_count»; cells = now (cells .entry); cellCount = «cell_count» })
-        (Answers.values a) (now (nodes .exit)) (now (cells .exit)) ⌝ }
+    ensures { λ a. ⌜ MarkedPromise delivered (record { ring = now (ring .entry); marking = record { kinds = now (kinds .entry); snaps = now (snaps .entry); outline = now (outline .entry); loops = now (loops .entry) }; size = size; nodes = now (nodes .entry); nodeCount = «node_count»; rims = now (rims .entry); cells = now (cells .entry); cellCount = «cell_count» })
+        (Answers.values a) (now (nodes .exit)) (now (rims .exit)) (now (cells .exit)) ⌝ }
 {
     let limits = Limits::new();
     divide_marked_set(
@@ -175,6 +188,7 @@ pub fn divide_marked(
         size,
         nodes,
         node_count,
+        rims,
         cells,
         cell_count,
     )

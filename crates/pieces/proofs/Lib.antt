@@ -2,3 +2,4 @@
 pub mod CellPlaces
 pub mod Course
 pub mod Cases
+pub mod Sides

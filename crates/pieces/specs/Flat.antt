@@ -6,6 +6,7 @@ use lib.Ieee.{Float}
 use Rattle.vector.specs.declared.GridPoint.{GridPoint}
 use Rattle.vector.specs.Size.{AllOnSheet}
 use Rattle.marks.specs.declared.Edge.{Edge}
+use Rattle.marks.specs.declared.EdgeMark.{EdgeMark}
 use Rattle.marks.specs.Part.{Part}
 use Rattle.split.specs.declared.PartList.{PartList}
 use Rattle.split.specs.Layout.{Kept, listOf}
@@ -17,6 +18,7 @@ use Rattle.cells.specs.Cells.{noCell}
 use Rattle.cells.specs.Pieces.{Outcome, done, failed, piecesTo}
 use Rattle.cells.specs.Stages.{nodesOf}
 use Rattle.cells.specs.Claims.{Fair, cornersTo}
+use Rattle.cells.specs.Asks.{Ask, label, asksTo}
 use Rattle.cells.specs.Flat.{overCells}
 use Rattle.pieces.specs.declared.Subdivision.{Subdivision}
 use Rattle.pieces.specs.declared.Subdivision.the-variants.{Done, Failed}
@@ -29,6 +31,18 @@ piecesIn ring es p = listOf ring (marksOf es) p (p .count)
 abbrev pub outcomeIn : Float → List Float → ℕ → List GridPoint → List Edge → PartList → Outcome
 outcomeIn share l u ring es p = piecesTo share (piecesIn ring es p) (nodesIn l u) (p .count)
 
+-- ---- the ring edges among theirs
+-- every edge of the ring marked; the pieces so marked; and what the pieces ask for
+unfoldable pub everyMark : List EdgeMark
+everyMark = replicate 60 label
+
+abbrev pub labelledIn : List GridPoint → PartList → List Part
+labelledIn ring p = listOf ring everyMark p (p .count)
+
+abbrev pub asksIn : Float → List Float → ℕ → List GridPoint → List Edge → PartList → List Ask
+asksIn share l u ring es p = asksTo share (piecesIn ring es p) (labelledIn ring p) (nodesIn l u) (p .count)
+
+-- ---- what is asked
 -- the pieces are fair, and there is room for all their nodes, and for a cell a corner in the reserve of places from `first` on
 pub record CanSubdivide (share : Float) (l : List Float) (u : ℕ) (q : List ℕ) (first reserve : ℕ) (ring : List GridPoint) (es : List Edge) (p : PartList) : Type 0 where
   pub usable : Usable l u

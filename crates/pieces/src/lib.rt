@@ -7,13 +7,20 @@
 mod extent;
 
 ghost use mathlib.Core.Path.{_≡_};
-ghost use Prim.Native.Nat.{_*_, _≤_};
-ghost use lib.ListN.{length, replicate};
+ghost use mathlib.Core.List.{List};
+ghost use Prim.Native.Nat.{ℕ, _*_, _≤_, _<_};
+ghost use mathlib.Core.Bool.{false};
+ghost use lib.ListN.{length, getD, replicate};
+ghost use Rattle.vector.specs.declared.GridPoint.{GridPoint};
+ghost use Rattle.split.specs.Layout.{Kept};
+ghost use Rattle.split.specs.State.{pieceIn};
 ghost use Rattle.nodes.specs.Flat.{over};
 ghost use Rattle.cells.specs.Cells.{noCell};
 ghost use Rattle.cells.specs.Stages.{nodesOf};
+ghost use Rattle.cells.specs.Asks.{ofRing};
+ghost use Rattle.cells.specs.Rims.{rimsBy};
 ghost use Rattle.cells.specs.Flat.{overCells};
-ghost use Rattle.pieces.specs.Flat.{outcomeIn, CanSubdivide, row, rowOf, overFrom, cellsLeft};
+ghost use Rattle.pieces.specs.Flat.{outcomeIn, everyMark, asksIn, CanSubdivide, row, rowOf, overFrom, cellsLeft};
 use marks::Edge;
 use nodes::MOST_NEARBY;
 use nodes::NodeNumber;
@@ -44,11 +51,27 @@ fn clear(cells: &mut [NodeNumber], n: usize)
     }
 }
 
+// Which edges of piece i are edges of the ring: the diagonal of a cut has the number 60.
+fn piece_sides(pieces: PartList, i: usize) -> [bool; 60]
+    requires { ⌜ Kept pieces × (i < pieces .count) ⌝ }
+    ensures { λ r. ⌜ ((ring : List GridPoint) (j : ℕ) → getD r j false ≡ ofRing (pieceIn ring everyMark pieces i) j) ⌝ }
+{
+    let a = pieces.ends[i] as usize;
+    let n = pieces.ends[i + 1] as usize - a;
+    let mut out = [false; 60];
+    for j in 0..n {
+        let c = pieces.corners[a + j];
+        out[j] = c.edge < 60;
+    }
+    out
+}
+
 // The pieces over the first `used` nodes, their cells over the places from `first` on. After a failure `reserve` places
 // from there on are zero.
 pub fn subdivide_all(
     nodes: &mut [f64],
     used: usize,
+    rims: &mut [u8],
     cells: &mut [NodeNumber],
     first: usize,
     reserve: usize,
@@ -57,10 +80,12 @@ pub fn subdivide_all(
     pieces: PartList,
     share: f64,
 ) -> Subdivision
-    requires { ⌜ CanSubdivide share (now nodes) used (now cells) first reserve ring marks pieces ⌝ }
+    requires { ⌜ CanSubdivide share (now nodes) used (now cells) first reserve ring marks pieces
+        × (length (nodesOf (outcomeIn share (now nodes) used ring marks pieces)) ≤ length (now rims)) ⌝ }
     ensures { λ r. ⌜ (row r ≡ rowOf (outcomeIn share (now (nodes .entry)) used ring marks pieces))
         × (now (nodes .exit) ≡ over (now (nodes .entry)) (nodesOf (outcomeIn share (now (nodes .entry)) used ring marks pieces)))
-        × (now (cells .exit) ≡ overFrom (now (cells .entry)) first (cellsLeft reserve (outcomeIn share (now (nodes .entry)) used ring marks pieces))) ⌝ }
+        × (now (cells .exit) ≡ overFrom (now (cells .entry)) first (cellsLeft reserve (outcomeIn share (now (nodes .entry)) used ring marks pieces)))
+        × (now (rims .exit) ≡ rimsBy used (length (nodesOf (outcomeIn share (now (nodes .entry)) used ring marks pieces))) (asksIn share (now (nodes .entry)) used ring marks pieces) (now (rims .entry))) ⌝ }
 {
     let e = extent::of_pieces(ring, marks, pieces);
     let w = extent::window(e);
@@ -73,13 +98,16 @@ pub fn subdivide_all(
         let n = split::piece_size(pieces, i);
         let ps = split::piece_points(ring, pieces, i);
         let es = split::piece_marks(marks, pieces, i);
+        let sides = piece_sides(pieces, i);
         let start = at * 4;
         let t = cells::subdivide(
             nodes,
             u,
+            rims,
             &mut cells[start..],
             ps,
             es,
+            sides,
             n,
             share,
             near,

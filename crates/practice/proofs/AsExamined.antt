@@ -1,6 +1,6 @@
 -- THEOREM `as-examined`, Card 8: "A ring of at most 24 points, with a chain of at most 24, in which the examination entry makes 12 cuts or fewer divides alike through either,
 -- where the lists hold the examination reserve." For every such call over lent lists (specs/Practice.OnPaper) the practice call and the examination call answer the same row and
--- leave the same nodes and the same cells, except that with 8 each has zeros in its own reserve of cell places (specs/Practice.Alike).
+-- leave the same nodes, rim marks and cells, except that with 8 each has zeros in its own reserve of cell places (specs/Practice.Alike).
 -- THEOREM `as-examined-8`: then the two cell lists differ in no place but those between the end of the practice reserve and that of the examination, where the examination
 -- leaves zeros and the practice call what it found.
 -- THEOREM `both-entries`: the same of what the two entries return and leave, by their promises.
@@ -24,16 +24,19 @@ use Rattle.cells.specs.declared.Cell.{Cell}
 use Rattle.cells.specs.Cells.{noCell}
 use Rattle.cells.specs.Flat.{overCells}
 use Rattle.cells.specs.Pieces.{Outcome, done, failed, piecesTo}
+use Rattle.cells.specs.Asks.{Ask, allMarked, asksTo}
+use Rattle.cells.specs.Rims.{rimsBy}
 use Rattle.table.specs.declared.Values.{Values}
 use Rattle.table.specs.Refusals.{Refusal, firstOf, Passes, turnsAway}
 use Rattle.table.proofs.Refusals.{not-8}
 use Rattle.sets.specs.Sets.{withCuts, practiceSet}
 use Rattle.sets.proofs.Taken.{delivered-taken, practice-taken}
 use Rattle.demand.specs.Call.{Lists, usedIn, Call, listsOf, countsOut, over24, unitsOut, listsOut, nodeReserve, cellReserve, roomOut}
-use Rattle.demand.specs.Divide.{Answer, put, refused, refusedOr, ringTests, answered, core, ringOf, startOf}
+use Rattle.demand.specs.Divide.{Answer, put, refused, refusedOr, ringTests, asked, rimsLeft, answered, core, ringOf, startOf}
 use Rattle.demand.specs.Lent.{allCells, Lent, callOf, odd, testsBy, testsFor, divideLent, dividePractice}
 use Rattle.demand.proofs.Tests.{passed}
 use Rattle.demand.proofs.Course.{by-tests, by-tests-both, refused-code, start-points}
+use Rattle.rims.proofs.Edges.{marked-cuts}
 use Rattle.divider.specs.Promise as Examination
 use Rattle.practice.specs.Practice.{Promise, HoldsReserve, OnPaper, zeroed, Alike, Differ}
 use Rattle.practice.proofs.FewerCuts.{same-split}
@@ -42,12 +45,15 @@ use Rattle.practice.proofs.FewerCuts.{same-split}
 module _ (L M : Limits) (r : ℕ) (p : Part) (x : Lists) where
   refused-alike : (n : ℕ) → T (turnsAway n) → Alike L M r x (refused x n) (refused x n)
   unfolding refused
-  refused-alike n t = record { row = refl; nodes = refl; cells = λ e. refl; cells-8 = λ e. absurd (not-8 n t e) }
+  refused-alike n t = record { row = refl; nodes = refl; rims = refl; cells = λ e. refl; cells-8 = λ e. absurd (not-8 n t e) }
 
-  answered-alike : (s : Stack) (o : Outcome) → Alike L M r x (answered L r p x s o) (answered M r p x s o)
+  marks-alike : asked M p (usedIn x) ≡ asked L p (usedIn x) → (v : ℕ) → rimsLeft M p x v ≡ rimsLeft L p x v
+  marks-alike q v = ap (λ (qs : List Ask). rimsBy (x .nodeCount) v qs (x .rims)) q
+
+  answered-alike : asked M p (usedIn x) ≡ asked L p (usedIn x) → (s : Stack) (o : Outcome) → Alike L M r x (answered L r p x s o) (answered M r p x s o)
   unfolding answered
-  answered-alike s (done ns cs) = record { row = refl; nodes = refl; cells = λ e. refl; cells-8 = λ e. absurd (omega (arith, e)) }
-  answered-alike s (failed ns n i) = record { row = refl; nodes = refl; cells = λ e. absurd (e refl); cells-8 = λ e. (refl, refl) }
+  answered-alike q s (done ns cs) = record { row = refl; nodes = refl; rims = marks-alike q (length ns); cells = λ e. refl; cells-8 = λ e. absurd (omega (arith, e)) }
+  answered-alike q s (failed ns n i) = record { row = refl; nodes = refl; rims = marks-alike q (length ns); cells = λ e. absurd (e refl); cells-8 = λ e. (refl, refl) }
 
 -- what a ring comes to that is split into s
 abbrev laid : Limits → ℕ → Part → Lists → Stack → Answer
@@ -57,13 +63,20 @@ module _ (L : Limits) (k : ℕ) (h : k ≤ L .cuts) (r : ℕ) (p : Part) (x : Li
   abbrev fewer : Limits
   fewer = withCuts k L
 
+  -- what the pieces ask for, their ring edges by the split of the ring with every edge marked
+  asked-alike : splitBadVertices L p .cuts ≤ k → asked fewer p (usedIn x) ≡ asked L p (usedIn x)
+  asked-alike g =
+      let d = same-split L k p h g in
+      let e = same-split L k (allMarked p) h (omega (arith, g, marked-cuts L p)) in
+      λ j. asksTo (L .share) (d j .pieces) (e j .pieces) (usedIn x) (length (d j .pieces))
+
   pub core-alike : Alike L fewer r x (core L r p x) (core fewer r p x)
   unfolding core
   core-alike =
       by-tests-both x x (ringTests (p .points)) (laid L r p x (splitBadVertices L p)) (laid fewer r p x (splitBadVertices fewer p)) (Alike L fewer r x) tt
       (λ t. refused-alike L fewer r p x (firstOf (ringTests (p .points))) t)
       (λ w. subst (λ (s : Stack). Alike L fewer r x (laid L r p x (splitBadVertices L p)) (laid fewer r p x s)) (sym (same-split L k p h (few w)))
-      (answered-alike L fewer r p x (splitBadVertices L p) (piecesTo (L .share) (splitBadVertices L p .pieces) (usedIn x) (length (splitBadVertices L p .pieces)))))
+      (answered-alike L fewer r p x (asked-alike (few w)) (splitBadVertices L p) (piecesTo (L .share) (splitBadVertices L p .pieces) (usedIn x) (length (splitBadVertices L p .pieces)))))
 
 -- ---- the tests
 room-free : (L : Limits) (r : ℕ) (x : Lists) → HoldsReserve L r x → roomOut L r (length (x .nodes) - x .nodeCount) (length (x .cells) - x .cellCount) ≡ false
@@ -207,15 +220,16 @@ module _ (l : Lent) (o : OnPaper (callOf l)) where
       (subst (λ (b : List Cell). Differ (y .cells) (zeroed delivered n y) b (y .cellCount) (cellReserve practiceSet n) (cellReserve delivered n)) (sym (z .1))
       (zeros-differ (y .cells) (y .cellCount) (cellReserve practiceSet n) (cellReserve delivered n) (omega (arith, few)) (omega (arith, o .reserve .cells, passed-8 l e))))
 
-  -- the examination entry returned v and left the nodes m and the cells p; the practice entry w, k and q
-  pub both-entries : (v w : Values) (m k : List Float) (p q : List ℕ) → Examination.Promise delivered l v m p → Promise l w k q
-      → (w ≡ v) × (k ≡ m) × ((v .code ≡ 8 → ⊥) → q ≡ p)
+  -- the examination entry returned v and left the nodes m, the rim marks r and the cells p; the practice entry w, k, t and q
+  pub both-entries : (v w : Values) (m k : List Float) (r t p q : List ℕ) → Examination.Promise delivered l v m r p → Promise l w k t q
+      → (w ≡ v) × (k ≡ m) × (t ≡ r) × ((v .code ≡ 8 → ⊥) → q ≡ p)
       × (v .code ≡ 8 → (p ≡ overCells (l .cells) (zeroed delivered n y)) × (q ≡ overCells (l .cells) (zeroed practiceSet n y)))
-  both-entries v w m k p q g h =
+  both-entries v w m k r t p q g h =
       let a = as-examined l o in
       let e = ap (λ (v : Values). v .code) (g .leaves .values) in (
         h .leaves .values ∙ a .row ∙ sym (g .leaves .values),
         h .leaves .nodes ∙ ap (over (l .nodes)) (a .nodes) ∙ sym (g .leaves .nodes),
+        h .leaves .rims ∙ a .rims ∙ sym (g .leaves .rims),
         (λ z. h .leaves .cells ∙ ap (overCells (l .cells)) (a .cells (λ f. z (e ∙ f))) ∙ sym (g .leaves .cells)),
         (λ f. let z = a .cells-8 (sym e ∙ f) in (g .leaves .cells ∙ ap (overCells (l .cells)) (z .0), h .leaves .cells ∙ ap (overCells (l .cells)) (z .1))),
       )

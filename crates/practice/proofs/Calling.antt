@@ -73,11 +73,11 @@ module _ (l : Lent) where
   unfolding dividePractice
   away e = turned-away (listsOf c) practised divided (λ f. absurd (omega (arith, f, is-16 e))) ∙ ap (refused (listsOf c)) (is-16 e)
 
-  pub practice-refused : overPaper ≡ true → Promise l (refusedRow 16 (l .nodeCount) (l .cellCount)) (l .nodes) (l .cells)
+  pub practice-refused : overPaper ≡ true → Promise l (refusedRow 16 (l .nodeCount) (l .cellCount)) (l .nodes) (l .rims) (l .cells)
   practice-refused e =
       record {
-        leaves = subst (λ (a : Answer). Leaves a (refusedRow 16 (l .nodeCount) (l .cellCount)) (l .nodes) (l .nodes) (l .cells) (l .cells)) (sym (away e))
-            (refused-leaves (l .nodes) (l .nodeCount) (l .cells) (l .cellCount) 16);
+        leaves = subst (λ (a : Answer). Leaves a (refusedRow 16 (l .nodeCount) (l .cellCount)) (l .nodes) (l .nodes) (l .rims) (l .cells) (l .cells)) (sym (away e))
+            (refused-leaves (l .nodes) (l .nodeCount) (l .rims) (l .cells) (l .cellCount) 16);
         accepted = λ z. absurd (omega (arith, z));
       }
 
@@ -88,14 +88,14 @@ module _ (l : Lent) where
       (not-due (odd (l .ring) || odd (l .chain)) (countsOut (length (c .ring)) (length (c .chain))) (over24 (length (c .ring)) (length (c .chain))) later (of-points false e))
 
   -- the set by another name
-  pub practice-divided : overPaper ≡ false → (L : Limits) → L ≡ practiceSet → (v : Values) (m : List Float) (p : List ℕ) → Examination.Promise L l v m p → Promise l v m p
-  practice-divided e L d v m p h =
-      let g = subst (λ (L : Limits). Examination.Promise L l v m p) d h in
+  pub practice-divided : overPaper ≡ false → (L : Limits) → L ≡ practiceSet → (v : Values) (m : List Float) (t p : List ℕ) → Examination.Promise L l v m t p → Promise l v m t p
+  practice-divided e L d v m t p h =
+      let g = subst (λ (L : Limits). Examination.Promise L l v m t p) d h in
       record {
-        leaves = subst (λ (a : Answer). Leaves a v (l .nodes) m (l .cells) p) (sym (on e)) (g .leaves);
+        leaves = subst (λ (a : Answer). Leaves a v (l .nodes) m t (l .cells) p) (sym (on e)) (g .leaves);
         accepted = λ z. subst (Demand3 practiceSet (startOf c) (listsOf c)) (sym (on e)) (g .accepted z);
       }
 
--- ---- the node list that it leaves is that of a list of calls
-pub as-called : (s : Pool) (g : Given ℕ) (v : Values) (m : List Float) (p : List ℕ) → Promise (lend s g) v m p → _≡_ {A = Pool} (record { doubles = m; count = v .nodes }) (leaves s (answerOf s (practice g)))
-as-called s g v m p h = λ j. record { doubles = h .leaves .nodes j; count = h .leaves .values j .nodes }
+-- ---- the node list and the rim marks that it leaves are those of a list of calls
+pub as-called : (s : Pool) (g : Given ℕ) (v : Values) (m : List Float) (t p : List ℕ) → Promise (lend s g) v m t p → _≡_ {A = Pool} (record { doubles = m; count = v .nodes; rims = t }) (leaves s (answerOf s (practice g)))
+as-called s g v m t p h = λ j. record { doubles = h .leaves .nodes j; count = h .leaves .values j .nodes; rims = h .leaves .rims j }

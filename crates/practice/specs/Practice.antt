@@ -17,9 +17,9 @@ use Rattle.demand.specs.Demand.{stackOf, Demand3}
 use Rattle.demand.specs.Lent.{Lent, callOf, dividePractice}
 use Rattle.divider.specs.Promise.{Leaves}
 
--- the practice call over what the caller lent returned v and left the nodes m and the cells p; demand 3 of an accepted ring, with 12 cuts
-pub record Promise (l : Lent) (v : Values) (m : List Float) (p : List ℕ) : Type 0 where
-  pub leaves : Leaves (dividePractice l) v (l .nodes) m (l .cells) p
+-- the practice call over what the caller lent returned v and left the nodes m, the rim marks t and the cells p; demand 3 of an accepted ring, with 12 cuts
+pub record Promise (l : Lent) (v : Values) (m : List Float) (t : List ℕ) (p : List ℕ) : Type 0 where
+  pub leaves : Leaves (dividePractice l) v (l .nodes) m t (l .cells) p
   pub accepted : v .code ≡ 0 → Demand3 practiceSet (startOf (callOf l)) (listsOf (callOf l)) (dividePractice l)
 
 -- ---- the calls of which the card speaks
@@ -41,11 +41,12 @@ pub record OnPaper (c : Call) : Type 0 where
 abbrev pub zeroed : Limits → ℕ → Lists → List Cell
 zeroed L r x = put (x .cells) (x .cellCount) (replicate (cellReserve L r) noCell)
 
--- the answers a, with the set L, and b, with the set M, to a ring of r points over the lists x are alike: the whole row and the nodes are the same, and so are the cells,
--- except with 8: "With 8, the cell places left zero follow each entry's own reserve"
+-- the answers a, with the set L, and b, with the set M, to a ring of r points over the lists x are alike: the whole row, the nodes and the rim marks are the same, and so are
+-- the cells, except with 8: "With 8, the cell places left zero follow each entry's own reserve"
 pub record Alike (L M : Limits) (r : ℕ) (x : Lists) (a b : Answer) : Type 0 where
   pub row : b .row ≡ a .row
   pub nodes : b .nodes ≡ a .nodes
+  pub rims : b .rims ≡ a .rims
   pub cells : (a .row .code ≡ 8 → ⊥) → b .cells ≡ a .cells
   pub cells-8 : a .row .code ≡ 8 → (a .cells ≡ zeroed L r x) × (b .cells ≡ zeroed M r x)
 

@@ -33,11 +33,12 @@ pub fn divide_practice(
     size: u32,
     nodes: &mut [f64],
     node_count: usize,
+    rims: &mut [u8],
     cells: &mut [NodeNumber],
     cell_count: usize,
 ) -> Answer
-    ensures { λ a. ⌜ Promise (record { ring = now (ring .entry); chain = now (chain .entry); size = size; nodes = now (nodes .entry); nodeCount = «node_count»; cells = now (cells .entry); cellCount = «cell_count» })
-        (Answers.values a) (now (nodes .exit)) (now (cells .exit)) ⌝ }
+    ensures { λ a. ⌜ Promise (record { ring = now (ring .entry); chain = now (chain .entry); size = size; nodes = now (nodes .entry); nodeCount = «node_count»; rims = now (rims .entry); cells = now (cells .entry); cellCount = «cell_count» })
+        (Answers.values a) (now (nodes .exit)) (now (rims .exit)) (now (cells .exit)) ⌝ }
 {
     if over_paper(ring.len(), chain.len()) {
         return Answer::Refused {
@@ -53,6 +54,7 @@ pub fn divide_practice(
         size,
         nodes,
         node_count,
+        rims,
         cells,
         cell_count,
     )

@@ -1,5 +1,5 @@
--- A call that has the same ring, chain, size and nodes over another cell list, none of whose places is used: it answers the same row but for the count of cells, leaves
--- the same nodes, and has the same new cells (`moved`), which are in its numbers.
+-- A call that has the same ring, chain, size, nodes and rim marks over another cell list, none of whose places is used: it answers the same row but for the count of
+-- cells, leaves the same nodes and rim marks, and has the same new cells (`moved`), which are in its numbers.
 use Prim.Native.Nat.{ℕ, _+_, _≤_, _<_}
 use native.Mathlib.Nat.{add-zero, zero-add}
 use native.Mathlib.Omega.{arith}
@@ -34,7 +34,7 @@ put-none l i = sym ((λ j. append-nil (take i l) j ++ drop (add-zero i j) l) ∙
 module _ (L : Limits) (r : ℕ) (p : Part) (x : Lists) (xs : List Cell) where
   -- the lists with the other cells
   abbrev pub other : Lists
-  other = record { nodes = x .nodes; nodeCount = x .nodeCount; cells = xs; cellCount = 0 }
+  other = record { nodes = x .nodes; nodeCount = x .nodeCount; rims = x .rims; cells = xs; cellCount = 0 }
 
   abbrev reserve : ℕ
   reserve = cellReserve L r
@@ -48,6 +48,7 @@ module _ (L : Limits) (r : ℕ) (p : Part) (x : Lists) (xs : List Cell) where
     pub most : b .row .cells ≤ length new
     pub values : a .row ≡ withCells (b .row) (x .cellCount + b .row .cells)
     pub nodes : a .nodes ≡ b .nodes
+    pub rims : a .rims ≡ b .rims
     pub cells : put (x .cells) (x .cellCount) new ≡ a .cells
     pub theirs : b .cells ≡ put xs 0 new
 
@@ -62,6 +63,7 @@ module _ (L : Limits) (r : ℕ) (p : Part) (x : Lists) (xs : List Cell) where
         most = omega arith;
         values = ap (refusedRow n (x .nodeCount)) (sym (add-zero (x .cellCount)));
         nodes = refl;
+        rims = refl;
         cells = sym (put-none (x .cells) (x .cellCount));
         theirs = put-none xs 0;
       }
@@ -87,6 +89,7 @@ module _ (L : Limits) (r : ℕ) (p : Part) (x : Lists) (xs : List Cell) where
           most = omega (arith, zero-add (length cs));
           values = ap (λ (n : ℕ). dividedRow (length (p .points)) (markCount (p .edges)) (stack .cuts) (length (stack .pieces)) (stack .turned) (natAbs (polygonArea (p .points))) (length ns) (x .cellCount + n)) (sym (zero-add (length cs)));
           nodes = refl;
+          rims = refl;
           cells = refl;
           theirs = refl;
         }
@@ -99,6 +102,7 @@ module _ (L : Limits) (r : ℕ) (p : Part) (x : Lists) (xs : List Cell) where
           most = omega arith;
           values = ap (failedRow n i (length ns)) (sym (add-zero (x .cellCount)));
           nodes = refl;
+          rims = refl;
           cells = refl;
           theirs = refl;
         }

@@ -43,7 +43,7 @@ module _ (L : Limits) (few : L .cuts ≤ 32) (q : List ℕ) (long : length q ≡
     x = listsOf c
 
     abbrev y : Lists
-    y = listsIn (l .nodes) (l .nodeCount) q 0
+    y = listsIn (l .nodes) (l .nodeCount) (l .rims) q 0
 
     abbrev reserve : ℕ
     reserve = cellReserve L (length (c .ring))
@@ -61,7 +61,7 @@ module _ (L : Limits) (few : L .cuts ≤ 32) (q : List ℕ) (long : length q ≡
         (λ t e. absurd (not-8 (firstOf (testsBy (λ cs. cs) L l)) t (sym (refused-code y (firstOf (testsBy (λ cs. cs) L l))) ∙ e)))
         (λ h e. let p = passed L c (h .1) in (p .from, p .to))
 
-    module _ (v : Values) (m : List Float) (x′ : List ℕ) (left : Leaves (divideInto L l q 0) v (l .nodes) m q x′) where
+    module _ (v : Values) (m : List Float) (t x′ : List ℕ) (left : Leaves (divideInto L l q 0) v (l .nodes) m t q x′) where
       pub counts-in : v .code ≡ 8 → (3 ≤ length (l .ring) / 2) × (length (l .ring) / 2 ≤ 60)
       counts-in e = let h = counts (sym (ap (λ (v : Values). v .code) (left .values)) ∙ e) in (omega (arith, h .0, own), omega (arith, h .1, own))
 
@@ -88,14 +88,15 @@ module _ (L : Limits) (few : L .cuts ≤ 32) (q : List ℕ) (long : length q ≡
             (λ j. cellsIn (e j) (count-is j)) ∙ cells-read q (both .new)
 
         -- the set of limits, by another name
-        pub laid-numbers : (M : Limits) → L ≡ M → Numbers M l r m
+        pub laid-numbers : (M : Limits) → L ≡ M → Numbers M l r m t
         unfolding divideRecords
         laid-numbers M d =
-            subst (λ (M : Limits). Numbers M l r m) d
-            (subst (λ (r : Laid). Numbers L l r m) (sym laid)
+            subst (λ (M : Limits). Numbers M l r m t) d
+            (subst (λ (r : Laid). Numbers L l r m t) (sym laid)
             (record {
               values = ap (λ (v : Values). withCells v (l .cellCount + v .cells)) (left .values) ∙ sym (both .values);
               nodes = left .nodes ∙ ap (over (l .nodes)) (sym (both .nodes));
+              rims = left .rims ∙ sym (both .rims);
               cells = ap (put (l .cells) (l .cellCount)) new-read ∙ both .cells;
             }))
 

@@ -56,16 +56,17 @@ unfolding overCells
 cells-read q cs = sym (is-tab cs (cellIn (flatCells cs ++ drop (length cs * 4) q)) (length cs) noCell refl (λ i h. sym (cell-at cs (drop (length cs * 4) q) i h)))
 
 -- ---- the promise
-pub promised : (L : Limits) (l : LentRecords) (r : Laid) (us : List Cell) (zs : List Float) → Numbers L l r zs → (0 < r .count → r .at + r .count ≤ length (l .cells)) → us ≡ written (l .cells) (r .at) (r .numbers) (r .count)
-    → Promise L l (r .values) zs us
-promised L l r us zs n h e =
+pub promised : (L : Limits) (l : LentRecords) (r : Laid) (us : List Cell) (zs : List Float) (ts : List ℕ) → Numbers L l r zs ts → (0 < r .count → r .at + r .count ≤ length (l .cells)) → us ≡ written (l .cells) (r .at) (r .numbers) (r .count)
+    → Promise L l (r .values) zs ts us
+promised L l r us zs ts n h e =
     record {
       values = n .values;
       nodes = n .nodes;
+      rims = n .rims;
       cells = e ∙ written-is (l .cells) (r .at) (r .numbers) (r .count) h ∙ n .cells;
       accepted = λ z. demand3-records L l (sym (ap (λ (v : Values). v .code) (n .values)) ∙ z);
     }
 
--- the node list that it leaves is that of a list of calls
-pub as-called : (s : Pool) (g : Given Cell) (v : Values) (m : List Float) (p : List Cell) → Promise (g .limits) (lend s g) v m p → _≡_ {A = Pool} (record { doubles = m; count = v .nodes }) (leaves s (answerOf s (records g)))
-as-called s g v m p h = λ j. record { doubles = h .nodes j; count = h .values j .nodes }
+-- the node list and the rim marks that it leaves are those of a list of calls
+pub as-called : (s : Pool) (g : Given Cell) (v : Values) (m : List Float) (t : List ℕ) (p : List Cell) → Promise (g .limits) (lend s g) v m t p → _≡_ {A = Pool} (record { doubles = m; count = v .nodes; rims = t }) (leaves s (answerOf s (records g)))
+as-called s g v m t p h = λ j. record { doubles = h .nodes j; count = h .values j .nodes; rims = h .rims j }

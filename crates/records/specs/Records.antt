@@ -17,10 +17,11 @@ use Rattle.demand.specs.Demand.{Demand3}
 use Rattle.demand.specs.Lent.{cellIn, cellsIn, LentRecords, callOfRecords, divideRecords}
 use Rattle.records.specs.declared.Laid.{Laid}
 
--- the promise: a call with the set of limits L over what the caller lent returned v and left the nodes m and the cells p
-pub record Promise (L : Limits) (l : LentRecords) (v : Values) (m : List Float) (p : List Cell) : Type 0 where
+-- the promise: a call with the set of limits L over what the caller lent returned v and left the nodes m, the rim marks t and the cells p
+pub record Promise (L : Limits) (l : LentRecords) (v : Values) (m : List Float) (t : List ℕ) (p : List Cell) : Type 0 where
   pub values : v ≡ divideRecords L l .row
   pub nodes : m ≡ over (l .nodes) (divideRecords L l .nodes)
+  pub rims : t ≡ divideRecords L l .rims
   pub cells : p ≡ divideRecords L l .cells
   pub accepted : v .code ≡ 0 → Demand3 L (startOf (callOfRecords l)) (listsOf (callOfRecords l)) (divideRecords L l)
 
@@ -29,10 +30,11 @@ abbrev pub written : List Cell → ℕ → List ℕ → ℕ → List Cell
 written l i x zero = l
 written l i x (suc k) = set (written l i x k) (i + k) (cellIn x k)
 
--- the call came to r, its cells as numbers, and left the nodes m
-pub record Numbers (L : Limits) (l : LentRecords) (r : Laid) (m : List Float) : Type 0 where
+-- the call came to r, its cells as numbers, and left the nodes m and the rim marks t
+pub record Numbers (L : Limits) (l : LentRecords) (r : Laid) (m : List Float) (t : List ℕ) : Type 0 where
   pub values : r .values ≡ divideRecords L l .row
   pub nodes : m ≡ over (l .nodes) (divideRecords L l .nodes)
+  pub rims : t ≡ divideRecords L l .rims
   pub cells : put (l .cells) (r .at) (cellsIn (r .numbers) (r .count)) ≡ divideRecords L l .cells
 
 -- the row v of a call over numbers x that has no cells before its own, for a list in which they go to place i: those of the call, or, after an 8, its reserve

@@ -82,11 +82,12 @@ fn flat_divide(
     size: u32,
     nodes: &mut [f64],
     node_count: usize,
+    rims: &mut [u8],
     cell_places: usize,
     cell_count: usize,
 ) -> Laid
     ensures { λ r. ⌜ ((cells : List Cell) → length cells ≡ «cell_places»
-        → Numbers delivered (record { ring = now (ring .entry); chain = now (chain .entry); size = size; nodes = now (nodes .entry); nodeCount = «node_count»; cells = cells; cellCount = «cell_count» }) r (now (nodes .exit)))
+        → Numbers delivered (record { ring = now (ring .entry); chain = now (chain .entry); size = size; nodes = now (nodes .entry); nodeCount = «node_count»; rims = now (rims .entry); cells = cells; cellCount = «cell_count» }) r (now (nodes .exit)) (now (rims .exit)))
         × (r .count ≤ 124) × (0 < r .count → r .at + r .count ≤ «cell_places») ⌝ }
 {
     let limits = Limits::new();
@@ -103,6 +104,7 @@ fn flat_divide(
         size,
         nodes,
         node_count,
+        rims,
         &mut numbers,
         room,
     );
@@ -111,17 +113,18 @@ fn flat_divide(
 
 // The divider call over a list of cell records, for callers here and in other languages.
 #[no_mangle]
-pub extern "C" fn ring_divide_cells<'a, 'b, 'c, 'd>(
+pub extern "C" fn ring_divide_cells<'a, 'b, 'c, 'd, 'e>(
     ring: &'a [i32],
     chain: &'b [i32],
     size: u32,
     nodes: &'c mut [f64],
     node_count: usize,
-    cells: &'d mut [Cell],
+    rims: &'d mut [u8],
+    cells: &'e mut [Cell],
     cell_count: usize,
 ) -> Values
-    ensures { λ v. ⌜ Promise delivered (record { ring = now (ring .entry); chain = now (chain .entry); size = size; nodes = now (nodes .entry); nodeCount = «node_count»; cells = now (cells .entry); cellCount = «cell_count» })
-        v (now (nodes .exit)) (now (cells .exit)) ⌝ }
+    ensures { λ v. ⌜ Promise delivered (record { ring = now (ring .entry); chain = now (chain .entry); size = size; nodes = now (nodes .entry); nodeCount = «node_count»; rims = now (rims .entry); cells = now (cells .entry); cellCount = «cell_count» })
+        v (now (nodes .exit)) (now (rims .exit)) (now (cells .exit)) ⌝ }
 {
     let laid = flat_divide(
         ring,
@@ -129,6 +132,7 @@ pub extern "C" fn ring_divide_cells<'a, 'b, 'c, 'd>(
         size,
         nodes,
         node_count,
+        rims,
         cells.len(),
         cell_count,
     );

@@ -48,11 +48,21 @@ pub fn divided(
     size: u32,
     nodes: &mut [f64],
     used: usize,
+    rims: &mut [u8],
     cells: &mut [NodeNumber],
     cell_count: usize,
 ) -> Values {
     if e.kind == 8 {
-        return exports::ring_divide_practice(ring, chain, size, nodes, used, cells, cell_count);
+        return exports::ring_divide_practice(
+            ring,
+            chain,
+            size,
+            nodes,
+            used,
+            rims,
+            cells,
+            cell_count,
+        );
     }
     if e.kind == 7 {
         return exports::ring_divide_set(
@@ -66,11 +76,12 @@ pub fn divided(
             size,
             nodes,
             used,
+            rims,
             cells,
             cell_count,
         );
     }
-    exports::ring_divide(ring, chain, size, nodes, used, cells, cell_count)
+    exports::ring_divide(ring, chain, size, nodes, used, rims, cells, cell_count)
 }
 
 pub fn divided_marked(
@@ -83,6 +94,7 @@ pub fn divided_marked(
     size: u32,
     nodes: &mut [f64],
     used: usize,
+    rims: &mut [u8],
     cells: &mut [NodeNumber],
     cell_count: usize,
 ) -> Values {
@@ -101,6 +113,7 @@ pub fn divided_marked(
             size,
             nodes,
             used,
+            rims,
             cells,
             cell_count,
         );
@@ -114,6 +127,7 @@ pub fn divided_marked(
         size,
         nodes,
         used,
+        rims,
         cells,
         cell_count,
     )

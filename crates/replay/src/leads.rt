@@ -7,7 +7,7 @@ use crate::same;
 use nodes::NodeNumber;
 
 // What does not fit its list is left out, and shows as a difference.
-pub fn replay_marked(fd: i32, entry: Entry, nodes: &mut [f64], s: State) -> State {
+pub fn replay_marked(fd: i32, entry: Entry, nodes: &mut [f64], rims: &mut [u8], s: State) -> State {
     let size = words::word(fd);
     let cell_numbers = words::count_to(fd, 2048);
     let cell_count = words::word(fd) as usize;
@@ -26,7 +26,6 @@ pub fn replay_marked(fd: i32, entry: Entry, nodes: &mut [f64], s: State) -> Stat
     words::read_nodes(fd, &mut snaps, t);
     words::read_numbers(fd, &mut outline, o);
     words::read_words(fd, &mut loops, l);
-    let end = words::smaller(words::doubled(s.places), nodes.len());
     let mut cells = [65535u32; 2048];
     compared(
         fd,
@@ -37,7 +36,8 @@ pub fn replay_marked(fd: i32, entry: Entry, nodes: &mut [f64], s: State) -> Stat
         &outline[..o],
         &loops[..l],
         size,
-        &mut nodes[..end],
+        nodes,
+        rims,
         s,
         &mut cells[..cell_numbers],
         cell_count,
@@ -55,13 +55,16 @@ fn compared(
     loops: &[u32],
     size: u32,
     nodes: &mut [f64],
+    rims: &mut [u8],
     s: State,
     cells: &mut [NodeNumber],
     cell_count: usize,
 ) -> State {
     let used = s.used;
     let mut before = [0.0f64; 3072];
+    let mut marks = [0u8; 1536];
     words::copy(nodes, &mut before);
+    same::copy(rims, &mut marks);
     let v = called::divided_marked(
         entry,
         ring,
@@ -72,11 +75,10 @@ fn compared(
         size,
         nodes,
         used,
+        rims,
         cells,
         cell_count,
     );
-    let row = same::same_row(fd, v);
-    let listed = same::same_nodes(fd, nodes, &before, words::doubled(used));
-    let laid = same::same_cells(fd, cells);
-    s.ran(row & listed & laid, v.nodes as usize)
+    let same = same::same_left(fd, v, nodes, &before, used, cells, rims, &marks);
+    s.ran(same, v.nodes as usize)
 }

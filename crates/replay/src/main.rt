@@ -1,5 +1,6 @@
 // Replay: runs the fixed lists of data/, calls and blocks with what the original Rust answers, and compares every returned
-// value, every node bit, every cell place, every byte read and every byte written. docs/REPLAY.md has the form of the lists.
+// value, every node bit, every rim mark, every cell place, every byte read and every byte written. docs/REPLAY.md has the form
+// of the lists.
 
 mod called;
 mod leads;
@@ -10,10 +11,12 @@ use called::Entry;
 use nodes::NodeNumber;
 use words::Tally;
 
-// The list of the calls that follow: its places and how many are used; and the tally so far.
+// The lists of the calls that follow: the places for nodes, how many are used, and the places for rim marks; and the tally
+// so far.
 pub struct State {
     pub places: usize,
     pub used: usize,
+    pub rims: usize,
     pub tally: Tally,
 }
 
@@ -23,24 +26,29 @@ impl State {
         State {
             places: self.places,
             used: used,
+            rims: self.rims,
             tally: self.tally.ran(same),
         }
     }
 }
 
-fn replay_list(fd: i32, nodes: &mut [f64], s: State) -> State {
+fn replay_list(fd: i32, nodes: &mut [f64], marks: &mut [u8], s: State) -> State {
     let places = words::count(fd);
     let used = words::count(fd);
-    words::read_nodes(fd, nodes, words::doubled(words::smaller(used, places)));
+    let rims = words::count(fd);
+    let listed = words::smaller(used, places);
+    words::read_nodes(fd, nodes, words::doubled(listed));
+    words::read_packed(fd, marks, words::smaller(rims, listed));
     let tally = s.tally;
     State {
         places,
         used,
+        rims,
         tally,
     }
 }
 
-fn replay_call(fd: i32, entry: Entry, nodes: &mut [f64], s: State) -> State {
+fn replay_call(fd: i32, entry: Entry, nodes: &mut [f64], rims: &mut [u8], s: State) -> State {
     let size = words::word(fd);
     let cell_numbers = words::count(fd);
     let cell_count = words::word(fd) as usize;
@@ -51,7 +59,6 @@ fn replay_call(fd: i32, entry: Entry, nodes: &mut [f64], s: State) -> State {
     words::read_numbers(fd, &mut ring, r);
     words::read_numbers(fd, &mut chain, c);
     let used = s.used;
-    let end = words::doubled(s.places);
     if 256 < r {
         return s.ran(false, used);
     }
@@ -61,9 +68,6 @@ fn replay_call(fd: i32, entry: Entry, nodes: &mut [f64], s: State) -> State {
     if 2048 < cell_numbers {
         return s.ran(false, used);
     }
-    if nodes.len() < end {
-        return s.ran(false, used);
-    }
     let mut cells = [65535u32; 2048];
     compared(
         fd,
@@ -71,7 +75,8 @@ fn replay_call(fd: i32, entry: Entry, nodes: &mut [f64], s: State) -> State {
         &ring[..r],
         &chain[..c],
         size,
-        &mut nodes[..end],
+        nodes,
+        rims,
         s,
         &mut cells[..cell_numbers],
         cell_count,
@@ -86,18 +91,29 @@ fn compared(
     chain: &[i32],
     size: u32,
     nodes: &mut [f64],
+    rims: &mut [u8],
     s: State,
     cells: &mut [NodeNumber],
     cell_count: usize,
 ) -> State {
     let used = s.used;
     let mut before = [0.0f64; 3072];
+    let mut marks = [0u8; 1536];
     words::copy(nodes, &mut before);
-    let v = called::divided(entry, ring, chain, size, nodes, used, cells, cell_count);
-    let row = same::same_row(fd, v);
-    let listed = same::same_nodes(fd, nodes, &before, words::doubled(used));
-    let laid = same::same_cells(fd, cells);
-    s.ran(row & listed & laid, v.nodes as usize)
+    same::copy(rims, &mut marks);
+    let v = called::divided(
+        entry,
+        ring,
+        chain,
+        size,
+        nodes,
+        used,
+        rims,
+        cells,
+        cell_count,
+    );
+    let same = same::same_left(fd, v, nodes, &before, used, cells, rims, &marks);
+    s.ran(same, v.nodes as usize)
 }
 
 fn replay_block(fd: i32, s: State) -> State {
@@ -139,20 +155,29 @@ fn replay_pair(fd: i32, s: State) -> State {
     s.ran(pairs::same_pair(fd, code, &out), used)
 }
 
-// A call of some entry, by a chain or with given marks.
-fn replay_entry(fd: i32, entry: Entry, kind: u32, nodes: &mut [f64], s: State) -> State {
+// A call of some entry, by a chain or with given marks, over the places of its lists.
+fn replay_entry(
+    fd: i32,
+    entry: Entry,
+    kind: u32,
+    nodes: &mut [f64],
+    rims: &mut [u8],
+    s: State,
+) -> State {
+    let end = words::smaller(words::doubled(s.places), nodes.len());
+    let stop = words::smaller(s.rims, rims.len());
     if kind == 5 {
-        return leads::replay_marked(fd, entry, nodes, s);
+        return leads::replay_marked(fd, entry, &mut nodes[..end], &mut rims[..stop], s);
     }
-    replay_call(fd, entry, nodes, s)
+    replay_call(fd, entry, &mut nodes[..end], &mut rims[..stop], s)
 }
 
-fn step(fd: i32, kind: u32, nodes: &mut [f64], s: State) -> State {
+fn step(fd: i32, kind: u32, nodes: &mut [f64], rims: &mut [u8], s: State) -> State {
     if kind == 1 {
-        return replay_list(fd, nodes, s);
+        return replay_list(fd, nodes, rims, s);
     }
     if kind == 2 {
-        return replay_entry(fd, called::without_set(kind), kind, nodes, s);
+        return replay_entry(fd, called::without_set(kind), kind, nodes, rims, s);
     }
     if kind == 3 {
         return replay_block(fd, s);
@@ -161,25 +186,34 @@ fn step(fd: i32, kind: u32, nodes: &mut [f64], s: State) -> State {
         return replay_pair(fd, s);
     }
     if kind == 5 {
-        return replay_entry(fd, called::without_set(kind), kind, nodes, s);
+        return replay_entry(fd, called::without_set(kind), kind, nodes, rims, s);
     }
     if kind == 8 {
-        return replay_entry(fd, called::without_set(kind), words::word(fd), nodes, s);
+        return replay_entry(
+            fd,
+            called::without_set(kind),
+            words::word(fd),
+            nodes,
+            rims,
+            s,
+        );
     }
     if kind == 7 {
         let entry = called::read(fd);
-        return replay_entry(fd, entry, words::word(fd), nodes, s);
+        return replay_entry(fd, entry, words::word(fd), nodes, rims, s);
     }
     let used = s.used;
     s.ran(false, used)
 }
 
-// All records of a file, which has fewer than a million.
+// All records of a file, which has fewer than a million. A rim mark that no call has written yet is 9.
 fn replay(fd: i32) -> Tally {
     let mut nodes = [0.0f64; 3072];
+    let mut rims = [9u8; 1536];
     let mut s = State {
         places: 0,
         used: 0,
+        rims: 0,
         tally: Tally::NONE,
     };
     for _ in 0u32..1000000 {
@@ -187,7 +221,7 @@ fn replay(fd: i32) -> Tally {
         if kind == 0 {
             break;
         }
-        s = step(fd, kind, &mut nodes, s);
+        s = step(fd, kind, &mut nodes, &mut rims, s);
     }
     s.tally
 }
@@ -213,6 +247,11 @@ fn main() {
     let marked = file(b"marks.list");
     let sets = file(b"sets.list");
     let practised = file(b"practice.list");
+    let rimmed = file(b"rims.list");
     let divided = rings.plus(calls).plus(marked).plus(sets).plus(practised);
-    divided.plus(read).plus(written).print(b"total");
+    divided
+        .plus(rimmed)
+        .plus(read)
+        .plus(written)
+        .print(b"total");
 }

@@ -61,6 +61,57 @@ pub fn same_cells(fd: i32, cells: &[u32]) -> bool {
     same
 }
 
+// The rim marks before a call.
+pub fn copy(from: &[u8], to: &mut [u8]) {
+    for i in 0..from.len() {
+        words::put_byte(to, i, from[i]);
+    }
+}
+
+// Byte i of a list; 255, which is no mark, where it has none.
+pub fn byte_at(bytes: &[u8], i: usize) -> u8 {
+    if i < bytes.len() {
+        return bytes[i];
+    }
+    255
+}
+
+// Mark i after a call: the first n come from the file, all others are as they were.
+pub fn mark_after(want: &[u8], before: &[u8], i: usize, n: usize) -> u8 {
+    if i < n {
+        return byte_at(want, i);
+    }
+    byte_at(before, i)
+}
+
+pub fn same_rims(fd: i32, rims: &[u8], before: &[u8]) -> bool {
+    let n = words::count(fd);
+    let mut want = [0u8; 1536];
+    words::read_packed(fd, &mut want, n);
+    let mut same = true;
+    for i in 0..rims.len() {
+        same = same & (rims[i] == mark_after(&want, before, i, n));
+    }
+    same
+}
+
+// All that a call leaves: its row and every place of its lists, of which `before` and `marks` are what it found.
+pub fn same_left(
+    fd: i32,
+    v: Values,
+    nodes: &[f64],
+    before: &[f64],
+    used: usize,
+    cells: &[u32],
+    rims: &[u8],
+    marks: &[u8],
+) -> bool {
+    let row = same_row(fd, v);
+    let listed = same_nodes(fd, nodes, before, words::doubled(used));
+    let laid = same_cells(fd, cells);
+    row & listed & laid & same_rims(fd, rims, marks)
+}
+
 pub fn same_points(fd: i32, points: &[i32]) -> bool {
     let mut same = true;
     for i in 0..points.len() {

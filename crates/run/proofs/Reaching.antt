@@ -17,24 +17,24 @@ use Rattle.report.specs.Text.{put}
 use Rattle.job.specs.declared.State.{State}
 use Rattle.job.specs.declared.Stepped.{Stepped}
 use Rattle.job.specs.Step.{Step, stepOf, Steps, CanStep}
-use Rattle.job.specs.Run.{Bytes, start, noPoints, noNodes, onward, ran, blockAt, readTo, printed}
+use Rattle.job.specs.Run.{Bytes, start, noPoints, noNodes, noRims, onward, ran, blockAt, readTo, printed}
 use Rattle.job.proofs.Runs.{Went, Held, outcome, number-below, not-both, goes, ran-held, read-more, read-added, joined-bytes}
 use Rattle.job.proofs.Printed.{one-more, prints, counted, in-time}
 use Rattle.run.specs.Reached.{Reached, Owed, Finished, Listed}
 
 -- before the first block
-begun : Reached start noPoints noNodes 0
+begun : Reached start noPoints noNodes noRims 0
 unfolding ran readTo
-begun = record { input = []; blocks = 0; state = refl; points = refl; nodes = refl; text = refl; bytes = λ i. omega arith; whole = λ e. refl; bound = omega arith }
+begun = record { input = []; blocks = 0; state = refl; points = refl; nodes = refl; rims = refl; text = refl; bytes = λ i. omega arith; whole = λ e. refl; bound = omega arith }
 
 zero-bits : ofBits binary64 0 ≡ naught
 unfolding ofBits
 zero-bits = refl
 
-pub begun-so : (s : State) → s ≡ start → Reached s noPoints (replicate 3072 (ofBits binary64 0)) 0
-begun-so s e = subst (λ (x : Float). Reached s noPoints (replicate 3072 x) 0) (sym zero-bits) (subst (λ (q : State). Reached q noPoints noNodes 0) (sym e) begun)
+pub begun-so : (s : State) → s ≡ start → Reached s noPoints (replicate 3072 (ofBits binary64 0)) noRims 0
+begun-so s e = subst (λ (x : Float). Reached s noPoints (replicate 3072 x) noRims 0) (sym zero-bits) (subst (λ (q : State). Reached q noPoints noNodes noRims 0) (sym e) begun)
 
-module _ (s : State) (ps : List ℤ) (l : List Float) (sent : ℕ) (r : Reached s ps l sent) where
+module _ (s : State) (ps : List ℤ) (l : List Float) (rs : List ℕ) (sent : ℕ) (r : Reached s ps l rs sent) where
   -- a step can be made
   pub can-step : (t : List ℕ) → length t ≡ mostText → CanStep s ps t
   can-step t e =
@@ -59,22 +59,22 @@ module _ (s : State) (ps : List ℤ) (l : List Float) (sent : ℕ) (r : Reached 
         go (no h) = not-both (s .ended) (ap (λ (z : State). z .ended) (r .state) ∙ in-time (r .input) (r .bytes) (r .blocks) (omega arith)) e
 
     -- the number of the next block falls short of 65,537 by ever less, until the run has ended
-    pub falls : (b : List ℕ) → Bytes b → (x : State) → x ≡ stepOf s ps l b .state → cond (x .ended) 0 (65537 - x .block) < cond (s .ended) 0 (65537 - s .block)
-    falls b f x q = rw e (by (outcome s ps l b))
+    pub falls : (b : List ℕ) → Bytes b → (x : State) → x ≡ stepOf s ps l rs b .state → cond (x .ended) 0 (65537 - x .block) < cond (s .ended) 0 (65537 - s .block)
+    falls b f x q = rw e (by (outcome s ps l rs b))
       where
         now : s .block ≡ r .blocks
         now = ap (λ (z : State). z .block) (r .state) ∙ counted (r .input) (r .blocks) (ap (λ (z : State). z .ended) (sym (r .state)) ∙ e)
 
-        by : (stepOf s ps l b .state .ended ≡ true) ⊎ Went s b (stepOf s ps l b) → cond (x .ended) 0 (65537 - x .block) < 65537 - s .block
+        by : (stepOf s ps l rs b .state .ended ≡ true) ⊎ Went s b (stepOf s ps l rs b) → cond (x .ended) 0 (65537 - x .block) < 65537 - s .block
         by (inl z) = rw (ap (λ (y : State). y .ended) q ∙ z) (omega (arith, now, few-blocks))
-        by (inr w) = rw (ap (λ (y : State). y .ended) q ∙ w .going) (omega (arith, ap (λ (y : State). y .block) q, w .next, number-below s ps l b f w))
+        by (inr w) = rw (ap (λ (y : State). y .ended) q ∙ w .going) (omega (arith, ap (λ (y : State). y .block) q, w .next, number-below s ps l rs b f w))
 
     module _ (b : List ℕ) (f : Bytes b) (h : length b ≤ 512) where
       -- the run over the longer input
       longer : readTo (r .input ++ b) (r .blocks) ≡ readTo (r .input) (r .blocks)
       longer = read-more (r .input) b (r .blocks) (omega (arith, r .whole e))
 
-      after : ran (readTo (r .input ++ b) (suc (r .blocks))) ≡ record { state = stepOf s ps l b .state; points = stepOf s ps l b .points; nodes = stepOf s ps l b .nodes; text = ran (readTo (r .input) (r .blocks)) .text ++ stepOf s ps l b .text }
+      after : ran (readTo (r .input ++ b) (suc (r .blocks))) ≡ record { state = stepOf s ps l rs b .state; points = stepOf s ps l rs b .points; nodes = stepOf s ps l rs b .nodes; rims = stepOf s ps l rs b .rims; text = ran (readTo (r .input) (r .blocks)) .text ++ stepOf s ps l rs b .text }
       after =
           one-more (r .input ++ b) (r .blocks)
           ∙ (λ i. onward (ran (longer i)) (read-added (r .input) b (r .blocks) (r .whole e) h i))
@@ -82,17 +82,18 @@ module _ (s : State) (ps : List ℤ) (l : List Float) (sent : ℕ) (r : Reached 
           ∙ (let a = sym (r .state) in
           let q = sym (r .points) in
           let d = sym (r .nodes) in
-          λ i. record { state = stepOf (a i) (q i) (d i) b .state; points = stepOf (a i) (q i) (d i) b .points; nodes = stepOf (a i) (q i) (d i) b .nodes; text = ran (readTo (r .input) (r .blocks)) .text ++ stepOf (a i) (q i) (d i) b .text })
+          let w = sym (r .rims) in
+          λ i. record { state = stepOf (a i) (q i) (d i) (w i) b .state; points = stepOf (a i) (q i) (d i) (w i) b .points; nodes = stepOf (a i) (q i) (d i) (w i) b .nodes; rims = stepOf (a i) (q i) (d i) (w i) b .rims; text = ran (readTo (r .input) (r .blocks)) .text ++ stepOf (a i) (q i) (d i) (w i) b .text })
 
-      module _ (x : Stepped) (qs : List ℤ) (m : List Float) (t u : List ℕ) (p : Steps (stepOf s ps l b) x qs m t u) where
+      module _ (x : Stepped) (qs : List ℤ) (m : List Float) (w : List ℕ) (t u : List ℕ) (p : Steps (stepOf s ps l rs b) x qs m w t u) where
         still-whole : x .state .ended ≡ false → length (r .input ++ b) ≡ 512 * suc (r .blocks)
-        still-whole g = by (outcome s ps l b)
+        still-whole g = by (outcome s ps l rs b)
           where
-            by : (stepOf s ps l b .state .ended ≡ true) ⊎ Went s b (stepOf s ps l b) → length (r .input ++ b) ≡ 512 * suc (r .blocks)
+            by : (stepOf s ps l rs b .state .ended ≡ true) ⊎ Went s b (stepOf s ps l rs b) → length (r .input ++ b) ≡ 512 * suc (r .blocks)
             by (inl z) = not-both (x .state .ended) (ap (λ (q : State). q .ended) (p .state) ∙ z) g
             by (inr w) = simp length-append (omega (arith, w .whole, r .whole e))
 
-        pub turned : Reached (x .state) qs m (sent + x .count)
+        pub turned : Reached (x .state) qs m w (sent + x .count)
         turned =
             record {
               input = r .input ++ b;
@@ -100,8 +101,9 @@ module _ (s : State) (ps : List ℤ) (l : List Float) (sent : ℕ) (r : Reached 
               state = p .state ∙ ap (λ (q : Step). q .state) (sym after);
               points = p .points ∙ ap (λ (q : Step). q .points) (sym after);
               nodes = p .nodes ∙ ap (λ (q : Step). q .nodes) (sym after);
+              rims = p .rims ∙ ap (λ (q : Step). q .rims) (sym after);
               text =
-                  let n = length-append (ran (readTo (r .input) (r .blocks)) .text) (stepOf s ps l b .text) in
+                  let n = length-append (ran (readTo (r .input) (r .blocks)) .text) (stepOf s ps l rs b .text) in
                   omega (arith, r .text, p .text .bytes, ap (λ (q : Step). length (q .text)) after);
               bytes = joined-bytes (r .input) (r .bytes) b f;
               whole = still-whole;
@@ -112,14 +114,15 @@ module _ (s : State) (ps : List ℤ) (l : List Float) (sent : ℕ) (r : Reached 
         pub owes : Owed sent (take (x .count) u)
         unfolding put
         owes =
-            let k : length (stepOf s ps l b .text) ≡ x .count = sym (p .text .bytes) in
+            let k : length (stepOf s ps l rs b .text) ≡ x .count = sym (p .text .bytes) in
             record {
               state = s;
               points = ps;
               nodes = l;
+              rims = rs;
               block = b;
               reached = r;
               going = e;
-              text = ap (take (x .count)) (p .text .list) ∙ take-at (stepOf s ps l b .text) _ (x .count) k;
+              text = ap (take (x .count)) (p .text .list) ∙ take-at (stepOf s ps l rs b .text) _ (x .count) k;
               short = omega (arith, p .text .room, length-take (x .count) u);
             }

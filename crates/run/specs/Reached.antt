@@ -12,13 +12,14 @@ use Rattle.job.specs.declared.State.{State}
 use Rattle.job.specs.Step.{stepOf}
 use Rattle.job.specs.Run.{Bytes, ran, readTo, printed}
 
--- the state, the ring that waits, the nodes and the count of bytes written were reached by the first blocks of an input
-pub record Reached (s : State) (ps : List ℤ) (l : List Float) (sent : ℕ) : Type 0 where
+-- the state, the ring that waits, the nodes, their rim marks and the count of bytes written were reached by the first blocks of an input
+pub record Reached (s : State) (ps : List ℤ) (l : List Float) (rs : List ℕ) (sent : ℕ) : Type 0 where
   pub input : List ℕ
   pub blocks : ℕ
   pub state : s ≡ ran (readTo input blocks) .state
   pub points : ps ≡ ran (readTo input blocks) .points
   pub nodes : l ≡ ran (readTo input blocks) .nodes
+  pub rims : rs ≡ ran (readTo input blocks) .rims
   pub text : sent ≡ length (ran (readTo input blocks) .text)
   -- these are bytes; and while the run goes on, all of the blocks were whole
   pub bytes : Bytes input
@@ -31,10 +32,11 @@ pub record Owed (sent : ℕ) (t : List ℕ) : Type 0 where
   pub state : State
   pub points : List ℤ
   pub nodes : List Float
+  pub rims : List ℕ
   pub block : List ℕ
-  pub reached : Reached state points nodes sent
+  pub reached : Reached state points nodes rims sent
   pub going : state .ended ≡ false
-  pub text : t ≡ stepOf state points nodes block .text
+  pub text : t ≡ stepOf state points nodes rims block .text
   pub short : length t ≤ mostText
 
 -- the run of an input has ended, and all that is printed of it was written

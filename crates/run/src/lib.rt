@@ -2,7 +2,7 @@
 // above job, and below the programs.
 //
 // What an operating system call read or wrote has no contract. All else has: the loop's invariant is that the state, the node
-// list and the count of bytes written were reached by the bytes read so far, and a run that ends has written `printed` of
+// list with its rim marks and the count of bytes written were reached by the bytes read so far, and a run that ends has written `printed` of
 // them. Left to the code's few lines is that the bytes stepped over are those that `libc::read` gave, and that `send` hands
 // the text to `io::write_all` once.
 
@@ -94,13 +94,21 @@ pub fn run(input: i32, output: i32) -> Sent
 {
     let mut ring = [0i32; 120];
     let mut nodes = [0.0f64; 3072];
+    let mut rims = [0u8; 1536];
     let mut bytes = [0u8; 512];
     let mut text = [0u8; MOST_TEXT];
     let mut s = State::new();
     let mut sent: u64 = 0;
     while goes_on(s) {
         let got = read_block(input, &mut bytes);
-        let stepped = job::step(s, &bytes[..got], &mut ring, &mut nodes, &mut text);
+        let stepped = job::step(
+            s,
+            &bytes[..got],
+            &mut ring,
+            &mut nodes,
+            &mut rims,
+            &mut text,
+        );
         let n = stepped.count;
         let out = send(output, &text[..n], sent);
         if out.failed {

@@ -33,12 +33,20 @@ fn print_sheet(nodes: &[f64], used: usize) -> bool
 fn list_job() -> bool {
     let mut ring = [0i32; 120];
     let mut nodes = [0.0f64; 3072];
+    let mut rims = [0u8; 1536];
     let mut bytes = [0u8; 512];
     let mut text = [0u8; MOST_TEXT];
     let mut s = State::new();
     while run::goes_on(s) {
         let got = run::read_block(STDIN_FILENO, &mut bytes);
-        let stepped = job::step(s, &bytes[..got], &mut ring, &mut nodes, &mut text);
+        let stepped = job::step(
+            s,
+            &bytes[..got],
+            &mut ring,
+            &mut nodes,
+            &mut rims,
+            &mut text,
+        );
         s = stepped.state;
     }
     let used = s.used;

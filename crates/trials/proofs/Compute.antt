@@ -20,6 +20,8 @@ use Rattle.split.specs.Split as Split
 use Rattle.nodes.specs.Nodes as Nodes
 use Rattle.cells.specs.Cells as Cells
 use Rattle.cells.specs.Pieces as Pieces
+use Rattle.cells.specs.Asks as Asks
+use Rattle.cells.specs.Rims as Rims
 use Rattle.sets.specs.Sets as Sets
 use Rattle.demand.specs.Call as Call
 use Rattle.demand.specs.Divide as Divide
@@ -76,11 +78,11 @@ unfolding Cut.oriented Cut.makeSubPolygon Cut.turnedArea Cut.firstPart Cut.secon
 in-split = tt
 
 unfoldable pub in-cells : Unit {0}
-unfolding Nodes.rounded Nodes.key Nodes.hasKey Nodes.number Nodes.addNode Nodes.addNodes Cells.middle Cells.tooFar Cells.edgeMiddle Cells.total Cells.mean Cells.turnsLeft Cells.quadPositive Cells.allDistinct Cells.holds Cells.cellsTo Cells.attempt Cells.subdivide Pieces.onward Pieces.piecesTo
+unfolding Nodes.rounded Nodes.key Nodes.hasKey Nodes.number Nodes.addNode Nodes.addNodes Cells.middle Cells.tooFar Cells.edgeMiddle Cells.total Cells.mean Cells.turnsLeft Cells.quadPositive Cells.allDistinct Cells.holds Cells.cellsTo Cells.attempt Cells.subdivide Pieces.onward Pieces.piecesTo Asks.allMarked Asks.asksFor Asks.attemptAsks Asks.subdivideAsks Asks.onwardAsks Asks.asksTo Rims.onRimAt Rims.rimAt Rims.rimsBy
 in-cells = tt
 
 unfoldable pub in-divider : Unit {0}
-unfolding Sets.between Sets.cosinesOut Sets.limitsOut Call.countsOut Call.outside Call.anyOutside Call.unitsOut Call.held Call.usable Call.listsOver Call.roomOut Divide.refused Divide.answered Divide.core Divide.divide
+unfolding Sets.between Sets.cosinesOut Sets.limitsOut Call.countsOut Call.outside Call.anyOutside Call.unitsOut Call.held Call.usable Call.rimsOut Call.listsOver Call.roomOut Divide.refused Divide.answered Divide.core Divide.divide
 in-divider = tt
 
 -- the program: blocks, the call over lent lists, the printed lines, and the run

@@ -19,7 +19,7 @@ use Rattle.demand.specs.Divide.{Answer, refused, startOf, divide}
 use Rattle.report.specs.Text.{bytes}
 use Rattle.job.specs.Run.{printed}
 use Rattle.trials.proofs.Compute.{computing}
-use Rattle.trials.specs.Trials.{values, bits, newCells, Row, answers, gives, node, refuses, enters, corner, root, leaves, prints, Holds}
+use Rattle.trials.specs.Trials.{values, bits, newCells, Row, answers, gives, node, refuses, enters, corner, root, leaves, rims, prints, Holds}
 use Rattle.demand.proofs.Course.{refused-as, divide-course}
 
 -- ---- tests of lists and cells
@@ -80,8 +80,8 @@ unfoldable pub told : Call → Answer → List ℕ → List ℕ → List Cell �
 told c a vs bs ks = sameList eqb (values a) vs && (sameList eqb (bits (take (a .row .nodes) (a .nodes))) bs && sameList sameCell (newCells c a) ks)
 
 -- and of lists as they are left, every place
-unfoldable pub leftAs : Answer → List ℕ → List ℕ → List Cell → Bool
-leftAs a vs bs ks = sameList eqb (values a) vs && (sameList eqb (bits (a .nodes)) bs && sameList sameCell (a .cells) ks)
+unfoldable pub leftAs : Answer → List ℕ → List ℕ → List ℕ → List Cell → Bool
+leftAs a vs bs ts ks = sameList eqb (values a) vs && (sameList eqb (bits (a .nodes)) bs && (sameList eqb (a .rims) ts && sameList sameCell (a .cells) ks))
 
 unfoldable pub test : Row → Bool
 test (answers c vs) = sameList eqb (values (divide delivered c)) vs
@@ -91,7 +91,8 @@ test (refuses c n) = eqb (divide delivered c .row .code) n && turnsAway n
 test (enters c) = eqb (entry delivered c) 0
 test (corner u v b) = sameBool (bad delivered (measure u v)) b
 test (root x y) = eqb (rootBits x) y
-test (leaves c vs bs ks) = leftAs (divide delivered c) vs bs ks
+test (leaves c vs bs ts ks) = leftAs (divide delivered c) vs bs ts ks
+test (rims c ts) = sameList eqb (divide delivered c .rims) ts
 test (prints b t) = sameList eqb (printed b) (bytes t)
 
 right : (r : Row) → T (test r) → Holds r
@@ -110,12 +111,16 @@ right (refuses c n) t =
 right (enters c) t = eqb→eq (entry delivered c) 0 t
 right (corner u v b) t = bool-same (bad delivered (measure u v)) b t
 right (root x y) t = eqb→eq (rootBits x) y t
-right (leaves c vs bs ks) t =
+right (leaves c vs bs ts ks) t =
     let a = divide delivered c in
     let u = sameList eqb (values a) vs in
     let v = sameList eqb (bits (a .nodes)) bs in
+    let m = sameList eqb (a .rims) ts in
     let w = sameList sameCell (a .cells) ks in
-    (numbers-same (values a) vs (and-l u (v && w) t), numbers-same (bits (a .nodes)) bs (and-l v w (and-r u (v && w) t)), cells-same (a .cells) ks (and-r v w (and-r u (v && w) t)))
+    let q = and-r u (v && (m && w)) t in
+    let z = and-r v (m && w) q in
+    (numbers-same (values a) vs (and-l u (v && (m && w)) t), numbers-same (bits (a .nodes)) bs (and-l v (m && w) q), numbers-same (a .rims) ts (and-l m w z), cells-same (a .cells) ks (and-r m w z))
+right (rims c ts) t = numbers-same (divide delivered c .rims) ts t
 right (prints b t) h = numbers-same (printed b) (bytes t) h
 
 unfoldable pub tests : List Row → Bool

@@ -31,7 +31,7 @@ whole x y = units (x *ℤ pos 8192) (y *ℤ pos 8192)
 
 -- a ring and a chain over the program's lists, none of them used, sheet size 1
 abbrev pub sized : ℕ → List GridPoint → List GridPoint → Call
-sized size r c = record { ring = r; chain = c; size = size; nodes = replicate 1536 noNode; nodeCount = 0; cells = replicate 124 noCell; cellCount = 0 }
+sized size r c = record { ring = r; chain = c; size = size; nodes = replicate 1536 noNode; nodeCount = 0; rims = replicate 1536 0; cells = replicate 124 noCell; cellCount = 0 }
 
 abbrev pub fresh : List GridPoint → List GridPoint → Call
 fresh r c = sized 1 r c
@@ -67,8 +67,10 @@ pub data Row : Type 0 where
   corner : GridPoint → GridPoint → Bool → Row
   -- the root of a double, both by their bits
   root : ℕ → ℕ → Row
-  -- the values, the bits of every place of the node list, and every place of the cell list
-  leaves : Call → List ℕ → List ℕ → List Cell → Row
+  -- the values, the bits of every place of the node list, every rim mark, and every place of the cell list
+  leaves : Call → List ℕ → List ℕ → List ℕ → List Cell → Row
+  -- every rim mark
+  rims : Call → List ℕ → Row
   -- the bytes that the program reads, and the text that it prints
   prints : List ℕ → String → Row
 
@@ -81,7 +83,8 @@ Holds (refuses c n) = divide delivered c ≡ refused (listsOf c) n
 Holds (enters c) = entry delivered c ≡ 0
 Holds (corner u v b) = bad delivered (measure u v) ≡ b
 Holds (root x y) = rootBits x ≡ y
-Holds (leaves c vs bs ks) = (values (divide delivered c) ≡ vs) × (bits (divide delivered c .nodes) ≡ bs) × (divide delivered c .cells ≡ ks)
+Holds (leaves c vs bs ts ks) = (values (divide delivered c) ≡ vs) × (bits (divide delivered c .nodes) ≡ bs) × (divide delivered c .rims ≡ ts) × (divide delivered c .cells ≡ ks)
+Holds (rims c ts) = divide delivered c .rims ≡ ts
 Holds (prints b t) = printed b ≡ bytes t
 
 -- ---- the table
@@ -161,7 +164,7 @@ abbrev listed : ℕ → ℕ → Point
 listed x y = record { x = ofBits binary64 x; y = ofBits binary64 y }
 
 -- a triangle on a list of 14 places: two of its three used nodes have the key of a corner, and the first of them gives the corner its number and its bits.
--- One of five cell places is used; what stands beyond the new nodes and cells stays
+-- The rim mark of that node is set and the other's is not. One of five cell places is used; what stands beyond the new nodes, marks and cells stays
 unfoldable pub twoOfOneKey : Call
 twoOfOneKey =
     record {
@@ -170,6 +173,7 @@ twoOfOneKey =
       size = 1;
       nodes = listed 0x3ff0_0000_0044_b830 0 ∷ listed 0x3ff0_0000_0000_0000 0 ∷ listed 0x4014_0000_0000_0000 0x4014_0000_0000_0000 ∷ replicate 11 (listed 0x401c_0000_0000_0000 0x4020_0000_0000_0000);
       nodeCount = 3;
+      rims = 0 ∷ 0 ∷ 1 ∷ replicate 11 7;
       cells = cell 9 9 9 9 ∷ replicate 4 (cell 5 6 7 8);
       cellCount = 1;
     }
@@ -183,6 +187,7 @@ thinInUse =
       size = 1;
       nodes = listed 0x4014_0000_0000_0000 0x4014_0000_0000_0000 ∷ replicate 16 (listed 0x401c_0000_0000_0000 0x4020_0000_0000_0000);
       nodeCount = 1;
+      rims = 0 ∷ replicate 16 7;
       cells = cell 9 9 9 9 ∷ replicate 8 (cell 5 6 7 8);
       cellCount = 1;
     }
@@ -196,6 +201,7 @@ middleListed =
       size = 1;
       nodes = listed 0 0x4023_0000_0008_9706 ∷ replicate 15 (listed 0 0);
       nodeCount = 1;
+      rims = 0 ∷ replicate 15 7;
       cells = replicate 6 noCell;
       cellCount = 0;
     }
@@ -204,11 +210,37 @@ abbrev pub inUse : List Row
 inUse =
     leaves twoOfOneKey (0 ∷ 3 ∷ 0 ∷ 0 ∷ 1 ∷ 0 ∷ 8192 * 8192 ∷ 0 ∷ 9 ∷ 4 ∷ [])
     (0x3ff0_0000_0044_b830 ∷ 0 ∷ 0x3ff0_0000_0000_0000 ∷ 0 ∷ 0x4014_0000_0000_0000 ∷ 0x4014_0000_0000_0000 ∷ 0 ∷ 0 ∷ 0 ∷ 0x3ff0_0000_0000_0000 ∷ 0x3fe0_0000_0044_b830 ∷ 0 ∷ 0x3fe0_0000_0044_b830 ∷ 0x3fe0_0000_0000_0000 ∷ 0 ∷ 0x3fe0_0000_0000_0000 ∷ 0x3fd5_5555_55b0_f595 ∷ 0x3fd5_5555_5555_5555 ∷ 0x401c_0000_0000_0000 ∷ 0x4020_0000_0000_0000 ∷ 0x401c_0000_0000_0000 ∷ 0x4020_0000_0000_0000 ∷ 0x401c_0000_0000_0000 ∷ 0x4020_0000_0000_0000 ∷ 0x401c_0000_0000_0000 ∷ 0x4020_0000_0000_0000 ∷ 0x401c_0000_0000_0000 ∷ 0x4020_0000_0000_0000 ∷ [])
+    (1 ∷ 0 ∷ 1 ∷ 1 ∷ 1 ∷ 1 ∷ 1 ∷ 1 ∷ 0 ∷ replicate 5 7)
     (cell 9 9 9 9 ∷ cell 8 5 0 6 ∷ cell 8 6 4 7 ∷ cell 8 7 3 5 ∷ cell 5 6 7 8 ∷ []) ∷
     leaves thinInUse (8 ∷ 4 ∷ 0 ∷ 0 ∷ 0 ∷ 0 ∷ 0 ∷ 0 ∷ 10 ∷ 1 ∷ [])
     (0x4014_0000_0000_0000 ∷ 0x4014_0000_0000_0000 ∷ 0xc024_0000_0000_0000 ∷ 0 ∷ 0 ∷ 0x4058_c000_0000_0000 ∷ 0x4024_0000_0000_0000 ∷ 0 ∷ 0 ∷ 0x4059_0000_0000_0000 ∷ 0xc014_0000_0000_0000 ∷ 0x4048_c000_0000_0000 ∷ 0x4014_0000_0000_0000 ∷ 0x4048_c000_0000_0000 ∷ 0x4014_0000_0000_0000 ∷ 0x4049_0000_0000_0000 ∷ 0xc014_0000_0000_0000 ∷ 0x4049_0000_0000_0000 ∷ 0 ∷ 0x4048_e000_0000_0000 ∷ 0x401c_0000_0000_0000 ∷ 0x4020_0000_0000_0000 ∷ 0x401c_0000_0000_0000 ∷ 0x4020_0000_0000_0000 ∷ 0x401c_0000_0000_0000 ∷ 0x4020_0000_0000_0000 ∷ 0x401c_0000_0000_0000 ∷ 0x4020_0000_0000_0000 ∷ 0x401c_0000_0000_0000 ∷ 0x4020_0000_0000_0000 ∷ 0x401c_0000_0000_0000 ∷ 0x4020_0000_0000_0000 ∷ 0x401c_0000_0000_0000 ∷ 0x4020_0000_0000_0000 ∷ [])
+    (0 ∷ 1 ∷ 1 ∷ 1 ∷ 1 ∷ 1 ∷ 1 ∷ 1 ∷ 1 ∷ 0 ∷ replicate 7 7)
     (cell 9 9 9 9 ∷ replicate 6 noCell ++ replicate 2 (cell 5 6 7 8)) ∷
     gives middleListed (0 ∷ 4 ∷ 0 ∷ 1 ∷ 2 ∷ 0 ∷ 20 * 8192 * 8192 ∷ 0 ∷ 11 ∷ 6 ∷ [])
     (0 ∷ 0x4023_0000_0008_9706 ∷ 0 ∷ 0x4024_0000_0000_0000 ∷ 0xc024_0000_0000_0000 ∷ 0 ∷ 0 ∷ 0x4022_0000_0000_0000 ∷ 0xc014_0000_0000_0000 ∷ 0x4014_0000_0000_0000 ∷ 0xc014_0000_0000_0000 ∷ 0x4012_0000_0000_0000 ∷ 0xc00a_aaaa_aaaa_aaab ∷ 0x4019_5555_5555_5555 ∷ 0x4024_0000_0000_0000 ∷ 0 ∷ 0x4014_0000_0000_0000 ∷ 0x4012_0000_0000_0000 ∷ 0x4014_0000_0000_0000 ∷ 0x4014_0000_0000_0000 ∷ 0x400a_aaaa_aaaa_aaab ∷ 0x4019_5555_5555_5555 ∷ [])
     (cell 6 4 2 5 ∷ cell 6 5 3 0 ∷ cell 6 0 1 4 ∷ cell 10 8 7 9 ∷ cell 10 9 1 0 ∷ cell 10 0 3 8 ∷ []) ∷
+    []
+
+-- ---- 02, Card 12: the rim marks, which were 7 in every place that was not used
+abbrev pub marking : List GridPoint → List GridPoint → List ℕ → ℕ → Call
+marking r c ts u = record { ring = r; chain = c; size = 1; nodes = replicate 16 noNode; nodeCount = u; rims = ts; cells = replicate 8 noCell; cellCount = 0 }
+
+-- a piece that is done again: 3 is the snap point of the abandoned attempt, and 7 the straight middle of the same edge
+unfoldable pub again : Call
+again =
+    marking (whole (pos 8) (pos 3) ∷ whole (pos 7) (pos 3) ∷ whole (pos 3) (pos 8) ∷ whole (pos 2) (pos 1) ∷ [])
+    (whole (pos 2) (pos 1) ∷ whole (pos 4) (pos 2) ∷ whole (pos 8) (pos 3) ∷ []) (replicate 16 7) 0
+
+abbrev pub rimmed : List Row
+rimmed =
+    -- the dart, one cut: 5 is the middle of the cut, 6 and 10 are the centres
+    rims (marking (dart .ring) [] (replicate 16 7) 0) (1 ∷ 1 ∷ 1 ∷ 1 ∷ 1 ∷ 0 ∷ 0 ∷ 1 ∷ 1 ∷ 1 ∷ 0 ∷ replicate 5 7) ∷
+    -- 8: the marks made so far stay
+    rims (marking (thin .ring) [] (replicate 16 7) 0) (1 ∷ 1 ∷ 1 ∷ 1 ∷ 1 ∷ 1 ∷ 1 ∷ 1 ∷ 0 ∷ replicate 7 7) ∷
+    rims again (1 ∷ 1 ∷ 1 ∷ 1 ∷ 1 ∷ 0 ∷ 0 ∷ 1 ∷ 1 ∷ 1 ∷ 1 ∷ 0 ∷ replicate 4 7) ∷
+    -- the listed node that the middle of the cut meets stays clear
+    rims middleListed (0 ∷ 1 ∷ 1 ∷ 1 ∷ 1 ∷ 1 ∷ 0 ∷ 1 ∷ 1 ∷ 1 ∷ 0 ∷ replicate 5 7) ∷
+    -- fewer marks than node places; a used mark that is neither 0 nor 1
+    refuses (marking (dart .ring) [] (replicate 15 0) 0) 3 ∷
+    refuses (marking (dart .ring) [] (2 ∷ replicate 15 0) 1) 3 ∷
     []

@@ -1,17 +1,19 @@
 -- `cells::attempt` meets its contract.
+use mathlib.Core.Path.{_∙_}
 use Rattle.cells.proofs.Adding.{listed, held}
 use Rattle.cells.proofs.OneAttempt as one
 use borrow.Author.Needs.{needs}
+use native.Mathlib.Omega.{arith}
 use Rattle.cells.proofs.attempt.Statement.{statement}
 use Rattle.cells.proofs.attempt.Tie as tie
 
 add-corners-requires : tie.Need-add-corners-requires
-add-corners-requires c κs = let s = c .before .before .before .before .before in (one.add-corners (s .pre .0), s .pre .2)
+add-corners-requires c κs = let s = c .before .before .before .before .before .before in (one.add-corners (s .pre .0), s .pre .2)
 
 add-middles-requires : tie.Need-add-middles-requires
 add-middles-requires c κs =
     let k = c .before .before .before .before in
-    let s = k .before .before .before .before .before .before in
+    let s = k .before .before .before .before .before .before .before in
     let f = s .pre .0 in
     (one.add-middles f (k .add-corners .ensures), listed (k .add-corners .ensures), held (k .add-corners .ensures) (s .pre .2))
 
@@ -19,7 +21,7 @@ mean-requires : tie.Need-mean-requires
 mean-requires c κs =
     let m = c .before .before .before .before in
     let k = m .before .before .before .before .before in
-    let s = k .before .before .before .before .before .before in
+    let s = k .before .before .before .before .before .before .before in
     let f = s .pre .0 in
     (f .some, f .few, one.corner-room f (k .add-corners .ensures) (m .add-middles .ensures .0))
 
@@ -28,7 +30,7 @@ add-node-requires c κs =
     let q = c .before in
     let m = q .before .before .before .before .before in
     let k = m .before .before .before .before .before in
-    let s = k .before .before .before .before .before .before in
+    let s = k .before .before .before .before .before .before .before in
     let f = s .pre .0 in
     let a = k .add-corners .ensures in
     let b = m .add-middles .ensures .0 in
@@ -40,16 +42,37 @@ put-cells-requires c κs =
     let q = z .before .before in
     let m = q .before .before .before .before .before in
     let k = m .before .before .before .before .before in
-    let s = k .before .before .before .before .before .before in
+    let s = k .before .before .before .before .before .before .before in
     (s .pre .0 .few, s .pre .1, m .add-middles .ensures .0 .long, k .add-corners .ensures .long)
 
-first-failing-requires : tie.Need-first-failing-requires
-first-failing-requires c κs =
+mark-rims-requires : tie.Need-mark-rims-requires
+mark-rims-requires c κs =
     let z = c .before .before .before .before .before .before .before in
     let q = z .before .before in
     let m = q .before .before .before .before .before in
     let k = m .before .before .before .before .before in
-    let s = k .before .before .before .before .before .before in
+    let s = k .before .before .before .before .before .before .before in
+    let f = s .pre .0 in
+    let a = k .add-corners .ensures in
+    let b = m .add-middles .ensures .0 in
+    let d = q .mean .ensures in
+    let e = z .add-node .ensures in (
+      one.used-up f a b d (e .0) (e .1),
+      omega (arith, one.used-all f a b d (e .0) (e .1), s .pre .3),
+      f .few,
+      one.corners-listed f a b d (e .0) (e .1),
+      one.middles-listed f a b d (e .0) (e .1),
+      a .long,
+      b .long,
+    )
+
+first-failing-requires : tie.Need-first-failing-requires
+first-failing-requires c κs =
+    let z = c .before .before .before .before .before .before .before .before .before .before .before in
+    let q = z .before .before in
+    let m = q .before .before .before .before .before in
+    let k = m .before .before .before .before .before in
+    let s = k .before .before .before .before .before .before .before in
     let f = s .pre .0 in
     let a = k .add-corners .ensures in
     let b = m .add-middles .ensures .0 in
@@ -65,20 +88,28 @@ first-failing-requires c κs =
     )
 
 same-length : tie.Need-same-length
-same-length c = search needs
+same-length c =
+    let z = c .before .before .before .before .before .before .before .before .before .before .before .before in
+    let m = z .before .before .before .before .before .before .before in
+    let k = m .before .before .before .before .before in
+    z .add-node .kept .0 ∙ m .add-middles .kept .0 ∙ k .add-corners .kept .0
 
 same-length-2 : tie.Need-same-length-2
 same-length-2 c = search needs
 
+same-length-3 : tie.Need-same-length-3
+same-length-3 c = search needs
+
 returns : tie.Need-returns
 returns c =
-    let z = c .before .before .before .before .before .before .before .before in
+    let z = c .before .before .before .before .before .before .before .before .before .before .before .before in
     let q = z .before .before in
     let m = q .before .before .before .before .before in
     let k = m .before .before .before .before .before in
-    let s = k .before .before .before .before .before .before in
+    let s = k .before .before .before .before .before .before .before in
     let e = z .add-node .ensures in
-    one.answer (s .pre .0) (k .add-corners .ensures) (m .add-middles .ensures .0) (q .mean .ensures) (e .0) (e .1) (s .args .cells .now) (m .add-middles .ensures .1) (c .first-failing .ensures) (c .before .before .before .before .put-cells .ensures)
+    one.answer (s .pre .0) (k .add-corners .ensures) (m .add-middles .ensures .0) (q .mean .ensures) (e .0) (e .1) (s .args .cells .now) (s .args .sides) (s .args .rims .now) (m .add-middles .ensures .1) (c .first-failing .ensures) (c .before .before .before .before .before .before .before .before .put-cells .ensures)
+    (c .before .before .before .before .mark-rims .ensures (z .add-node .result .number))
 
 pub attempt-spec : {M : Type 1} → statement M
 attempt-spec =
@@ -89,7 +120,9 @@ attempt-spec =
     mean-requires
     add-node-requires
     put-cells-requires
+    mark-rims-requires
     first-failing-requires
     same-length
     same-length-2
+    same-length-3
     returns)

@@ -7,20 +7,20 @@ use Rattle.divider.proofs.divide_core.Statement.{statement}
 use Rattle.divider.proofs.divide_core.Tie as tie
 
 ring-refusal-requires : tie.Need-ring-refusal-requires
-ring-refusal-requires c κs = let h = c .before .before .before .pre .held in (h .count, h .points)
+ring-refusal-requires c κs = let h = c .before .before .before .before .pre .held in (h .count, h .points)
 
 returns : tie.Need-returns
 returns c =
-    let a = c .before .before .before .before .before .args in
+    let a = c .before .before .before .before .before .before .args in
     let n = c .before .ring-refusal in
-    core-refused (a .limits) (a .own) (partIn (a .ring)) (a .nodes .now) (a .node-count) (a .cells .now) (a .cell-count) (n .result) (n .ensures) (c .if1 .taken)
+    core-refused (a .limits) (a .own) (partIn (a .ring)) (a .nodes .now) (a .node-count) (a .rims .now) (a .cells .now) (a .cell-count) (n .result) (n .ensures) (c .if1 .taken)
 
 laid-out-requires : tie.Need-laid-out-requires
 laid-out-requires c κs =
-    let s = c .before .before .before .before .before .before .before in
+    let s = c .before .before .before .before .before .before .before .before .before in
     let a = s .args in
-    let n = c .before .before .before .ring-refusal in
-    (s .pre, core-whole (a .limits) (a .own) (partIn (a .ring)) (a .nodes .now) (a .node-count) (a .cells .now) (a .cell-count) (n .result) (n .ensures) (c .before .before .if1 .left))
+    let n = c .before .before .before .before .ring-refusal in
+    (s .pre, core-whole (a .limits) (a .own) (partIn (a .ring)) (a .nodes .now) (a .node-count) (a .rims .now) (a .cells .now) (a .cell-count) (n .result) (n .ensures) (c .before .before .before .if1 .left))
 
 same-length : tie.Need-same-length
 same-length c = search needs
@@ -28,13 +28,16 @@ same-length c = search needs
 same-length-2 : tie.Need-same-length-2
 same-length-2 c = search needs
 
+same-length-3 : tie.Need-same-length-3
+same-length-3 c = search needs
+
 returns-2 : tie.Need-returns-2
 returns-2 c =
-    let a = c .before .before .before .before .before .before .before .before .before .before .before .before .args in
-    let n = c .before .before .before .before .before .before .before .before .ring-refusal in
-    core-laid (a .limits) (a .own) (partIn (a .ring)) (a .nodes .now) (a .node-count) (a .cells .now) (a .cell-count) (n .result) (n .ensures) (c .before .before .before .before .before .before .before .if1 .left) _ _ _ (c .before .before .before .before .laid-out .ensures)
+    let a = c .before .before .before .before .before .before .before .before .before .before .before .before .before .before .before .before .args in
+    let n = c .before .before .before .before .before .before .before .before .before .before .before .ring-refusal in
+    core-laid (a .limits) (a .own) (partIn (a .ring)) (a .nodes .now) (a .node-count) (a .rims .now) (a .cells .now) (a .cell-count) (n .result) (n .ensures) (c .before .before .before .before .before .before .before .before .before .before .if1 .left) _ _ _ _ (c .before .before .before .before .before .before .laid-out .ensures)
 
 pub divide-core-spec : {M : Type 1} → statement M
 divide-core-spec =
     tie.close
-    (tie.spec ring-refusal-requires returns laid-out-requires same-length same-length-2 returns-2)
+    (tie.spec ring-refusal-requires returns laid-out-requires same-length same-length-2 same-length-3 returns-2)

@@ -14,12 +14,15 @@ same-length c = search needs
 same-length-2 : tie.Need-same-length-2
 same-length-2 c = search needs
 
+same-length-3 : tie.Need-same-length-3
+same-length-3 c = search needs
+
 returns : tie.Need-returns
 returns c =
-    let a = c .before .before .before .before .before .before .before .before .before .args in
-    let l : Lent = record { ring = a .ring .now; chain = a .chain .now; size = a .size; nodes = a .nodes .now; nodeCount = a .node-count; cells = a .cells .now; cellCount = a .cell-count } in
-    own-promise (a .limits) l _ _ _ (c .before .before .before .before .divide-with .ensures (allCells (l .cells)) (cell-places (l .cells)))
+    let a = c .before .before .before .before .before .before .before .before .before .before .before .before .before .args in
+    let l : Lent = record { ring = a .ring .now; chain = a .chain .now; size = a .size; nodes = a .nodes .now; nodeCount = a .node-count; rims = a .rims .now; cells = a .cells .now; cellCount = a .cell-count } in
+    own-promise (a .limits) l _ _ _ _ (c .before .before .before .before .before .before .divide-with .ensures (allCells (l .cells)) (cell-places (l .cells)))
 
 pub divide-set-spec : {M : Type 1} → statement M
 divide-set-spec =
-    tie.close (tie.spec divide-with-requires same-length same-length-2 returns)
+    tie.close (tie.spec divide-with-requires same-length same-length-2 same-length-3 returns)

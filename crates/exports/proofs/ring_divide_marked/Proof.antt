@@ -15,9 +15,12 @@ same-length c = search needs
 same-length-2 : tie.Need-same-length-2
 same-length-2 c = search needs
 
+same-length-3 : tie.Need-same-length-3
+same-length-3 c = search needs
+
 returns : tie.Need-returns
-returns c = rw (c .new .ensures) (c .before .before .before .before .before .divide-marked .ensures)
+returns c = rw (c .new .ensures) (c .before .before .before .before .before .before .before .divide-marked .ensures)
 
 pub ring-divide-marked-spec : {M : Type 1} → statement M
 ring-divide-marked-spec =
-    tie.close (tie.spec divide-marked-requires new-requires same-length same-length-2 returns)
+    tie.close (tie.spec divide-marked-requires new-requires same-length same-length-2 same-length-3 returns)

@@ -18,9 +18,12 @@ same-length c = search needs
 same-length-2 : tie.Need-same-length-2
 same-length-2 c = search needs
 
+same-length-3 : tie.Need-same-length-3
+same-length-3 c = search needs
+
 returns : tie.Need-returns
-returns c = let d = c .before .before .before .before .before in rw (c .new .ensures, ← d .before .before .before .set-of .ensures) (d .divide-marked-set .ensures)
+returns c = let d = c .before .before .before .before .before .before .before in rw (c .new .ensures, ← d .before .before .before .before .set-of .ensures) (d .divide-marked-set .ensures)
 
 pub ring-divide-marked-set-spec : {M : Type 1} → statement M
 ring-divide-marked-set-spec =
-    tie.close (tie.spec set-of-requires divide-marked-set-requires new-requires same-length same-length-2 returns)
+    tie.close (tie.spec set-of-requires divide-marked-set-requires new-requires same-length same-length-2 same-length-3 returns)

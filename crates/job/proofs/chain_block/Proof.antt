@@ -14,7 +14,7 @@ enum-known-tail c = search needs
 
 refuse-requires : tie.Need-refuse-requires
 refuse-requires c κs =
-    let s = c .before .before .before .before in
+    let s = c .before .before .before .before .before in
     (chain-refused (s .args .tail) (s .pre .1 .odd (s .pre .2)) (c .before .match .keys2), s .pre .0 .room)
 
 same-length : tie.Need-same-length
@@ -22,13 +22,13 @@ same-length c = search needs
 
 returns : tie.Need-returns
 returns c =
-    let a = c .before .before .before .before .before .before .before .args in
-    c .before .before .refuse .ensures (a .ring .now) (a .points .now) (a .nodes .now)
+    let a = c .before .before .before .before .before .before .before .before .args in
+    c .before .before .refuse .ensures (a .ring .now) (a .points .now) (a .nodes .now) (a .rims .now)
 
 divide-ring-requires : tie.Need-divide-ring-requires
 divide-ring-requires c κs =
-    let s = c .before .before .before .before .before .before .before in
-    let q = c .before .before .before .tail .given in
+    let s = c .before .before .before .before .before .before .before .before .before in
+    let q = c .before .before .before .before .tail .given in
     (s .pre .0, s .pre .1 .number (chain-accepted (s .args .tail) (q .0 .0) (q .1)), omega (arith, s .pre .1 .few, ap points (q .1)), s .pre .1 .places)
 
 same-length-2 : tie.Need-same-length-2
@@ -37,12 +37,15 @@ same-length-2 c = search needs
 same-length-3 : tie.Need-same-length-3
 same-length-3 c = search needs
 
+same-length-4 : tie.Need-same-length-4
+same-length-4 c = search needs
+
 returns-2 : tie.Need-returns-2
 returns-2 c =
-    let a = c .before .before .before .before .before .before .before .before .before .before .before .before .args in
-    let q = c .before .before .before .before .before .before .before .before .tail .given in
-    let d = c .before .before .before .before .divide-ring in
-    chain-divides (a .s) (a .ring .now) (a .nodes .now) (a .points .now) (a .tail) (q .0 .0) (q .1) (a .ring .now) _ (d .result) (a .text .now) _ (d .ensures)
+    let a = c .before .before .before .before .before .before .before .before .before .before .before .before .before .before .before .before .args in
+    let q = c .before .before .before .before .before .before .before .before .before .before .before .tail .given in
+    let d = c .before .before .before .before .before .before .divide-ring in
+    chain-divides (a .s) (a .ring .now) (a .nodes .now) (a .rims .now) (a .points .now) (a .tail) (q .0 .0) (q .1) (a .ring .now) _ _ (d .result) (a .text .now) _ (d .ensures)
 
 pub chain-block-spec : {M : Type 1} → statement M
 chain-block-spec =
@@ -55,4 +58,5 @@ chain-block-spec =
     divide-ring-requires
     same-length-2
     same-length-3
+    same-length-4
     returns-2)

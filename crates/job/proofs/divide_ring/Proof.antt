@@ -19,10 +19,10 @@ mul-stop : tie.Need-mul-stop
 mul-stop c = search needs
 
 slice-aggregate-divide : tie.Need-slice-aggregate-divide
-slice-aggregate-divide c = let s = c .before .before .before .before in part-length (s .args .s .count * 2) 120 (s .args .ring .now) (s .pre .0 .long) (omega (arith, s .pre .0 .few))
+slice-aggregate-divide c = let s = c .before .before .before .before .before in part-length (s .args .s .count * 2) 120 (s .args .ring .now) (s .pre .0 .long) (omega (arith, s .pre .0 .few))
 
 slice-aggregate-divide-2 : tie.Need-slice-aggregate-divide-2
-slice-aggregate-divide-2 c = let s = c .before .before .before .before .before in part-length (s .args .run * 2) 120 (s .args .chain .now) (s .pre .3) (omega (arith, s .pre .2))
+slice-aggregate-divide-2 c = let s = c .before .before .before .before .before .before in part-length (s .args .run * 2) 120 (s .args .chain .now) (s .pre .3) (omega (arith, s .pre .2))
 
 slice-aggregate-divide-3 : tie.Need-slice-aggregate-divide-3
 slice-aggregate-divide-3 c = search needs
@@ -41,15 +41,15 @@ slice-aggregate-print-row c = search needs
 
 print-row-requires : tie.Need-print-row-requires
 print-row-requires c κs =
-    let s = c .before .before .before .before .before .before .before .before .before .before .before .before .before .before .before in
+    let s = c .before .before .before .before .before .before .before .before .before .before .before .before .before .before .before .before .before .before .before in
     let a = s .args in
-    let d = c .before .before .before .before .before .before .before .divide in
-    let p = d .last .1 .1 .1 .1 .1 .0 in
-    let k = d .kept .1 .1 .1 .1 .1 .0 in
-    (subst (λ (w : Values). Shown (a .s .used) w p) (sym (c .before .before .before .new .ensures)) (shown (lentBy (a .s) (a .ring .now) (a .nodes .now) (take (a .run * 2) (a .chain .now))) _ _ p (d .ensures) k), omega arith, s .pre .0 .room)
+    let d = c .before .before .before .before .before .before .before .before .before .divide in
+    let p = d .last .1 .1 .1 .1 .1 .1 .0 in
+    let k = d .kept .1 .1 .1 .1 .1 .1 .0 in
+    (subst (λ (w : Values). Shown (a .s .used) w p) (sym (c .before .before .before .new .ensures)) (shown (lentBy (a .s) (a .ring .now) (a .nodes .now) (a .rims .now) (take (a .run * 2) (a .chain .now))) _ _ _ p (d .ensures) k), omega arith, s .pre .0 .room)
 
 add-next : tie.Need-add-next
-add-next c = omega (arith, c .before .before .before .before .before .before .before .before .before .before .before .before .before .before .before .before .before .before .before .pre .1)
+add-next c = omega (arith, c .before .before .before .before .before .before .before .before .before .before .before .before .before .before .before .before .before .before .before .before .before .before .before .pre .1)
 
 same-length : tie.Need-same-length
 same-length c = search needs
@@ -57,13 +57,16 @@ same-length c = search needs
 same-length-2 : tie.Need-same-length-2
 same-length-2 c = search needs
 
+same-length-3 : tie.Need-same-length-3
+same-length-3 c = search needs
+
 returns : tie.Need-returns
 returns c =
-    let s = c .before .before .before .before .before .before .before .before .before .before .before .before .before .before .before .before .before .before .before in
+    let s = c .before .before .before .before .before .before .before .before .before .before .before .before .before .before .before .before .before .before .before .before .before .before .before in
     let a = s .args in
-    let d = c .before .before .before .before .before .before .before .before .before .before .before .divide in
+    let d = c .before .before .before .before .before .before .before .before .before .before .before .before .before .divide in
     let p = c .before .before .before .print-row in
-    divided (a .s) (a .ring .now) (a .nodes .now) (take (a .run * 2) (a .chain .now)) _ _ _ (d .ensures) _ (c .before .before .before .before .before .before .before .new .ensures) (p .result) (a .text .now) (p .last .0) (p .ensures)
+    divided (a .s) (a .ring .now) (a .nodes .now) (a .rims .now) (take (a .run * 2) (a .chain .now)) _ _ _ _ (d .ensures) _ (c .before .before .before .before .before .before .before .new .ensures) (p .result) (a .text .now) (p .last .0) (p .ensures)
 
 pub divide-ring-spec : {M : Type 1} → statement M
 divide-ring-spec =
@@ -82,4 +85,5 @@ divide-ring-spec =
     add-next
     same-length
     same-length-2
+    same-length-3
     returns)

@@ -31,7 +31,7 @@ returns-2 : tie.Need-returns-2
 returns-2 c =
     let s = c .before .before .before .before .before .before .before .before .before in
     let p = c .before .before .before .print-refused-block in
-    λ ps qs l. refuses (s .args .s) ps l qs (s .args .block) _ _ (c .closed .result) (p .result) (s .args .text .now) (p .last .0) (c .before .before .before .before .before .before .block .given .1) (c .closed .ensures) (s .pre .1) (p .ensures)
+    λ ps qs l rs. refuses (s .args .s) ps l rs qs (s .args .block) _ _ (c .closed .result) (p .result) (s .args .text .now) (p .last .0) (c .before .before .before .before .before .before .block .given .1) (c .closed .ensures) (s .pre .1) (p .ensures)
 
 pub refuse-spec : {M : Type 1} → statement M
 refuse-spec =

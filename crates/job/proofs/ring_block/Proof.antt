@@ -20,7 +20,7 @@ same-length c = search needs
 returns : tie.Need-returns
 returns c =
     let a = c .before .before .before .before .before .before .args in
-    λ l. c .before .before .refuse .ensures (a .ring .now) (a .points .now) l
+    λ l rs. c .before .before .refuse .ensures (a .ring .now) (a .points .now) l rs
 
 keep-requires : tie.Need-keep-requires
 keep-requires c κs = search needs
@@ -35,7 +35,7 @@ returns-2 : tie.Need-returns-2
 returns-2 c =
     let a = c .before .before .before .before .before .before .before .before .args in
     let k = c .before .before .keep in
-    λ l. ring-waits (a .s) (a .ring .now) l (a .points .now) (a .head) _ _ (c .before .before .before .before .before .head .given .1) (k .last .0) (k .ensures) (a .text .now)
+    λ l rs. ring-waits (a .s) (a .ring .now) l rs (a .points .now) (a .head) _ _ (c .before .before .before .before .before .head .given .1) (k .last .0) (k .ensures) (a .text .now)
 
 pub ring-block-spec : {M : Type 1} → statement M
 ring-block-spec =

@@ -15,9 +15,12 @@ same-length c = search needs
 same-length-2 : tie.Need-same-length-2
 same-length-2 c = search needs
 
+same-length-3 : tie.Need-same-length-3
+same-length-3 c = search needs
+
 returns : tie.Need-returns
-returns c = let d = c .before .before .before .before in rw (← d .before .before .before .new .ensures) (d .divide-marked-set .ensures)
+returns c = let d = c .before .before .before .before .before .before in rw (← d .before .before .before .before .new .ensures) (d .divide-marked-set .ensures)
 
 pub divide-marked-spec : {M : Type 1} → statement M
 divide-marked-spec =
-    tie.close (tie.spec new-requires divide-marked-set-requires same-length same-length-2 returns)
+    tie.close (tie.spec new-requires divide-marked-set-requires same-length same-length-2 same-length-3 returns)

@@ -25,10 +25,10 @@ use Rattle.marked.proofs.refusal.Tie as tie
 abbrev lent : tie.Start → List ℕ → LentMarked
 lent s q =
     let a = s .args in
-    record { ring = a .ring .now; marking = record { kinds = a .kinds .now; snaps = a .snaps .now; outline = a .outline .now; loops = a .loops .now }; size = a .size; nodes = a .nodes .now; nodeCount = a .node-count; cells = q; cellCount = a .cell-count }
+    record { ring = a .ring .now; marking = record { kinds = a .kinds .now; snaps = a .snaps .now; outline = a .outline .now; loops = a .loops .now }; size = a .size; nodes = a .nodes .now; nodeCount = a .node-count; rims = a .rims .now; cells = q; cellCount = a .cell-count }
 
 abbrev start : tie.After-counts-out → tie.Start
-start c = c .before .before .before .before .before
+start c = c .before .before .before .before .before .before
 
 -- ---- each test as the code made it
 abbrev counts : tie.Start → Bool
@@ -65,7 +65,7 @@ fit c =
     let l = a .nodes .now in
     let cs = replicate (a .cell-places) noCell in
     let n = length-replicate (a .cell-places) noCell in
-    let x : Lists = record { nodes = nodesIn l (length l / 2); nodeCount = a .node-count; cells = cs; cellCount = a .cell-count } in
+    let x : Lists = record { nodes = nodesIn l (length l / 2); nodeCount = a .node-count; rims = a .rims .now; cells = cs; cellCount = a .cell-count } in
     let h = Tests.counts-fit x (sym (c .before .lists-out .ensures cs n) ∙ c .if6 .left) in
     (omega (arith, h .0, length-in l (length l / 2)), omega (arith, h .1, n))
 

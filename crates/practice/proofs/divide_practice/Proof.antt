@@ -8,13 +8,13 @@ use Rattle.practice.proofs.divide_practice.Tie as tie
 
 -- what was lent
 abbrev lent : tie.Start → Lent
-lent s = let a = s .args in record { ring = a .ring .now; chain = a .chain .now; size = a .size; nodes = a .nodes .now; nodeCount = a .node-count; cells = a .cells .now; cellCount = a .cell-count }
+lent s = let a = s .args in record { ring = a .ring .now; chain = a .chain .now; size = a .size; nodes = a .nodes .now; nodeCount = a .node-count; rims = a .rims .now; cells = a .cells .now; cellCount = a .cell-count }
 
 over-paper-requires : tie.Need-over-paper-requires
 over-paper-requires c κs = search needs
 
 returns : tie.Need-returns
-returns c = practice-refused (lent (c .before .before .before .before)) (sym (c .before .over-paper .ensures) ∙ c .if1 .taken)
+returns c = practice-refused (lent (c .before .before .before .before .before)) (sym (c .before .over-paper .ensures) ∙ c .if1 .taken)
 
 practice-requires : tie.Need-practice-requires
 practice-requires c κs = search needs
@@ -28,12 +28,15 @@ same-length c = search needs
 same-length-2 : tie.Need-same-length-2
 same-length-2 c = search needs
 
+same-length-3 : tie.Need-same-length-3
+same-length-3 c = search needs
+
 returns-2 : tie.Need-returns-2
 returns-2 c =
-    let d = c .before .before .before .before in
-    let e = d .before .before .before .before in
-    let l = lent (e .before .before .before .before) in
-    practice-divided l (sym (e .before .over-paper .ensures) ∙ e .if1 .left) _ (d .before .before .before .practice .ensures) _ _ _ (d .divide-set .ensures)
+    let d = c .before .before .before .before .before .before in
+    let e = d .before .before .before .before .before in
+    let l = lent (e .before .before .before .before .before) in
+    practice-divided l (sym (e .before .over-paper .ensures) ∙ e .if1 .left) _ (d .before .before .before .before .practice .ensures) _ _ _ _ (d .divide-set .ensures)
 
 pub divide-practice-spec : {M : Type 1} → statement M
 divide-practice-spec =
@@ -45,4 +48,5 @@ divide-practice-spec =
     divide-set-requires
     same-length
     same-length-2
+    same-length-3
     returns-2)

@@ -16,7 +16,7 @@ use Rattle.records.proofs.flat_divide.Tie as tie
 
 -- what was lent, with these cells
 abbrev lent : (s : tie.Start) → List Cell → LentRecords
-lent s cs = let a = s .args in record { ring = a .ring .now; chain = a .chain .now; size = a .size; nodes = a .nodes .now; nodeCount = a .node-count; cells = cs; cellCount = a .cell-count }
+lent s cs = let a = s .args in record { ring = a .ring .now; chain = a .chain .now; size = a .size; nodes = a .nodes .now; nodeCount = a .node-count; rims = a .rims .now; cells = cs; cellCount = a .cell-count }
 
 new-requires : tie.Need-new-requires
 new-requires c κs = search needs
@@ -25,35 +25,38 @@ slice-aggregate-divide-with : tie.Need-slice-aggregate-divide-with
 slice-aggregate-divide-with c = search needs
 
 divide-with-requires : tie.Need-divide-with-requires
-divide-with-requires c κs = let L = c .before .before .new in has-room (L .result) (most-cuts (L .result) (L .ensures)) (replicate 496 0) refl _ refl
+divide-with-requires c κs = let L = c .before .before .before .new in has-room (L .result) (most-cuts (L .result) (L .ensures)) (replicate 496 0) refl _ refl
 
 placed-requires : tie.Need-placed-requires
 placed-requires c κs =
-    let s = c .before .before .before .before .before .before .before .before in
+    let s = c .before .before .before .before .before .before .before .before .before .before .before .before in
     let a = s .args in
-    let L = c .before .before .before .before .before .before .new in
-    let d = c .before .before .before .divide-with in
+    let L = c .before .before .before .before .before .before .before .before .before .new in
+    let d = c .before .before .before .before .before .divide-with in
     let cs = replicate (a .cell-places) noCell in
     let n = length-replicate (a .cell-places) noCell in
     let f = most-cuts (L .result) (L .ensures) in (
-      sum-fits (L .result) f (replicate 496 0) refl (lent s cs) (values (d .result)) _ _ (d .ensures cs n) (omega (arith, n, s .fits .cell-places)) (s .fits .cell-count .fits),
-      counts-in (L .result) f (replicate 496 0) refl (lent s cs) (values (d .result)) _ _ (d .ensures cs n),
+      sum-fits (L .result) f (replicate 496 0) refl (lent s cs) (values (d .result)) _ _ _ (d .ensures cs n) (omega (arith, n, s .fits .cell-places)) (s .fits .cell-count .fits),
+      counts-in (L .result) f (replicate 496 0) refl (lent s cs) (values (d .result)) _ _ _ (d .ensures cs n),
     )
 
 same-length : tie.Need-same-length
 same-length c = search needs
 
+same-length-2 : tie.Need-same-length-2
+same-length-2 c = search needs
+
 returns : tie.Need-returns
 returns c =
-    let s = c .before .before .before .before .before .before .before .before .before in
+    let s = c .before .before .before .before .before .before .before .before .before .before .before .before .before in
     let a = s .args in
-    let L = c .before .before .before .before .before .before .before .new in
-    let d = c .before .before .before .before .divide-with in
+    let L = c .before .before .before .before .before .before .before .before .before .before .new in
+    let d = c .before .before .before .before .before .before .divide-with in
     let cs = replicate (a .cell-places) noCell in
     let n = length-replicate (a .cell-places) noCell in
     let f = most-cuts (L .result) (L .ensures) in
-    let g = laid-fits (L .result) f (replicate 496 0) refl (lent s cs) (values (d .result)) _ _ (d .ensures cs n) (c .placed .result) (c .placed .ensures) in (
-      (λ cells e. laid-numbers (L .result) f (replicate 496 0) refl (lent s cells) (values (d .result)) _ _ (d .ensures cells e) (c .placed .result) (c .placed .ensures) delivered (L .ensures)),
+    let g = laid-fits (L .result) f (replicate 496 0) refl (lent s cs) (values (d .result)) _ _ _ (d .ensures cs n) (c .placed .result) (c .placed .ensures) in (
+      (λ cells e. laid-numbers (L .result) f (replicate 496 0) refl (lent s cells) (values (d .result)) _ _ _ (d .ensures cells e) (c .placed .result) (c .placed .ensures) delivered (L .ensures)),
       g .0,
       (λ h. omega (arith, g .1 h, n)),
     )
@@ -67,4 +70,5 @@ flat-divide-spec =
     divide-with-requires
     placed-requires
     same-length
+    same-length-2
     returns)

@@ -1,4 +1,4 @@
--- `replay` ends and stays within its lists. The loop's invariant: the node list has its 1,536 places.
+-- `replay` ends and stays within its lists. The loop's invariant: the node list has its 1,536 places, and so have the rim marks.
 use Prim.Native.Nat.{_-_, _≤_}
 use mathlib.Core.Path.{_≡_}
 use lib.ListN.{length}
@@ -7,10 +7,10 @@ use Rattle.replay.proofs.replay.Statement.{statement}
 use Rattle.replay.proofs.replay.Tie as tie
 
 abbrev Inv-loop : tie.InvT-loop
-Inv-loop fd nodes₀ s₀ counter₀ nodes s counter = (counter ≤ 1000000) × (length nodes ≡ 3072)
+Inv-loop fd nodes₀ rims₀ s₀ counter₀ nodes rims s counter = (counter ≤ 1000000) × (length nodes ≡ 3072) × (length rims ≡ 1536)
 
 abbrev μ-loop : tie.MeasureT-loop
-μ-loop fd nodes₀ s₀ counter₀ nodes s counter = 1000000 - counter
+μ-loop fd nodes₀ rims₀ s₀ counter₀ nodes rims s counter = 1000000 - counter
 
 loop-holds : tie.Need-loop-holds Inv-loop μ-loop
 loop-holds c = search needs
@@ -20,6 +20,9 @@ word-requires c κs = search needs
 
 slice-aggregate-step : tie.Need-slice-aggregate-step Inv-loop μ-loop
 slice-aggregate-step c = search needs
+
+slice-aggregate-step-2 : tie.Need-slice-aggregate-step-2 Inv-loop μ-loop
+slice-aggregate-step-2 c = search needs
 
 step-requires : tie.Need-step-requires Inv-loop μ-loop
 step-requires c κs = search needs
@@ -45,6 +48,7 @@ replay-spec =
     loop-holds
     word-requires
     slice-aggregate-step
+    slice-aggregate-step-2
     step-requires
     add-counter
     loop-less

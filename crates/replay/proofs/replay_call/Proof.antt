@@ -1,8 +1,7 @@
 -- `replay_call` ends and stays within its lists. Each part that is lent is within its list.
 use Prim.Native.Nat.{ℕ}
-use mathlib.Core.Path.{refl}
 use native.Mathlib.Omega.{arith}
-use lib.ListN.{length, length-replicate, replicate}
+use lib.ListN.{length-replicate, replicate}
 use borrow.Author.Needs.{needs}
 use Rattle.words.proofs.Parts.{part-length}
 use Rattle.replay.proofs.replay_call.Statement.{statement}
@@ -38,9 +37,6 @@ slice-aggregate-read-numbers-2 c = search needs
 read-numbers-requires-2 : tie.Need-read-numbers-requires-2
 read-numbers-requires-2 c κs = search needs
 
-doubled-requires : tie.Need-doubled-requires
-doubled-requires c κs = search needs
-
 ran-requires : tie.Need-ran-requires
 ran-requires c κs = search needs
 
@@ -59,41 +55,27 @@ ran-requires-3 c κs = search needs
 returns-3 : tie.Need-returns-3
 returns-3 c = search needs
 
-ran-requires-4 : tie.Need-ran-requires-4
-ran-requires-4 c κs = search needs
-
-returns-4 : tie.Need-returns-4
-returns-4 c = search needs
-
 array-share-prefix-ring : tie.Need-array-share-prefix-ring
 array-share-prefix-ring c = search needs
 
 slice-aggregate-compared : tie.Need-slice-aggregate-compared
 slice-aggregate-compared c =
-    let n = c .before .before .before .before .before .before .before .before .before .before .read-numbers in
-    part-length (c .before .before .before .before .before .before .before .before .before .before .before .before .before .count2 .result) 256 (n .last .1 .0) (n .kept .1 .0) (omega arith)
+    let n = c .before .before .before .before .before .before .before .before .read-numbers in
+    part-length (c .before .before .before .before .before .before .before .before .before .before .before .count2 .result) 256 (n .last .1 .0) (n .kept .1 .0) (omega arith)
 
 array-share-prefix-chain : tie.Need-array-share-prefix-chain
 array-share-prefix-chain c = search needs
 
 slice-aggregate-compared-2 : tie.Need-slice-aggregate-compared-2
 slice-aggregate-compared-2 c =
-    let n = c .before .before .before .before .before .before .before .before .read-numbers2 in
-    part-length (c .before .before .before .before .before .before .before .before .before .before .before .before .before .count3 .result) 256 (n .last .1 .0) (n .kept .1 .0) (omega arith)
-
-slice-relend-prefix-compared : tie.Need-slice-relend-prefix-compared
-slice-relend-prefix-compared c = search needs
-
-slice-aggregate-compared-3 : tie.Need-slice-aggregate-compared-3
-slice-aggregate-compared-3 c =
-    let l = c .before .before .before .before .before .before .before .before .before .before .before .before .before .before .before .before .before .before .before .before .args .nodes .now in
-    part-length (c .before .before .before .before .before .before .before .doubled .result) (length l) l refl (omega arith)
+    let n = c .before .before .before .before .before .before .read-numbers2 in
+    part-length (c .before .before .before .before .before .before .before .before .before .before .before .count3 .result) 256 (n .last .1 .0) (n .kept .1 .0) (omega arith)
 
 array-borrow-prefix-cells : tie.Need-array-borrow-prefix-cells
 array-borrow-prefix-cells c = search needs
 
-slice-aggregate-compared-4 : tie.Need-slice-aggregate-compared-4
-slice-aggregate-compared-4 c = part-length (c .before .before .before .before .before .before .before .before .before .before .before .before .before .before .before .before .before .before .count .result) 2048 (replicate {A = ℕ} 2048 65535) (length-replicate {A = ℕ} 2048 65535) (omega arith)
+slice-aggregate-compared-3 : tie.Need-slice-aggregate-compared-3
+slice-aggregate-compared-3 c = part-length (c .before .before .before .before .before .before .before .before .before .before .before .before .before .before .before .before .before .count .result) 2048 (replicate {A = ℕ} 2048 65535) (length-replicate {A = ℕ} 2048 65535) (omega arith)
 
 compared-requires : tie.Need-compared-requires
 compared-requires c κs = search needs
@@ -101,8 +83,11 @@ compared-requires c κs = search needs
 same-length : tie.Need-same-length
 same-length c = search needs
 
-returns-5 : tie.Need-returns-5
-returns-5 c = search needs
+same-length-2 : tie.Need-same-length-2
+same-length-2 c = search needs
+
+returns-4 : tie.Need-returns-4
+returns-4 c = search needs
 
 pub replay-call-spec : {M : Type 1} → statement M
 replay-call-spec =
@@ -118,23 +103,19 @@ replay-call-spec =
     read-numbers-requires
     slice-aggregate-read-numbers-2
     read-numbers-requires-2
-    doubled-requires
     ran-requires
     returns
     ran-requires-2
     returns-2
     ran-requires-3
     returns-3
-    ran-requires-4
-    returns-4
     array-share-prefix-ring
     slice-aggregate-compared
     array-share-prefix-chain
     slice-aggregate-compared-2
-    slice-relend-prefix-compared
-    slice-aggregate-compared-3
     array-borrow-prefix-cells
-    slice-aggregate-compared-4
+    slice-aggregate-compared-3
     compared-requires
     same-length
-    returns-5)
+    same-length-2
+    returns-4)

@@ -1,4 +1,4 @@
--- `list_job` ends, and prints the nodes of a run that has ended. The loop's invariant: the state, the ring that waits and the nodes were reached by the bytes read so far.
+-- `list_job` ends, and prints the nodes of a run that has ended. The loop's invariant: the state, the ring that waits, the nodes and their rim marks were reached by the bytes read so far.
 use Prim.Native.Nat.{ℕ, _+_, _-_, _≤_}
 use mathlib.Core.Path.{_≡_, refl, sym, _∙_}
 use mathlib.Core.Bool.{cond}
@@ -14,32 +14,32 @@ use Rattle.sheet.proofs.list_job.Statement.{statement}
 use Rattle.sheet.proofs.list_job.Tie as tie
 
 abbrev Inv-loop : tie.InvT-loop
-Inv-loop ring₀ nodes₀ bytes₀ text₀ s₀ ring nodes bytes text s =
-    ((sent : ℕ) × Reached s ring nodes sent) × (length ring ≡ 120) × (length nodes ≡ 3072) × (length bytes ≡ 512) × (length text ≡ mostText)
+Inv-loop ring₀ nodes₀ rims₀ bytes₀ text₀ s₀ ring nodes rims bytes text s =
+    ((sent : ℕ) × Reached s ring nodes rims sent) × (length ring ≡ 120) × (length nodes ≡ 3072) × (length rims ≡ 1536) × (length bytes ≡ 512) × (length text ≡ mostText)
 
 abbrev μ-loop : tie.MeasureT-loop
-μ-loop ring₀ nodes₀ bytes₀ text₀ s₀ ring nodes bytes text s = cond (s .ended) 0 (65537 - s .block)
+μ-loop ring₀ nodes₀ rims₀ bytes₀ text₀ s₀ ring nodes rims bytes text s = cond (s .ended) 0 (65537 - s .block)
 
 new-requires : tie.Need-new-requires Inv-loop μ-loop
 new-requires c κs = search needs
 
 loop-holds : tie.Need-loop-holds Inv-loop μ-loop
-loop-holds c = ((0, begun-so (c .new .result) (c .new .ensures)), refl, refl, refl, refl)
+loop-holds c = ((0, begun-so (c .new .result) (c .new .ensures)), refl, refl, refl, refl, refl)
 
 goes-on-requires : tie.Need-goes-on-requires Inv-loop μ-loop
 goes-on-requires c κs = search needs
 
 slice-aggregate-read-block : tie.Need-slice-aggregate-read-block Inv-loop μ-loop
-slice-aggregate-read-block c = sym (c .before .before .before .loop .inv .3)
+slice-aggregate-read-block c = sym (c .before .before .before .loop .inv .4)
 
 read-block-requires : tie.Need-read-block-requires Inv-loop μ-loop
 read-block-requires c κs = search needs
 
 array-share-prefix-bytes : tie.Need-array-share-prefix-bytes Inv-loop μ-loop
-array-share-prefix-bytes c = let q = c .before .read-block in omega (arith, q .ensures, q .kept .1 .0, c .before .before .before .before .before .loop .inv .3)
+array-share-prefix-bytes c = let q = c .before .read-block in omega (arith, q .ensures, q .kept .1 .0, c .before .before .before .before .before .loop .inv .4)
 
 slice-aggregate-step : tie.Need-slice-aggregate-step Inv-loop μ-loop
-slice-aggregate-step c = let q = c .before .before .read-block in part-length _ 512 _ (q .kept .1 .0 ∙ c .before .before .before .before .before .before .loop .inv .3) (q .ensures)
+slice-aggregate-step c = let q = c .before .before .read-block in part-length _ 512 _ (q .kept .1 .0 ∙ c .before .before .before .before .before .before .loop .inv .4) (q .ensures)
 
 slice-aggregate-step-2 : tie.Need-slice-aggregate-step-2 Inv-loop μ-loop
 slice-aggregate-step-2 c = sym (c .before .before .before .before .before .before .before .loop .inv .1)
@@ -48,32 +48,35 @@ slice-aggregate-step-3 : tie.Need-slice-aggregate-step-3 Inv-loop μ-loop
 slice-aggregate-step-3 c = sym (c .before .before .before .before .before .before .before .before .loop .inv .2)
 
 slice-aggregate-step-4 : tie.Need-slice-aggregate-step-4 Inv-loop μ-loop
-slice-aggregate-step-4 c = sym (c .before .before .before .before .before .before .before .before .before .loop .inv .4)
+slice-aggregate-step-4 c = sym (c .before .before .before .before .before .before .before .before .before .loop .inv .3)
+
+slice-aggregate-step-5 : tie.Need-slice-aggregate-step-5 Inv-loop μ-loop
+slice-aggregate-step-5 c = sym (c .before .before .before .before .before .before .before .before .before .before .loop .inv .5)
 
 step-requires : tie.Need-step-requires Inv-loop μ-loop
-step-requires c κs = let l = c .before .before .before .before .before .before .before .before .before .loop in can-step _ _ _ _ (l .inv .0 .1) (l .text) (l .inv .4)
+step-requires c κs = let l = c .before .before .before .before .before .before .before .before .before .before .loop in can-step _ _ _ _ _ (l .inv .0 .1) (l .text) (l .inv .5)
 
 loop-less : tie.Need-loop-less Inv-loop μ-loop
 loop-less c =
-    let l = c .before .before .before .before .before .before .before .before .before .before .before .before .before .before .loop in
-    let q = c .before .before .before .before .before .before .before .before .before .before .read-block in
-    let g = c .before .before .before .before .before .before .before .before .before .before .before .before .before .goes-on in
-    let e = not-true (l .s .ended) (sym (g .ensures) ∙ c .before .before .before .before .before .before .before .before .before .before .before .before .if1 .taken) in
-    let p = c .before .before .before .before .step in
+    let l = c .before .before .before .before .before .before .before .before .before .before .before .before .before .before .before .before .loop in
+    let q = c .before .before .before .before .before .before .before .before .before .before .before .before .read-block in
+    let g = c .before .before .before .before .before .before .before .before .before .before .before .before .before .before .before .goes-on in
+    let e = not-true (l .s .ended) (sym (g .ensures) ∙ c .before .before .before .before .before .before .before .before .before .before .before .before .before .before .if1 .taken) in
+    let p = c .before .before .before .before .before .step in
     let b = take (q .result) (q .last .1 .0) in
     let h : length b ≤ 512 = omega (arith, length-take (q .result) (q .last .1 .0), q .ensures) in
-    falls (l .s) (l .ring) (l .nodes) (l .inv .0 .0) (l .inv .0 .1) e b (p .ensures .1) (p .result .state) (p .ensures .0 .state)
+    falls (l .s) (l .ring) (l .nodes) (l .rims) (l .inv .0 .0) (l .inv .0 .1) e b (p .ensures .1) (p .result .state) (p .ensures .0 .state)
 
 loop-again : tie.Need-loop-again Inv-loop μ-loop
 loop-again c =
-    let l = c .before .before .before .before .before .before .before .before .before .before .before .before .before .before .loop in
-    let q = c .before .before .before .before .before .before .before .before .before .before .read-block in
-    let g = c .before .before .before .before .before .before .before .before .before .before .before .before .before .goes-on in
-    let e = not-true (l .s .ended) (sym (g .ensures) ∙ c .before .before .before .before .before .before .before .before .before .before .before .before .if1 .taken) in
-    let p = c .before .before .before .before .step in
+    let l = c .before .before .before .before .before .before .before .before .before .before .before .before .before .before .before .before .loop in
+    let q = c .before .before .before .before .before .before .before .before .before .before .before .before .read-block in
+    let g = c .before .before .before .before .before .before .before .before .before .before .before .before .before .before .before .goes-on in
+    let e = not-true (l .s .ended) (sym (g .ensures) ∙ c .before .before .before .before .before .before .before .before .before .before .before .before .before .before .if1 .taken) in
+    let p = c .before .before .before .before .before .step in
     let b = take (q .result) (q .last .1 .0) in
     let h : length b ≤ 512 = omega (arith, length-take (q .result) (q .last .1 .0), q .ensures) in
-    ((l .inv .0 .0 + p .result .count, turned (l .s) (l .ring) (l .nodes) (l .inv .0 .0) (l .inv .0 .1) e b (p .ensures .1) h (p .result) _ _ _ _ (p .ensures .0)), p .kept .1 .1 .0 ∙ l .inv .1, p .kept .1 .1 .1 .0 ∙ l .inv .2, q .kept .1 .0 ∙ l .inv .3, p .kept .1 .1 .1 .1 .0 ∙ l .inv .4)
+    ((l .inv .0 .0 + p .result .count, turned (l .s) (l .ring) (l .nodes) (l .rims) (l .inv .0 .0) (l .inv .0 .1) e b (p .ensures .1) h (p .result) _ _ _ _ _ (p .ensures .0)), p .kept .1 .1 .0 ∙ l .inv .1, p .kept .1 .1 .1 .0 ∙ l .inv .2, p .kept .1 .1 .1 .1 .0 ∙ l .inv .3, q .kept .1 .0 ∙ l .inv .4, p .kept .1 .1 .1 .1 .1 .0 ∙ l .inv .5)
 
 slice-aggregate-print-sheet : tie.Need-slice-aggregate-print-sheet Inv-loop μ-loop
 slice-aggregate-print-sheet c = sym (c .before .before .before .loop .inv .2)
@@ -81,7 +84,7 @@ slice-aggregate-print-sheet c = sym (c .before .before .before .loop .inv .2)
 print-sheet-requires : tie.Need-print-sheet-requires Inv-loop μ-loop
 print-sheet-requires c κs =
     let l = c .before .before .before .loop in
-    listed (l .s) (l .ring) (l .nodes) (l .inv .0 .0) (l .inv .0 .1) (not-false (l .s .ended) (sym (c .before .before .goes-on .ensures) ∙ c .before .if1 .left))
+    listed (l .s) (l .ring) (l .nodes) (l .rims) (l .inv .0 .0) (l .inv .0 .1) (not-false (l .s .ended) (sym (c .before .before .goes-on .ensures) ∙ c .before .if1 .left))
 
 returns : tie.Need-returns Inv-loop μ-loop
 returns c = search needs
@@ -102,6 +105,7 @@ list-job-spec =
     slice-aggregate-step-2
     slice-aggregate-step-3
     slice-aggregate-step-4
+    slice-aggregate-step-5
     step-requires
     loop-less
     loop-again

@@ -2,8 +2,7 @@
 use native.Mathlib.Omega.{arith}
 use borrow.Author.Needs.{needs}
 use Prim.Native.Nat.{ℕ}
-use mathlib.Core.Path.{refl}
-use lib.ListN.{length, length-replicate, replicate}
+use lib.ListN.{length-replicate, replicate}
 use Rattle.words.proofs.Parts.{part-length}
 use Rattle.replay.proofs.leads.replay_marked.Statement.{statement}
 use Rattle.replay.proofs.leads.replay_marked.Tie as tie
@@ -65,71 +64,60 @@ slice-aggregate-read-words c = search needs
 read-words-requires : tie.Need-read-words-requires
 read-words-requires c κs = search needs
 
-doubled-requires : tie.Need-doubled-requires
-doubled-requires c κs = search needs
-
-smaller-requires : tie.Need-smaller-requires
-smaller-requires c κs = search needs
-
 array-share-prefix-ring : tie.Need-array-share-prefix-ring
 array-share-prefix-ring c = search needs
 
 slice-aggregate-compared : tie.Need-slice-aggregate-compared
 slice-aggregate-compared c =
-    let n = c .before .before .before .before .before .before .before .before .before .before .before .before .before .before .before .before .read-numbers in
-    part-length (c .before .before .before .before .before .before .before .before .before .before .before .before .before .before .before .before .before .before .before .before .before .before .count-to2 .result) 256 (n .last .1 .0) (n .kept .1 .0) (c .before .before .before .before .before .before .before .before .before .before .before .before .before .before .before .before .before .before .before .before .before .before .count-to2 .ensures)
+    let n = c .before .before .before .before .before .before .before .before .before .before .before .before .before .before .read-numbers in
+    part-length (c .before .before .before .before .before .before .before .before .before .before .before .before .before .before .before .before .before .before .before .before .count-to2 .result) 256 (n .last .1 .0) (n .kept .1 .0) (c .before .before .before .before .before .before .before .before .before .before .before .before .before .before .before .before .before .before .before .before .count-to2 .ensures)
 
 array-share-prefix-kinds : tie.Need-array-share-prefix-kinds
 array-share-prefix-kinds c = search needs
 
 slice-aggregate-compared-2 : tie.Need-slice-aggregate-compared-2
 slice-aggregate-compared-2 c =
-    let n = c .before .before .before .before .before .before .before .before .before .before .before .before .before .before .read-bytes in
-    part-length (c .before .before .before .before .before .before .before .before .before .before .before .before .before .before .before .before .before .before .before .before .before .before .count-to3 .result) 256 (n .last .1 .0) (n .kept .1 .0) (c .before .before .before .before .before .before .before .before .before .before .before .before .before .before .before .before .before .before .before .before .before .before .count-to3 .ensures)
+    let n = c .before .before .before .before .before .before .before .before .before .before .before .before .read-bytes in
+    part-length (c .before .before .before .before .before .before .before .before .before .before .before .before .before .before .before .before .before .before .before .before .count-to3 .result) 256 (n .last .1 .0) (n .kept .1 .0) (c .before .before .before .before .before .before .before .before .before .before .before .before .before .before .before .before .before .before .before .before .count-to3 .ensures)
 
 array-share-prefix-snaps : tie.Need-array-share-prefix-snaps
 array-share-prefix-snaps c = search needs
 
 slice-aggregate-compared-3 : tie.Need-slice-aggregate-compared-3
 slice-aggregate-compared-3 c =
-    let n = c .before .before .before .before .before .before .before .before .before .before .before .before .read-nodes in
-    part-length (c .before .before .before .before .before .before .before .before .before .before .before .before .before .before .before .before .before .before .before .before .before .before .count-to4 .result) 512 (n .last .1 .0) (n .kept .1 .0) (c .before .before .before .before .before .before .before .before .before .before .before .before .before .before .before .before .before .before .before .before .before .before .count-to4 .ensures)
+    let n = c .before .before .before .before .before .before .before .before .before .before .read-nodes in
+    part-length (c .before .before .before .before .before .before .before .before .before .before .before .before .before .before .before .before .before .before .before .before .count-to4 .result) 512 (n .last .1 .0) (n .kept .1 .0) (c .before .before .before .before .before .before .before .before .before .before .before .before .before .before .before .before .before .before .before .before .count-to4 .ensures)
 
 array-share-prefix-outline : tie.Need-array-share-prefix-outline
 array-share-prefix-outline c = search needs
 
 slice-aggregate-compared-4 : tie.Need-slice-aggregate-compared-4
 slice-aggregate-compared-4 c =
-    let n = c .before .before .before .before .before .before .before .before .before .before .read-numbers2 in
-    part-length (c .before .before .before .before .before .before .before .before .before .before .before .before .before .before .before .before .before .before .before .before .before .before .count-to5 .result) 256 (n .last .1 .0) (n .kept .1 .0) (c .before .before .before .before .before .before .before .before .before .before .before .before .before .before .before .before .before .before .before .before .before .before .count-to5 .ensures)
+    let n = c .before .before .before .before .before .before .before .before .read-numbers2 in
+    part-length (c .before .before .before .before .before .before .before .before .before .before .before .before .before .before .before .before .before .before .before .before .count-to5 .result) 256 (n .last .1 .0) (n .kept .1 .0) (c .before .before .before .before .before .before .before .before .before .before .before .before .before .before .before .before .before .before .before .before .count-to5 .ensures)
 
 array-share-prefix-loops : tie.Need-array-share-prefix-loops
 array-share-prefix-loops c = search needs
 
 slice-aggregate-compared-5 : tie.Need-slice-aggregate-compared-5
 slice-aggregate-compared-5 c =
-    let n = c .before .before .before .before .before .before .before .before .read-words in
-    part-length (c .before .before .before .before .before .before .before .before .before .before .before .before .before .before .before .before .before .before .before .before .before .before .count-to6 .result) 64 (n .last .1 .0) (n .kept .1 .0) (c .before .before .before .before .before .before .before .before .before .before .before .before .before .before .before .before .before .before .before .before .before .before .count-to6 .ensures)
-
-slice-relend-prefix-compared : tie.Need-slice-relend-prefix-compared
-slice-relend-prefix-compared c = search needs
-
-slice-aggregate-compared-6 : tie.Need-slice-aggregate-compared-6
-slice-aggregate-compared-6 c =
-    let l = c .before .before .before .before .before .before .before .before .before .before .before .before .before .before .before .before .before .before .before .before .before .before .before .before .before .before .before .before .before .before .before .before .args .nodes .now in
-    part-length (c .before .before .before .before .before .before .smaller .result) (length l) l refl (c .before .before .before .before .before .before .smaller .ensures .1)
+    let n = c .before .before .before .before .before .before .read-words in
+    part-length (c .before .before .before .before .before .before .before .before .before .before .before .before .before .before .before .before .before .before .before .before .count-to6 .result) 64 (n .last .1 .0) (n .kept .1 .0) (c .before .before .before .before .before .before .before .before .before .before .before .before .before .before .before .before .before .before .before .before .count-to6 .ensures)
 
 array-borrow-prefix-cells : tie.Need-array-borrow-prefix-cells
 array-borrow-prefix-cells c = search needs
 
-slice-aggregate-compared-7 : tie.Need-slice-aggregate-compared-7
-slice-aggregate-compared-7 c = part-length (c .before .before .before .before .before .before .before .before .before .before .before .before .before .before .before .before .before .before .before .before .before .before .before .before .before .before .before .before .before .before .count-to .result) 2048 (replicate {A = ℕ} 2048 65535) (length-replicate {A = ℕ} 2048 65535) (c .before .before .before .before .before .before .before .before .before .before .before .before .before .before .before .before .before .before .before .before .before .before .before .before .before .before .before .before .before .before .count-to .ensures)
+slice-aggregate-compared-6 : tie.Need-slice-aggregate-compared-6
+slice-aggregate-compared-6 c = part-length (c .before .before .before .before .before .before .before .before .before .before .before .before .before .before .before .before .before .before .before .before .before .before .before .before .before .before .before .before .before .count-to .result) 2048 (replicate {A = ℕ} 2048 65535) (length-replicate {A = ℕ} 2048 65535) (c .before .before .before .before .before .before .before .before .before .before .before .before .before .before .before .before .before .before .before .before .before .before .before .before .before .before .before .before .before .count-to .ensures)
 
 compared-requires : tie.Need-compared-requires
 compared-requires c κs = search needs
 
 same-length : tie.Need-same-length
 same-length c = search needs
+
+same-length-2 : tie.Need-same-length-2
+same-length-2 c = search needs
 
 returns : tie.Need-returns
 returns c = search needs
@@ -157,8 +145,6 @@ replay-marked-spec =
     read-numbers-requires-2
     slice-aggregate-read-words
     read-words-requires
-    doubled-requires
-    smaller-requires
     array-share-prefix-ring
     slice-aggregate-compared
     array-share-prefix-kinds
@@ -169,10 +155,9 @@ replay-marked-spec =
     slice-aggregate-compared-4
     array-share-prefix-loops
     slice-aggregate-compared-5
-    slice-relend-prefix-compared
-    slice-aggregate-compared-6
     array-borrow-prefix-cells
-    slice-aggregate-compared-7
+    slice-aggregate-compared-6
     compared-requires
     same-length
+    same-length-2
     returns)

@@ -1,0 +1,2 @@
+-- What is claimed of ring edges.
+pub mod Edges
