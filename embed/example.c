@@ -1,6 +1,7 @@
 /* Divides the square of 1 mm, has the same square clockwise refused, and divides the square beside the first over the
- * same lists; then the square above the first with given marks, one edge snapped to a point and one to a lead line. At
- * the end it prints the rim marks and the cell sheet of all nodes. Compiles as C and as C++. */
+ * same lists; then the square above the first with given marks, one edge snapped to a point and one to a lead line. It
+ * prints the rim marks and the cell sheet of all nodes. At the end it finds the fault of a ring in which two points stand
+ * in the wrong order (docs/SMALLEST.md). Compiles as C and as C++. */
 #include "ring_divide.h"
 #include <stdio.h>
 
@@ -14,20 +15,23 @@ static uint32_t cells[4 * CELLS];
 static uint8_t sheet[NODE_SHEET_LINE * NODES];
 static size_t node_count, cell_count; /* used places of the node list and of the cell list, carried from call to call */
 
-static struct ring_row divide(const int32_t *ring, size_t ring_len) {
-    const int32_t none[] = {0};
-    struct ring_row row = ring_divide(ring, ring_len, none, 0, 1, nodes, 2 * NODES, node_count, rims, NODES, cells, 4 * CELLS, cell_count);
+/* Both counts go to the next call. */
+static struct ring_row carried(struct ring_row row) {
     node_count = row.nodes;
     cell_count = row.cells;
     return row;
 }
 
+static struct ring_row divide(const int32_t *ring, size_t ring_len) {
+    const int32_t none[] = {0};
+    struct ring_row row = ring_divide(ring, ring_len, none, 0, 1, nodes, 2 * NODES, node_count, rims, NODES, cells, 4 * CELLS, cell_count);
+    return carried(row);
+}
+
 /* The same with one mark an edge: straight, snapped to the point beside it, or to the lead line. */
 static struct ring_row divide_marked(const int32_t *ring, size_t ring_len, const uint8_t *kinds, const double *snaps, const int32_t *outline, size_t outline_len, const uint32_t *loops, size_t loops_len) {
     struct ring_row row = ring_divide_marked(ring, ring_len, kinds, ring_len / 2, snaps, ring_len, outline, outline_len, loops, loops_len, 1, nodes, 2 * NODES, node_count, rims, NODES, cells, 4 * CELLS, cell_count);
-    node_count = row.nodes;
-    cell_count = row.cells;
-    return row;
+    return carried(row);
 }
 
 static void print(struct ring_row row, size_t first) {
@@ -61,5 +65,11 @@ int main(void) {
     printf("\n");
     if (node_sheet(nodes, 2 * NODES, node_count, sheet, sizeof sheet) == 0)
         fwrite(sheet, NODE_SHEET_LINE, node_count, stdout);
+
+    int32_t rosette[] = {4, 0, 8, 0, 11, 2, 12, 5, 8, 12, 11, 9, 4, 12, 1, 9, 0, 5, 1, 2};
+    for (size_t i = 0; i < 20; i++) rosette[i] *= MM;
+    const int32_t none[] = {0};
+    struct smallest s = smallest_refused(rosette, 20, none, 0, 1);
+    printf("smallest code %d refusal %d choice %d points %d\n", (int)s.code, (int)s.refusal, (int)s.choice, (int)s.points);
     return 0;
 }

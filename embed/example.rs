@@ -1,6 +1,7 @@
 //! Divides the square of 1 mm, has the same square clockwise refused, and divides the square beside the first over the
 //! same lists; then the square above the first with given marks, one edge snapped to a point and one to a lead line.
-//! At the end it prints the rim marks and the cell sheet of all nodes.
+//! It prints the rim marks and the cell sheet of all nodes. At the end it finds the fault of a ring in which two points
+//! stand in the wrong order.
 
 /// A row of the table, as in ring_divide.h.
 #[repr(C)]
@@ -16,6 +17,15 @@ struct Row {
     area: u64,
     nodes: u64,
     cells: u64,
+}
+
+/// The smallest choice of a ring's points that is still refused.
+#[repr(C)]
+struct Smallest {
+    code: u64,
+    refusal: u64,
+    choice: u64,
+    points: u64,
 }
 
 extern "C" {
@@ -64,6 +74,14 @@ extern "C" {
         out: *mut u8,
         out_len: usize,
     ) -> u64;
+
+    fn smallest_refused(
+        ring: *const i32,
+        ring_len: usize,
+        chain: *const i32,
+        chain_len: usize,
+        size: u32,
+    ) -> Smallest;
 }
 
 /// The marks of a ring's edges: straight, snapped to the point beside it, or to the outline.
@@ -83,7 +101,15 @@ struct Lists {
     cell_count: usize,
 }
 
-/// A safe call: the library tests all that it is handed. Both counts are carried on.
+impl Lists {
+    /// Both counts go to the next call.
+    fn carry(&mut self, row: &Row) {
+        self.node_count = row.nodes as usize;
+        self.cell_count = row.cells as usize;
+    }
+}
+
+/// A safe call: the library tests all that it is handed.
 fn divide(ring: &[i32], chain: &[i32], size: u32, lists: &mut Lists) -> Row {
     let (nodes, rims, cells) = (&mut lists.nodes, &mut lists.rims, &mut lists.cells);
     let row = unsafe {
@@ -103,8 +129,7 @@ fn divide(ring: &[i32], chain: &[i32], size: u32, lists: &mut Lists) -> Row {
             lists.cell_count,
         )
     };
-    lists.node_count = row.nodes as usize;
-    lists.cell_count = row.cells as usize;
+    lists.carry(&row);
     row
 }
 
@@ -134,8 +159,7 @@ fn divide_marked(ring: &[i32], marks: &Marking, size: u32, lists: &mut Lists) ->
             lists.cell_count,
         )
     };
-    lists.node_count = row.nodes as usize;
-    lists.cell_count = row.cells as usize;
+    lists.carry(&row);
     row
 }
 
@@ -148,6 +172,11 @@ fn print(row: &Row, lists: &Lists, first: usize) {
     for cell in lists.cells.chunks(4).take(lists.cell_count).skip(first) {
         println!("quad {} {} {} {}", cell[0], cell[1], cell[2], cell[3]);
     }
+}
+
+/// The same, safe: a slice comes with its own length.
+fn smallest(ring: &[i32], chain: &[i32], size: u32) -> Smallest {
+    unsafe { smallest_refused(ring.as_ptr(), ring.len(), chain.as_ptr(), chain.len(), size) }
 }
 
 /// The cell sheet, 65 bytes a node; none where it is refused.
@@ -202,4 +231,11 @@ fn main() {
     let marks = lists.rims[..lists.node_count].iter().map(u8::to_string);
     println!("rims {}", marks.collect::<String>());
     print!("{}", sheet(&lists));
+
+    let rosette = [4, 0, 8, 0, 11, 2, 12, 5, 8, 12, 11, 9, 4, 12, 1, 9, 0, 5, 1, 2].map(|x| x * MM);
+    let s = smallest(&rosette, &[], 1);
+    println!(
+        "smallest code {} refusal {} choice {} points {}",
+        s.code, s.refusal, s.choice, s.points
+    );
 }

@@ -48,6 +48,13 @@
  * ring_divide_practice divides for the practice paper: rings and chains of at most 24 points, else 16, which comes directly
  * after 1; at most 12 cuts, and the reserve of 12. All else is as with ring_divide.
  *
+ * smallest_refused takes a ring of at most 12 points that ring_divide refuses on an empty node list with 5, 6, 7 or 8, and finds
+ * the smallest choice of its points, in ring order and at least 3, that gets the same number there with the same chain and sheet
+ * size: no choice with that number has fewer points, and of as many it has the lowest number, in which point i counts 2 to the
+ * power i. It tries the choices on lists of its own. It answers code 0, that number as refusal, the choice and how many points it
+ * has; or zeros and 1 (ring or chain count), 2 (coordinate or sheet size), 18 (over 12 points) or 19 (the ring gets none of the
+ * four), the first of them in this order.
+ *
  * blocks_write saves a ring and its chain as the two blocks that the program `divide` takes. It fills the first
  * BLOCKS_WRITE_BYTES bytes of out, the ring's block with the given number, which is even and at most 65,534, and the chain's
  * with the next; the bytes after them stay. It answers 0, or leaves all as found and answers 1 (ring or chain count), 2
@@ -89,6 +96,7 @@ extern "C" {
 #define RING_DIVIDE_SET_STACK 29336
 #define RING_DIVIDE_MARKED_SET_STACK 27960
 #define RING_DIVIDE_MARKED_STACK 27960
+#define SMALLEST_REFUSED_STACK 31096
 #define BLOCKS_WRITE_STACK 40
 #define NODE_SHEET_STACK 224
 #define RING_ROOT_BITS_STACK 8
@@ -114,6 +122,13 @@ struct ring_row {
     uint64_t area;   /* area of the cleaned ring, doubled, in units squared */
     uint64_t nodes;  /* used places of the node list afterwards */
     uint64_t cells;  /* used places of the cell list afterwards */
+};
+
+struct smallest {
+    uint64_t code;    /* 0, 1, 2, 18 or 19 */
+    uint64_t refusal; /* 5 to 8, the number of the ring and of the choice */
+    uint64_t choice;  /* the sum of 2 to the power i over its points */
+    uint64_t points;
 };
 
 struct ring_row ring_divide(const int32_t *ring, size_t ring_len,
@@ -160,6 +175,10 @@ struct ring_row ring_divide_practice(const int32_t *ring, size_t ring_len,
                                      double *nodes, size_t nodes_len, size_t node_count,
                                      uint8_t *rims, size_t rims_len,
                                      uint32_t *cells, size_t cells_len, size_t cell_count);
+
+struct smallest smallest_refused(const int32_t *ring, size_t ring_len,
+                                 const int32_t *chain, size_t chain_len,
+                                 uint32_t size);
 
 uint64_t blocks_write(const int32_t *ring, size_t ring_len,
                       const int32_t *chain, size_t chain_len,

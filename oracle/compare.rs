@@ -7,6 +7,8 @@
 //! compare desk FILE         the supplied calls of the writer
 //! compare sheet FILE        the supplied calls of the cell sheet
 //! compare prints SEED COUNT sheets of 1,000 tried doubles beside an exact decimal printer
+//! compare smallest FILE     the supplied calls of the smallest ring still refused
+//! compare smalls SEED COUNT rings at random, every choice tried through the Rust
 //! compare details FOLDER    the detailed forms of a folder of vectors
 //! compare supplied FOLDER   the same of the supplied calls of the cards, with rim marks
 //! compare memory < BLOCKS   stack and heap of a call on both sides
@@ -26,6 +28,7 @@ mod emit;
 #[allow(dead_code)]
 mod forms;
 mod job;
+mod least;
 mod library;
 #[allow(dead_code)]
 mod meeting;
@@ -37,10 +40,9 @@ mod notes;
 mod outline;
 #[allow(dead_code)]
 mod paper;
-mod sides;
 #[allow(dead_code)]
 mod random;
-#[allow(dead_code)]
+mod sides;
 mod smallest;
 #[path = "../target/oracle/stage.rs"]
 #[allow(dead_code)]
@@ -108,11 +110,13 @@ fn main() {
         ["desk", file] => over_desk(file),
         ["sheet", file] => over_sheet(file),
         ["prints", seed, count] => over_prints(seed, count),
+        ["smallest", file] => over_smallest(file),
+        ["smalls", seed, count] => over_smalls(seed, count),
         ["details", folder] => over_details(folder, sides::agrees_with_detail),
         ["supplied", folder] => over_details(folder, sides::agrees_with_supplied),
         ["memory"] => print!("{}", memory::peaks(&input())),
         _ => {
-            eprintln!("use: compare [before] blocks|calls|writes|memory < INPUT, desk FILE, sheet FILE, prints SEED COUNT, details FOLDER, or supplied FOLDER");
+            eprintln!("use: compare [before] blocks|calls|writes|memory < INPUT, desk FILE, sheet FILE, prints SEED COUNT, smallest FILE, smalls SEED COUNT, details FOLDER, or supplied FOLDER");
             std::process::exit(2)
         }
     }
@@ -277,6 +281,36 @@ fn over_prints(seed: &str, count: &str) -> ! {
             listed(&nodes, 500, 32_500 + sheet as usize % 70),
         );
         tally.add(&name, &Job::default(), listed(&nodes, 500, 32_499));
+    }
+    tally.end()
+}
+
+/// Each call beside the Rust and beside the supplied answer.
+fn over_smallest(file: &str) -> ! {
+    let mut tally = Tally::default();
+    for (number, (case, told)) in smallest::cases(file).iter().enumerate() {
+        let result = least::compared(case).and_then(|ours| match ours == *told {
+            true => Ok(()),
+            false => Err(format!("gave {ours:?}, supplied {told:?}")),
+        });
+        tally.add(&format!("case {number}"), &Job::default(), result);
+    }
+    tally.end()
+}
+
+fn over_smalls(seed: &str, count: &str) -> ! {
+    let number = |word: &str| word.parse::<u64>().expect("a number");
+    let (mut tally, mut random) = (Tally::default(), random::Random::new(number(seed)));
+    let mut met = std::collections::BTreeMap::new();
+    for ring in 0..number(count) {
+        let result = least::compared(&smallest::tried(&mut random));
+        if let Ok([code, refusal, _, points]) = result {
+            *met.entry((code, refusal, points)).or_insert(0) += 1;
+        }
+        tally.add(&format!("ring {ring}"), &Job::default(), result);
+    }
+    for ((code, refusal, points), times) in met {
+        println!("code {code} refusal {refusal} points {points}: {times} times");
     }
     tally.end()
 }

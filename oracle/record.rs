@@ -6,6 +6,7 @@
 //! record blocks FILE..             every block of these files, up to the first refusal
 //! record pairs FILE                the calls of the writer in FILE.cases, answered as FILE.expect says
 //! record sheets FILE               the calls of the cell sheet, likewise; those over 64 numbers are left out
+//! record smallest FILE             the calls of the smallest ring still refused in FILE.calls, answered as FILE.detail says
 //! record crossings FILE            the segments of FILE.cross, answered as FILE.answers says
 //!
 //! 1 PLACES USED RIMS, then for each used node (PLACES at most) four words: x, y,
@@ -27,6 +28,7 @@
 //!   the count of words that are written, and each
 //! 5 USED (two words) NODE_NUMBERS ROOM, two words for each number, code, and
 //!   the count of bytes that are written, and these, four to a word
+//! 7 SIZE RING_NUMBERS CHAIN_NUMBERS, the coordinates, code refusal choice points
 //! 9, the eight coordinates of two segments, and 0 apart, 1 touching, 2 crossing
 
 #[allow(dead_code)]
@@ -49,6 +51,10 @@ mod notes;
 mod outline;
 #[allow(dead_code)]
 mod paper;
+#[allow(dead_code)]
+mod random;
+#[allow(dead_code)]
+mod smallest;
 #[path = "../target/oracle/stage.rs"]
 #[allow(dead_code)]
 mod stage;
@@ -226,6 +232,17 @@ impl Words {
         self.bytes(&case.written);
     }
 
+    fn smallest(&mut self, case: &smallest::Case, told: &smallest::Answer) {
+        self.put(7);
+        self.put(case.size);
+        self.count(case.ring.len());
+        self.count(case.chain.len());
+        for x in case.ring.iter().chain(&case.chain) {
+            self.put(*x as u32);
+        }
+        told.iter().for_each(|v| self.put(*v as u32));
+    }
+
     fn crossing(&mut self, case: &meeting::Case) {
         self.put(9);
         for x in case.ends.iter().flatten() {
@@ -346,6 +363,12 @@ fn main() {
                     .for_each(|case| words.sheet(case));
             }
         }
+        Some("smallest") => {
+            for path in &arguments[1..] {
+                let cases = smallest::cases(path);
+                cases.iter().for_each(|(case, told)| words.smallest(case, told));
+            }
+        }
         Some("crossings") => {
             for path in &arguments[1..] {
                 meeting::cases(path)
@@ -354,7 +377,7 @@ fn main() {
             }
         }
         _ => {
-            eprintln!("use: record rings [NUMBER..]|calls < INPUT | record blocks FILE.. | record pairs|sheets|crossings FILE");
+            eprintln!("use: record rings [NUMBER..]|calls < INPUT | record blocks FILE.. | record pairs|sheets|smallest|crossings FILE");
             std::process::exit(2)
         }
     }

@@ -4,6 +4,7 @@ use crate::call::{Answer, NodeList, NodeNumber};
 use crate::calls;
 use crate::forms::{self, line, Run};
 use crate::job::Given;
+use crate::least;
 use crate::library::{called, Handed, Lists, Returned};
 use crate::supplied::{self, Called, Lent};
 use std::path::Path;
@@ -29,22 +30,17 @@ pub fn agrees_with_detail(input: &Path) -> bool {
     equal(&kept(input)) || equal(&rust)
 }
 
-/// The same with rim marks, of the supplied calls and blocks of the cards. The
-/// smallest rings still refused are left out.
+/// The same with rim marks, of the supplied calls and blocks of the cards.
 pub fn agrees_with_supplied(input: &Path) -> bool {
     let bytes = std::fs::read(input).expect("the input can be read");
     let ours = match input.extension().is_some_and(|e| e == "calls") {
         true => {
             let text = String::from_utf8(bytes).expect("calls are text");
-            supplied::all(&text, run, |_| [0; 4])
+            supplied::all(&text, run, least::called)
         }
         false => supplied::of_blocks(&bytes, run),
     };
-    let divided = |l: &&str| !l.starts_with("smallest ");
-    let kept = kept(input);
-    ours.lines()
-        .filter(divided)
-        .eq(kept.lines().filter(divided))
+    ours == kept(input)
 }
 
 fn kept(input: &Path) -> String {

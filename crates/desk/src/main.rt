@@ -1,5 +1,6 @@
 // Desk: runs the fixed lists of what stands beside the divider, with the answers expected, and compares every returned value
-// and every byte that is left: the cell sheet, and how two segments meet. docs/REPLAY.md has the form of the lists.
+// and every byte that is left: the cell sheet, the smallest ring still refused, and how two segments meet. docs/REPLAY.md has the
+// form of the lists.
 
 mod crossings;
 
@@ -25,9 +26,29 @@ fn sheet(fd: i32) -> bool {
     answered & words::same_bytes(fd, &out)
 }
 
+// The smallest ring still refused: the ring and its chain, two numbers a point.
+fn smallest_ring(fd: i32) -> bool {
+    let size = words::word(fd);
+    let r = words::count_to(fd, 256);
+    let c = words::count_to(fd, 256);
+    let mut ring = [0i32; 256];
+    let mut chain = [0i32; 256];
+    words::read_numbers(fd, &mut ring, r);
+    words::read_numbers(fd, &mut chain, c);
+    let s = smallest::smallest_refused(&ring[..r], &chain[..c], size);
+    let code = s.code == words::word(fd) as u64;
+    let refusal = s.refusal == words::word(fd) as u64;
+    let choice = s.choice == words::word(fd) as u64;
+    let points = s.points == words::word(fd) as u64;
+    code & refusal & choice & points
+}
+
 fn step(fd: i32, kind: u32) -> bool {
     if kind == 5 {
         return sheet(fd);
+    }
+    if kind == 7 {
+        return smallest_ring(fd);
     }
     if kind == 9 {
         return crossings::crossing(fd);
@@ -63,5 +84,6 @@ fn file(path: &[u8]) -> Tally {
 
 fn main() {
     file(b"sheets.list");
+    file(b"smallest.list");
     file(b"crossings.list");
 }

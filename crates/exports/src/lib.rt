@@ -10,10 +10,12 @@ ghost use Rattle.corner.specs.Limits.{delivered};
 ghost use Rattle.divider.specs.Promise.{Promise};
 ghost use Rattle.marked.specs.Promise.{MarkedPromise};
 ghost use Rattle.practice.specs.Practice as Practice;
+ghost use Rattle.smallest.specs.Smallest as Rule;
 ghost use Rattle.writer.specs.Write as Write;
 use corner::Limits;
 ghost use Rattle.listing.specs.Sheet as Sheet;
 use nodes::NodeNumber;
+use smallest::Smallest;
 use table::Values;
 
 // The divider call: one row of the table, and the lists as it says: nodes, their rim marks, and cells.
@@ -196,6 +198,14 @@ pub extern "C" fn ring_divide_practice(
         cell_count,
     );
     Values::new(a)
+}
+
+// The smallest choice of a ring's points that is still refused with the ring's own number, 5 to 8; or 1, 2, 18 or 19.
+#[no_mangle]
+pub extern "C" fn smallest_refused(ring: &[i32], chain: &[i32], size: u32) -> Smallest
+    ensures { λ s. ⌜ s ≡ Rule.smallestRefused (now (ring .entry)) (now (chain .entry)) size ⌝ }
+{
+    smallest::smallest_refused(ring, chain, size)
 }
 
 // A ring and its chain saved as blocks `number` and `number + 1`: 0, or the refusal 1, 2 or 12.
