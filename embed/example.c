@@ -1,7 +1,8 @@
 /* Divides the square of 1 mm, has the same square clockwise refused, and divides the square beside the first over the
  * same lists; then the square above the first with given marks, one edge snapped to a point and one to a lead line. It
- * prints the rim marks and the cell sheet of all nodes. At the end it finds the fault of a ring in which two points stand
- * in the wrong order (docs/SMALLEST.md). Compiles as C and as C++. */
+ * prints the rim marks and the cell sheet of all nodes, divides an arrowhead, which takes a cut, and prints what the record of
+ * wheel wear has of all these rings. At the end it finds the fault of a ring in which two points stand in the wrong order
+ * (docs/SMALLEST.md). Compiles as C and as C++. */
 #include "ring_divide.h"
 #include <stdio.h>
 
@@ -14,11 +15,13 @@ static uint8_t rims[NODES];
 static uint32_t cells[4 * CELLS];
 static uint8_t sheet[NODE_SHEET_LINE * NODES];
 static size_t node_count, cell_count; /* used places of the node list and of the cell list, carried from call to call */
+static uint8_t wear[WEAR_RECORD_BYTES];
 
-/* Both counts go to the next call. */
+/* Both counts go to the next call, and the answer into the record of wear. */
 static struct ring_row carried(struct ring_row row) {
     node_count = row.nodes;
     cell_count = row.cells;
+    wear_add(wear, WEAR_RECORD_BYTES, row.code, row.cuts);
     return row;
 }
 
@@ -65,6 +68,12 @@ int main(void) {
     printf("\n");
     if (node_sheet(nodes, 2 * NODES, node_count, sheet, sizeof sheet) == 0)
         fwrite(sheet, NODE_SHEET_LINE, node_count, stdout);
+
+    const int32_t arrowhead[] = {-10 * MM, 0, 0, 9 * MM, 10 * MM, 0, 0, 10 * MM};
+    struct ring_row last = divide(arrowhead, 8);
+    print(last, last.cells);
+    struct wear w = wear_add(wear, WEAR_RECORD_BYTES, 7, 0); /* a refused ring: the record as it is */
+    printf("wear total %d highest %d rings %d\n", (int)w.total, (int)w.highest, (int)w.rings);
 
     int32_t rosette[] = {4, 0, 8, 0, 11, 2, 12, 5, 8, 12, 11, 9, 4, 12, 1, 9, 0, 5, 1, 2};
     for (size_t i = 0; i < 20; i++) rosette[i] *= MM;

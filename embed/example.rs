@@ -1,7 +1,8 @@
 //! Divides the square of 1 mm, has the same square clockwise refused, and divides the square beside the first over the
 //! same lists; then the square above the first with given marks, one edge snapped to a point and one to a lead line.
-//! It prints the rim marks and the cell sheet of all nodes. At the end it finds the fault of a ring in which two points
-//! stand in the wrong order.
+//! It prints the rim marks and the cell sheet of all nodes, divides an arrowhead, which takes a cut, and prints what the
+//! record of wheel wear has of all these rings. At the end it finds the fault of a ring in which two points stand in the
+//! wrong order.
 
 /// A row of the table, as in ring_divide.h.
 #[repr(C)]
@@ -17,6 +18,16 @@ struct Row {
     area: u64,
     nodes: u64,
     cells: u64,
+}
+
+/// The record of wear's answer.
+#[repr(C)]
+#[allow(dead_code)]
+struct Wear {
+    code: u64,
+    total: u64,
+    highest: u64,
+    rings: u64,
 }
 
 /// The smallest choice of a ring's points that is still refused.
@@ -82,6 +93,8 @@ extern "C" {
         chain_len: usize,
         size: u32,
     ) -> Smallest;
+
+    fn wear_add(record: *mut u8, record_len: usize, code: u64, cuts: u64) -> Wear;
 }
 
 /// The marks of a ring's edges: straight, snapped to the point beside it, or to the outline.
@@ -92,20 +105,26 @@ struct Marking<'a> {
     loops: &'a [u32],
 }
 
-/// The node list with its rim marks and the cell list, with how many places of each are used.
+/// The node list with its rim marks and the cell list, with how many places of each are used, and the record of wear.
 struct Lists {
     nodes: Vec<f64>,
     node_count: usize,
     rims: Vec<u8>,
     cells: Vec<u32>,
     cell_count: usize,
+    wear: [u8; 34],
 }
 
 impl Lists {
-    /// Both counts go to the next call.
+    /// Both counts go to the next call, and the answer into the record of wear.
     fn carry(&mut self, row: &Row) {
         self.node_count = row.nodes as usize;
         self.cell_count = row.cells as usize;
+        self.add(row.code, row.cuts);
+    }
+
+    fn add(&mut self, code: u64, cuts: u64) -> Wear {
+        unsafe { wear_add(self.wear.as_mut_ptr(), self.wear.len(), code, cuts) }
     }
 }
 
@@ -207,6 +226,7 @@ fn main() {
         rims: vec![0; 1536],
         cells: vec![0; 4 * 124],
         cell_count: 0,
+        wear: [0; 34],
     };
     let row = divide(&[0, 0, MM, 0, MM, MM, 0, MM], &[], 1, &mut lists);
     print(&row, &lists, 0);
@@ -231,6 +251,11 @@ fn main() {
     let marks = lists.rims[..lists.node_count].iter().map(u8::to_string);
     println!("rims {}", marks.collect::<String>());
     print!("{}", sheet(&lists));
+
+    let row = divide(&[-10 * MM, 0, 0, 9 * MM, 10 * MM, 0, 0, 10 * MM], &[], 1, &mut lists);
+    print(&row, &lists, lists.cell_count);
+    let w = lists.add(7, 0); // a refused ring: the record as it is
+    println!("wear total {} highest {} rings {}", w.total, w.highest, w.rings);
 
     let rosette = [4, 0, 8, 0, 11, 2, 12, 5, 8, 12, 11, 9, 4, 12, 1, 9, 0, 5, 1, 2].map(|x| x * MM);
     let s = smallest(&rosette, &[], 1);

@@ -67,6 +67,13 @@
  * 0, or leaves all as found and answers 3 (the used count, the places or a used node, as ring_divide's 3) or 17 (out shorter
  * than the lines), the first of them in this order.
  *
+ * wear_add hands the answer of a divider call, its code and its cuts, to the record of wheel wear, WEAR_RECORD_BYTES bytes that
+ * begin as zeros: the cuts of 32 places, the rings held (32 at most), the next place. A ring with code 0 is stored, in place of the
+ * oldest where 32 are held; any other leaves the record, and its cuts are not looked at. It answers code 0, the total of the cuts
+ * held, the highest and the rings held; or 20 and zeros, the record as it came, where the record has another length, holds over 32
+ * rings, a ring of over 32 cuts, or a next place outside its 32 (under 32 rings, other than their number), or where a ring with
+ * code 0 has over 32 cuts.
+ *
  * ring_root_bits answers the bits of the square root of the double with the given bits, nearest, 7FF8000000000000 for a NaN
  * and for what is below zero.
  *
@@ -99,10 +106,12 @@ extern "C" {
 #define SMALLEST_REFUSED_STACK 31096
 #define BLOCKS_WRITE_STACK 40
 #define NODE_SHEET_STACK 224
+#define WEAR_ADD_STACK 40
 #define RING_ROOT_BITS_STACK 8
 
 #define BLOCKS_WRITE_BYTES 1024
 #define NODE_SHEET_LINE 65
+#define WEAR_RECORD_BYTES 34
 
 /* the set on delivery: corners of 160 degrees, diagonals of 160 and of 12 */
 #define RING_SET_CORNER (2.0 - 0.36397023426620236 / (1.0 + 0.36397023426620236))
@@ -129,6 +138,13 @@ struct smallest {
     uint64_t refusal; /* 5 to 8, the number of the ring and of the choice */
     uint64_t choice;  /* the sum of 2 to the power i over its points */
     uint64_t points;
+};
+
+struct wear {
+    uint64_t code; /* 0 or 20 */
+    uint64_t total;
+    uint64_t highest;
+    uint64_t rings;
 };
 
 struct ring_row ring_divide(const int32_t *ring, size_t ring_len,
@@ -187,6 +203,8 @@ uint64_t blocks_write(const int32_t *ring, size_t ring_len,
 
 uint64_t node_sheet(const double *nodes, size_t nodes_len, size_t node_count,
                     uint8_t *out, size_t out_len);
+
+struct wear wear_add(uint8_t *record, size_t record_len, uint64_t code, uint64_t cuts);
 
 uint64_t ring_root_bits(uint64_t bits);
 

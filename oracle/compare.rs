@@ -7,6 +7,8 @@
 //! compare desk FILE         the supplied calls of the writer
 //! compare sheet FILE        the supplied calls of the cell sheet
 //! compare prints SEED COUNT sheets of 1,000 tried doubles beside an exact decimal printer
+//! compare wear FILE         the supplied calls of the record of wear
+//! compare wears SEED COUNT  lists of 100 answers into a record, handed on
 //! compare smallest FILE     the supplied calls of the smallest ring still refused
 //! compare smalls SEED COUNT rings at random, every choice tried through the Rust
 //! compare details FOLDER    the detailed forms of a folder of vectors
@@ -53,6 +55,9 @@ mod standin;
 mod supplied;
 #[allow(dead_code)]
 mod traced;
+#[allow(dead_code)]
+mod wear;
+mod worn;
 
 use blocks::Jobs;
 use call::NodeList;
@@ -110,13 +115,15 @@ fn main() {
         ["desk", file] => over_desk(file),
         ["sheet", file] => over_sheet(file),
         ["prints", seed, count] => over_prints(seed, count),
+        ["wear", file] => over_wear(file),
+        ["wears", seed, count] => over_wears(seed, count),
         ["smallest", file] => over_smallest(file),
         ["smalls", seed, count] => over_smalls(seed, count),
         ["details", folder] => over_details(folder, sides::agrees_with_detail),
         ["supplied", folder] => over_details(folder, sides::agrees_with_supplied),
         ["memory"] => print!("{}", memory::peaks(&input())),
         _ => {
-            eprintln!("use: compare [before] blocks|calls|writes|memory < INPUT, desk FILE, sheet FILE, prints SEED COUNT, smallest FILE, smalls SEED COUNT, details FOLDER, or supplied FOLDER");
+            eprintln!("use: compare [before] blocks|calls|writes|memory < INPUT, desk FILE, sheet FILE, prints SEED COUNT, wear FILE, wears SEED COUNT, smallest FILE, smalls SEED COUNT, details FOLDER, or supplied FOLDER");
             std::process::exit(2)
         }
     }
@@ -281,6 +288,25 @@ fn over_prints(seed: &str, count: &str) -> ! {
             listed(&nodes, 500, 32_500 + sheet as usize % 70),
         );
         tally.add(&name, &Job::default(), listed(&nodes, 500, 32_499));
+    }
+    tally.end()
+}
+
+fn over_wear(file: &str) -> ! {
+    let mut tally = Tally::default();
+    for (number, c) in wear::cases(file).iter().enumerate() {
+        let result = worn::compared(&c.record, c.code, c.cuts);
+        tally.add(&format!("case {number}"), &Job::default(), result);
+    }
+    tally.end()
+}
+
+fn over_wears(seed: &str, count: &str) -> ! {
+    let number = |word: &str| word.parse::<u64>().expect("a number");
+    let (mut tally, mut random) = (Tally::default(), random::Random::new(number(seed)));
+    for list in 0..number(count) {
+        let result = worn::list(&mut random, 100);
+        tally.add(&format!("list {list}"), &Job::default(), result);
     }
     tally.end()
 }

@@ -6,6 +6,7 @@
 //! record blocks FILE..             every block of these files, up to the first refusal
 //! record pairs FILE                the calls of the writer in FILE.cases, answered as FILE.expect says
 //! record sheets FILE               the calls of the cell sheet, likewise; those over 64 numbers are left out
+//! record wear FILE                 the calls of the record of wear, likewise
 //! record smallest FILE             the calls of the smallest ring still refused in FILE.calls, answered as FILE.detail says
 //! record crossings FILE            the segments of FILE.cross, answered as FILE.answers says
 //!
@@ -28,6 +29,8 @@
 //!   the count of words that are written, and each
 //! 5 USED (two words) NODE_NUMBERS ROOM, two words for each number, code, and
 //!   the count of bytes that are written, and these, four to a word
+//! 6 CODE CUTS (two words each) BYTES, a word for each byte of the record,
+//!   code total highest rings, and the bytes of the record, four to a word
 //! 7 SIZE RING_NUMBERS CHAIN_NUMBERS, the coordinates, code refusal choice points
 //! 9, the eight coordinates of two segments, and 0 apart, 1 touching, 2 crossing
 
@@ -62,6 +65,8 @@ mod stage;
 mod standin;
 #[allow(dead_code)]
 mod traced;
+#[allow(dead_code)]
+mod wear;
 
 use blocks::Jobs;
 use call::{Cell, NodeList, UNTOUCHED};
@@ -232,6 +237,16 @@ impl Words {
         self.bytes(&case.written);
     }
 
+    fn wear(&mut self, case: &wear::Case) {
+        self.put(6);
+        self.long(case.code);
+        self.long(case.cuts);
+        self.count(case.record.len());
+        case.record.iter().for_each(|b| self.put((*b).into()));
+        case.values.iter().for_each(|v| self.put(*v as u32));
+        self.bytes(&case.left);
+    }
+
     fn smallest(&mut self, case: &smallest::Case, told: &smallest::Answer) {
         self.put(7);
         self.put(case.size);
@@ -363,6 +378,11 @@ fn main() {
                     .for_each(|case| words.sheet(case));
             }
         }
+        Some("wear") => {
+            for path in &arguments[1..] {
+                wear::cases(path).iter().for_each(|case| words.wear(case));
+            }
+        }
         Some("smallest") => {
             for path in &arguments[1..] {
                 let cases = smallest::cases(path);
@@ -377,7 +397,7 @@ fn main() {
             }
         }
         _ => {
-            eprintln!("use: record rings [NUMBER..]|calls < INPUT | record blocks FILE.. | record pairs|sheets|smallest|crossings FILE");
+            eprintln!("use: record rings [NUMBER..]|calls < INPUT | record blocks FILE.. | record pairs|sheets|wear|smallest|crossings FILE");
             std::process::exit(2)
         }
     }

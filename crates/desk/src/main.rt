@@ -1,6 +1,6 @@
 // Desk: runs the fixed lists of what stands beside the divider, with the answers expected, and compares every returned value
-// and every byte that is left: the cell sheet, the smallest ring still refused, and how two segments meet. docs/REPLAY.md has the
-// form of the lists.
+// and every byte that is left: the cell sheet, the record of wear, the smallest ring still refused, and how two segments meet.
+// docs/REPLAY.md has the form of the lists.
 
 mod crossings;
 
@@ -26,6 +26,25 @@ fn sheet(fd: i32) -> bool {
     answered & words::same_bytes(fd, &out)
 }
 
+// An answer into a record of wear: its number and its cuts, the bytes of the record.
+fn wear_record(fd: i32) -> bool {
+    let number = words::long(fd);
+    let cuts = words::long(fd);
+    let n = words::count(fd);
+    let mut bytes = [0u8; 1536];
+    words::fill(&mut bytes);
+    words::read_bytes(fd, &mut bytes, n);
+    if 1536 < n {
+        return false;
+    }
+    let w = wear::wear_add(&mut bytes[..n], number, cuts);
+    let code = w.code == words::word(fd) as u64;
+    let total = w.total == words::word(fd) as u64;
+    let highest = w.highest == words::word(fd) as u64;
+    let rings = w.rings == words::word(fd) as u64;
+    code & total & highest & rings & words::same_bytes(fd, &bytes)
+}
+
 // The smallest ring still refused: the ring and its chain, two numbers a point.
 fn smallest_ring(fd: i32) -> bool {
     let size = words::word(fd);
@@ -46,6 +65,9 @@ fn smallest_ring(fd: i32) -> bool {
 fn step(fd: i32, kind: u32) -> bool {
     if kind == 5 {
         return sheet(fd);
+    }
+    if kind == 6 {
+        return wear_record(fd);
     }
     if kind == 7 {
         return smallest_ring(fd);
@@ -84,6 +106,7 @@ fn file(path: &[u8]) -> Tally {
 
 fn main() {
     file(b"sheets.list");
+    file(b"wear.list");
     file(b"smallest.list");
     file(b"crossings.list");
 }

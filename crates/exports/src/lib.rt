@@ -14,9 +14,11 @@ ghost use Rattle.smallest.specs.Smallest as Rule;
 ghost use Rattle.writer.specs.Write as Write;
 use corner::Limits;
 ghost use Rattle.listing.specs.Sheet as Sheet;
+ghost use Rattle.wear.specs.Bytes as Bytes;
 use nodes::NodeNumber;
 use smallest::Smallest;
 use table::Values;
+use wear::Wear;
 
 // The divider call: one row of the table, and the lists as it says: nodes, their rim marks, and cells.
 #[no_mangle]
@@ -228,6 +230,14 @@ pub extern "C" fn node_sheet(nodes: &[f64], node_count: usize, out: &mut [u8]) -
     ensures { λ r. ⌜ (r ≡ Sheet.answer (now (nodes .entry)) «node_count» (now (out .entry))) × (now (out .exit) ≡ Sheet.left (now (nodes .entry)) «node_count» (now (out .entry))) ⌝ }
 {
     listing::node_sheet(nodes, node_count, out)
+}
+
+// A divider call's answer, its number and its cuts, into the record of the last 32 rings, in 34 bytes: the three values, or 20.
+#[no_mangle]
+pub extern "C" fn wear_add(record: &mut [u8], code: u64, cuts: u64) -> Wear
+    ensures { λ w. ⌜ (w ≡ Bytes.returned (now («record» .entry)) code cuts) × (now («record» .exit) ≡ Bytes.left (now («record» .entry)) code cuts) ⌝ }
+{
+    wear::wear_add(record, code, cuts)
 }
 
 // The square root, over bit patterns: a NaN that crosses as a double has bits that no promise names. `bench/root` runs it beside

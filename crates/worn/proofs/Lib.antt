@@ -1,0 +1,2 @@
+-- The record of wear over lists of divider calls.
+pub mod Worn
