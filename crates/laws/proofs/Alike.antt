@@ -3,7 +3,7 @@ use mathlib.Core.Path.{_≡_}
 use lib.Dec.{T}
 use lib.Ieee.{Float, le, lt, eq}
 use Rattle.laws.proofs.Booleans.{bool-ext}
-use Rattle.laws.proofs.Order.{eq-sym, eq→le, le-lt-trans-f, le-trans-f, lt-le-trans-f}
+use Rattle.laws.proofs.Order.{eq-sym, eq→le, le-lt-trans-f, lt-le-trans-f}
 
 module _ (x y : Float) (e : T (eq x y)) where
   there : T (le x y)
@@ -17,9 +17,3 @@ module _ (x y : Float) (e : T (eq x y)) where
 
   pub gt-alike : (z : Float) → lt z x ≡ lt z y
   gt-alike z = bool-ext (lt z x) (lt z y) (λ h. lt-le-trans-f z x y h there) (λ h. lt-le-trans-f z y x h back)
-
-  pub le-alike : (z : Float) → le x z ≡ le y z
-  le-alike z = bool-ext (le x z) (le y z) (λ h. le-trans-f y x z back h) (λ h. le-trans-f x y z there h)
-
-  pub ge-alike : (z : Float) → le z x ≡ le z y
-  ge-alike z = bool-ext (le z x) (le z y) (λ h. le-trans-f z x y h there) (λ h. le-trans-f z y x h back)
