@@ -1,5 +1,5 @@
 -- What the loop of simplify_chain has collected before the point i (`Collected`), and its turns: the point stays, with a snap
--- point, or it goes. Assumes nothing.
+-- point, or it goes.
 use Prim.Native.Nat.{ℕ, suc, _+_, _-_, _≤_, _<_}
 use native.Mathlib.Numerals.{add-one}
 use native.Mathlib.Omega.{arith}
@@ -37,7 +37,9 @@ pub record Collected (c : List GridPoint) (points : List GridPoint) (snaps : Lis
 
 -- ---- one stretch more
 -- in the arrays
-stretch-more : (points : List GridPoint) (snaps : List Point) (k : ℕ) → k + 1 < length points → k < length snaps → (l : List Stretch) → tab (stretchIn points snaps) k ≡ l → (a b : GridPoint) (p : Point) → getD points k origin ≡ a → tab (stretchIn (set points (k + 1) b) (set snaps k p)) (k + 1) ≡ l ++ (record { from = a; to = b; snap = p } ∷ [])
+stretch-more : (points : List GridPoint) (snaps : List Point) (k : ℕ) → k + 1 < length points → k < length snaps → (l : List Stretch)
+    → tab (stretchIn points snaps) k ≡ l → (a b : GridPoint) (p : Point) → getD points k origin ≡ a
+    → tab (stretchIn (set points (k + 1) b) (set snaps k p)) (k + 1) ≡ l ++ (record { from = a; to = b; snap = p } ∷ [])
 unfolding tab
 stretch-more points snaps k h g l e a b p f =
     ap (tab (stretchIn ps ss)) (add-one k) ∙ (λ j. old j ++ (record { from = fr j; to = to j; snap = sn j } ∷ []))
@@ -79,7 +81,8 @@ module _ (c : List GridPoint) (i w : ℕ) (p : 0 < i) (e : w ≡ Chain.lastKept 
   unfolding Chain.lastKept
   kept t h = let d = sym e in rw next (λ j. cond (h j) (back j) (d j))
 
-  stretches : (t : Bool) → Chain.stays c (i - 1) ≡ t → Chain.stretchesTo c (i + 1 - 1) ≡ cond t (Chain.stretchesTo c (i - 1) ++ (Chain.stretch c w i ∷ [])) (Chain.stretchesTo c (i - 1))
+  stretches : (t : Bool) → Chain.stays c (i - 1) ≡ t
+      → Chain.stretchesTo c (i + 1 - 1) ≡ cond t (Chain.stretchesTo c (i - 1) ++ (Chain.stretch c w i ∷ [])) (Chain.stretchesTo c (i - 1))
   unfolding Chain.stretchesTo
   stretches t h =
       let d = sym e in
@@ -137,7 +140,9 @@ kept-first c a e h = record {
 
 module _ (c points : List GridPoint) (snaps : List Point) (count w i : ℕ) (kept : Collected c points snaps count w i) where
   -- the point i stays
-  pub kept-more : i < 60 → Chain.stays c (i - 1) ≡ true → (b : GridPoint) → b ≡ pointAt c i → OnSheet b → (p : Point) → p ≡ Chain.pointAtArclength c (lit 5 1 *f (Chain.arc c w +f Chain.arc c i)) → Collected c (set points (count + 1) b) (set snaps count p) (count + 1) i (i + 1)
+  pub kept-more : i < 60 → Chain.stays c (i - 1) ≡ true → (b : GridPoint) → b ≡ pointAt c i → OnSheet b → (p : Point)
+      → p ≡ Chain.pointAtArclength c (lit 5 1 *f (Chain.arc c w +f Chain.arc c i))
+      → Collected c (set points (count + 1) b) (set snaps count p) (count + 1) i (i + 1)
   unfolding Chain.stretch
   kept-more h t b eb ob p ep = record {
     last = kept-taken c i w (omega arith) (kept .last) t;

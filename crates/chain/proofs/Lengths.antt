@@ -26,7 +26,8 @@ module _ (c : List GridPoint) (h : (i : ℕ) → OnSheet (pointAt c i)) where
   arc-in zero l = zero-within (0 * 2 ^ 14)
   arc-in (suc i) l =
       subst (λ (B : ℕ). Within B (arc c i +f gridDist (pointAt c i) (pointAt c (suc i)))) (next i)
-      (add-within binary64 (i * 2 ^ 14) (2 ^ 14) (arc c i) (gridDist (pointAt c i) (pointAt c (suc i))) (le-trans (bound i (omega arith)) (lit≤ tt)) (arc-in i (omega arith))
+      (add-within binary64 (i * 2 ^ 14) (2 ^ 14) (arc c i) (gridDist (pointAt c i) (pointAt c (suc i))) (le-trans (bound i (omega arith)) (lit≤ tt))
+      (arc-in i (omega arith))
       (gridDist-within (pointAt c i) (pointAt c (suc i)) (h i) (h (suc i))))
     where
       next : (i : ℕ) → i * 2 ^ 14 + 2 ^ 14 ≡ suc i * 2 ^ 14

@@ -7,7 +7,7 @@ use mathlib.Core.Bool.{Bool, true, false, _||_, not, cond}
 use Prim.Native.Nat.{ℕ, zero, suc, _+_, _*_, _^_, _≤_, _<_}
 use native.Mathlib.Nat.{mul-le-mul, mul-pos, zero-lt-suc}
 use native.Mathlib.Omega.{arith}
-use lib.IntN.{ℤ, pos, negsuc, natAbs, _*ℤ_}
+use lib.IntN.{ℤ, pos, negsuc, natAbs}
 use lib.Dec.{T, lit≤, not-T}
 use lib.Pow.{pow-pos}
 use lib.Ieee.{Float, fin, binary64, eq, fits, isNan, le, lt, ofInt, round}
@@ -21,8 +21,6 @@ use Rattle.laws.proofs.Clamp.{clamp-between, clamp-within}
 use Rattle.laws.proofs.Constants.{minus-one-is, one-is}
 use Rattle.laws.proofs.Fractions.{less, le→Le, plus}
 use Rattle.laws.proofs.Grid.{IsZ, isZ-eq, isZ-val}
-use Rattle.laws.proofs.Integers.{natAbs-add}
-use Rattle.laws.proofs.Signed.{product}
 use Rattle.laws.proofs.Order.{le-antisym-f, le-refl-f, le-trans-f, lt-le-trans-f, lt→not-le}
 use Rattle.laws.proofs.Quotient.{above-zero, quotient-real}
 use Rattle.laws.proofs.Results.{mul-rounds}
@@ -36,6 +34,7 @@ use Rattle.vector.specs.Grid as Grid
 use Rattle.vector.specs.Plane as Plane
 use Rattle.vector.specs.Size.{Step}
 use Rattle.vector.proofs.RustDoubles as exact
+use Rattle.vector.proofs.Sheet.{dot-fits}
 use Rattle.root.specs.Norm.{norm, gridNorm}
 use Rattle.root.proofs.Length.{gridNorm-within}
 use Rattle.root.proofs.RustLengths.{norm-in-mm}
@@ -48,7 +47,8 @@ unfolding fits le lt eq
 product-above x y p q h k =
     let a = nonneg x p (le-trans-f naught unit x tt h) in
     let b = nonneg y q (le-trans-f naught unit y tt k) in
-    rounds-ge binary64 (x *f y) (fin false 1 (negsuc 25)) (plus x * plus y + less x * less y) (plus x * less y + less x * plus y) (den x * den y) (mul-pos (den-pos x) (den-pos y))
+    rounds-ge binary64 (x *f y) (fin false 1 (negsuc 25)) (plus x * plus y + less x * less y) (plus x * less y + less x * plus y) (den x * den y)
+    (mul-pos (den-pos x) (den-pos y))
     (mul-rounds binary64 x y p q) tt tt
     (go (plus x) (less x) (den x) (plus y) (less y) (den y) a b (le→Le unit x tt p h) (le→Le unit y tt q k))
   where
@@ -95,14 +95,11 @@ cosine-is : (a b : GridPoint) → cosine a b ≡ cond (Grid.same a Grid.origin |
 unfolding cosine
 cosine-is a b = λ i. cond (Grid.same a Grid.origin || Grid.same b Grid.origin) (one-is i) (clamp (minus-one-is i) (one-is i) (quotient a b))
 
-dot-fits : (a b : GridPoint) → Step a → Step b → natAbs (Grid.dot a b) ≤ 2 ^ 53
-unfolding Grid.dot
-dot-fits a b h k = omega (arith, natAbs-add (a .x *ℤ b .x) (a .y *ℤ b .y), product (a .x) (b .x) (h .x) (k .x), product (a .y) (b .y) (h .y) (k .y))
-
 module _ (a b : GridPoint) (h : Step a) (k : Step b) where
   real : Grid.same a Grid.origin ≡ false → Grid.same b Grid.origin ≡ false → T (not (isNan (quotient a b)))
   real p q =
-      quotient-real binary64 (mm² (Grid.dot a b)) (gridNorm a *f gridNorm b) (isZ-val (mm² (Grid.dot a b)) (Grid.dot a b) (2 ^ 26) (mm²-isZ (Grid.dot a b) (dot-fits a b h k)) .0)
+      quotient-real binary64 (mm² (Grid.dot a b)) (gridNorm a *f gridNorm b)
+      (isZ-val (mm² (Grid.dot a b)) (Grid.dot a b) (2 ^ 26) (mm²-isZ (Grid.dot a b) (dot-fits a b h k)) .0)
       (finite-norms a b h k) (norms-above a b h k p q)
 
   pub cosine-range : InRange (cosine a b)
@@ -128,7 +125,8 @@ module _ (a b : GridPoint) (h : Step a) (k : Step b) where
   dotMm = Plane.dot (Plane.inMm a) (Plane.inMm b)
 
   -- the Rust's tests and norms, by the grid's
-  rust-is : rustCosine (Plane.inMm a) (Plane.inMm b) ≡ cond (Grid.same a Grid.origin || Grid.same b Grid.origin) one (clamp minusOne one (dotMm /f (gridNorm a *f gridNorm b)))
+  rust-is : rustCosine (Plane.inMm a) (Plane.inMm b)
+      ≡ cond (Grid.same a Grid.origin || Grid.same b Grid.origin) one (clamp minusOne one (dotMm /f (gridNorm a *f gridNorm b)))
   rust-is =
       let p = rust-short-is-zero (nat 0) (from-0 .0) (from-0 .1) a h in
       let q = rust-short-is-zero (nat 0) (from-0 .0) (from-0 .1) b k in
@@ -139,13 +137,15 @@ module _ (a b : GridPoint) (h : Step a) (k : Step b) where
   pub cosine-same : (Grid.dot a b ≡ pos 0 → ⊥) → rustCosine (Plane.inMm a) (Plane.inMm b) ≡ cosine a b
   cosine-same n =
       let e = exact.dot a b h k .same n in
-      rust-is ∙ (λ i. cond (Grid.same a Grid.origin || Grid.same b Grid.origin) one (clamp minusOne one (e i /f (gridNorm a *f gridNorm b)))) ∙ sym (cosine-is a b)
+      rust-is ∙ (λ i. cond (Grid.same a Grid.origin || Grid.same b Grid.origin) one (clamp minusOne one (e i /f (gridNorm a *f gridNorm b))))
+      ∙ sym (cosine-is a b)
 
   self : T (eq (cosine a b) (cosine a b))
   self = let r = le-refl-f (cosine a b) (cosine-range a b h k .0) in le-antisym-f (cosine a b) (cosine a b) r r
 
   -- where dot is 0, both quotients are zeros
-  at-right-angles : (x : Float) → IsZ x (pos 0) (2 ^ 26) → Grid.same a Grid.origin ≡ false → Grid.same b Grid.origin ≡ false → IsZ (clamp minusOne one (x /f (gridNorm a *f gridNorm b))) (pos 0) 1
+  at-right-angles : (x : Float) → IsZ x (pos 0) (2 ^ 26) → Grid.same a Grid.origin ≡ false → Grid.same b Grid.origin ≡ false
+      → IsZ (clamp minusOne one (x /f (gridNorm a *f gridNorm b))) (pos 0) 1
   at-right-angles x z p q =
       let y = x /f (gridNorm a *f gridNorm b) in
       let o = zero-over binary64 x (gridNorm a *f gridNorm b) (2 ^ 26) (pow-pos 26) z (finite-norms a b h k) (norms-above a b h k p q) in
@@ -167,6 +167,10 @@ module _ (a b : GridPoint) (h : Step a) (k : Step b) where
           (at-right-angles (mm² (Grid.dot a b)) (subst (λ (d : ℤ). IsZ (mm² (Grid.dot a b)) d (2 ^ 26)) z (mm²-isZ (Grid.dot a b) (dot-fits a b h k))) e f)
 
       go : (d : ℤ) → Grid.dot a b ≡ d → T (eq (rustCosine (Plane.inMm a) (Plane.inMm b)) (cosine a b))
-      go (pos zero) z = subst (λ (x : Float). T (eq x (cosine a b))) (sym rust-is) (subst (λ (y : Float). T (eq (cond (Grid.same a Grid.origin || Grid.same b Grid.origin) one (clamp minusOne one (dotMm /f (gridNorm a *f gridNorm b)))) y)) (sym (cosine-is a b)) (zeros (Grid.same a Grid.origin) (Grid.same b Grid.origin) refl refl z))
+      go (pos zero) z =
+          subst (λ (x : Float). T (eq x (cosine a b))) (sym rust-is)
+          (subst (λ (y : Float). T
+          (eq (cond (Grid.same a Grid.origin || Grid.same b Grid.origin) one (clamp minusOne one (dotMm /f (gridNorm a *f gridNorm b)))) y))
+          (sym (cosine-is a b)) (zeros (Grid.same a Grid.origin) (Grid.same b Grid.origin) refl refl z))
       go (pos (suc n)) z = subst (λ (x : Float). T (eq x (cosine a b))) (sym (cosine-same (λ e. omega (arith, ap natAbs (sym z ∙ e))))) self
       go (negsuc n) z = subst (λ (x : Float). T (eq x (cosine a b))) (sym (cosine-same (λ e. omega (arith, ap natAbs (sym z ∙ e))))) self

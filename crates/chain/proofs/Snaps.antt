@@ -20,37 +20,23 @@ use Rattle.laws.specs.Within.{Within, InUnit}
 use Rattle.laws.proofs.Bounds.{sub-within, middle-within}
 use Rattle.laws.proofs.Clamp.{clamp-unit}
 use Rattle.laws.proofs.Constants.{lit-half}
-use Rattle.laws.proofs.Lerp.{mm-lerp}
 use Rattle.laws.proofs.Quotient.{quotient-real, above-zero}
 use Rattle.laws.proofs.Search.{first-le}
-use Rattle.laws.proofs.Units.{mm-within}
 use Rattle.vector.specs.declared.GridPoint.{GridPoint}
-use Rattle.vector.specs.declared.Point.{Point}
-use Rattle.laws.specs.Units.{mm}
 use Rattle.vector.specs.Plane.{inMm, lerp}
-use Rattle.vector.specs.Size.{OnSheet}
+use Rattle.vector.specs.Size.{InSheet}
+use Rattle.vector.proofs.Sheet.{point-in, between-in}
 use Rattle.chain.specs.Chain.{pointAt, arc, stays, lastKept, pointAtArclength, Stretch, noStretch, stretch, stretchesTo, simplifyChain}
 use Rattle.chain.specs.Range.{ChainOnSheet, SnapsInRange}
 use Rattle.chain.proofs.Lengths.{arc-within}
 
--- finite and within 1,024 mm either way
-abbrev InSheet : Point → Type 0
-InSheet p = Within 1024 (p .x) × Within 1024 (p .y)
-
--- ---- a point of the sheet, and one between two of them
-point-in : (p : GridPoint) → OnSheet p → InSheet (inMm p)
-unfolding inMm Units.mm
-point-in p h = (mm-within (p .x) (h .x), mm-within (p .y) (h .y))
-
-between-in : (a b : GridPoint) (t : Float) → OnSheet a → OnSheet b → InUnit t → InSheet (lerp (inMm a) (inMm b) t)
-unfolding lerp inMm Units.mm
-between-in a b t h k u = (mm-lerp (a .x) (b .x) t (h .x) (k .x) u, mm-lerp (a .y) (b .y) t (h .y) (k .y) u)
-
 -- ---- the point at a length
 -- the parameter: how far s lies into a span that is above 0
-pub parameter-unit : (s from span : Float) → Within (2 ^ 20) s → Within (2 ^ 20) from → Within (2 ^ 21) span → T (not (span ≤f nat 0)) → InUnit (clamp (nat 0) (nat 1) ((s -f from) /f span))
+pub parameter-unit : (s from span : Float) → Within (2 ^ 20) s → Within (2 ^ 20) from → Within (2 ^ 21) span → T (not (span ≤f nat 0))
+    → InUnit (clamp (nat 0) (nat 1) ((s -f from) /f span))
 parameter-unit s from span h k l n =
-    clamp-unit ((s -f from) /f span) (quotient-real binary64 (s -f from) span (sub-within binary64 (2 ^ 20) (2 ^ 20) s from (lit≤ tt) h k .0) (l .0) (above-zero span (l .0) n))
+    clamp-unit ((s -f from) /f span)
+    (quotient-real binary64 (s -f from) span (sub-within binary64 (2 ^ 20) (2 ^ 20) s from (lit≤ tt) h k .0) (l .0) (above-zero span (l .0) n))
 
 module _ (c : List GridPoint) (h : ChainOnSheet c) where
   pub pointAtArclength-in-range : (s : Float) → Within (2 ^ 20) s → InSheet (pointAtArclength c s)
@@ -72,18 +58,21 @@ module _ (c : List GridPoint) (h : ChainOnSheet c) where
       span : Float
       span = arc c (suc i) -f arc c i
 
-      go : (b : Bool) → span ≤f nat 0 ≡ b → InSheet (cond b (inMm (pointAt c (suc i))) (lerp (inMm (pointAt c i)) (inMm (pointAt c (suc i))) (clamp (nat 0) (nat 1) ((s -f arc c i) /f span))))
+      go : (b : Bool) → span ≤f nat 0 ≡ b
+          → InSheet (cond b (inMm (pointAt c (suc i))) (lerp (inMm (pointAt c i)) (inMm (pointAt c (suc i))) (clamp (nat 0) (nat 1) ((s -f arc c i) /f span))))
       go true e = point-in (pointAt c (suc i)) (h .each (suc i))
       go false e =
           between-in (pointAt c i) (pointAt c (suc i)) (clamp (nat 0) (nat 1) ((s -f arc c i) /f span)) (h .each i) (h .each (suc i))
-          (parameter-unit s (arc c i) span w from (sub-within binary64 (2 ^ 20) (2 ^ 20) (arc c (suc i)) (arc c i) (lit≤ tt) to from) (subst (λ (b : Bool). T (not b)) (sym e) tt))
+          (parameter-unit s (arc c i) span w from (sub-within binary64 (2 ^ 20) (2 ^ 20) (arc c (suc i)) (arc c i) (lit≤ tt) to from)
+          (subst (λ (b : Bool). T (not b)) (sym e) tt))
 
   -- ---- every kept stretch
   stretch-in : (i j : ℕ) → i ≤ 60 → j ≤ 60 → InSheet (stretch c i j .snap)
   unfolding stretch
   stretch-in i j a b =
       pointAtArclength-in-range (lit 5 1 *f (arc c i +f arc c j))
-      (subst (λ (u : Float). Within (2 ^ 20) (u *f (arc c i +f arc c j))) (sym lit-half) (middle-within binary64 (2 ^ 20) (arc c i) (arc c j) (lit≤ tt) (arc-within c (h .each) i a) (arc-within c (h .each) j b)))
+      (subst (λ (u : Float). Within (2 ^ 20) (u *f (arc c i +f arc c j))) (sym lit-half)
+      (middle-within binary64 (2 ^ 20) (arc c i) (arc c j) (lit≤ tt) (arc-within c (h .each) i a) (arc-within c (h .each) j b)))
 
   lastKept-le : (i : ℕ) → lastKept c i ≤ i
   unfolding lastKept

@@ -1,5 +1,5 @@
 -- A chain kept in the first n places of an array, as the code reads it: one length more, the search for a length, whether
--- a point stays. Assumes nothing.
+-- a point stays.
 use Prim.Native.Nat.{ℕ, zero, suc, _+_, _-_, _%_, _≤_, _<_}
 use native.Mathlib.Nat.{mod-eq-of-lt}
 use native.Mathlib.Numerals.{add-one}
@@ -29,7 +29,8 @@ use Rattle.chain.specs.Chain.{pointAt}
 
 -- ---- lengths
 module _ (ps : List GridPoint) (n : ℕ) where
-  pub arc-more : (i : ℕ) → 0 < i → i < n → (x d : Float) → x ≡ Chain.arc (take n ps) (i - 1) → d ≡ gridDist (getD ps (i - 1) origin) (getD ps i origin) → x +f d ≡ Chain.arc (take n ps) i
+  pub arc-more : (i : ℕ) → 0 < i → i < n → (x d : Float) → x ≡ Chain.arc (take n ps) (i - 1) → d ≡ gridDist (getD ps (i - 1) origin) (getD ps i origin)
+      → x +f d ≡ Chain.arc (take n ps) i
   unfolding Chain.arc
   arc-more i p l x d ex ed =
       let f : suc (i - 1) ≡ i = omega arith in
@@ -47,10 +48,12 @@ module _ (ps : List GridPoint) (n : ℕ) where
       let b = sym (getD-take n ps i origin l) ∙ ap (pointAt (take n ps)) (sym f) in
       ed ∙ (λ j. gridDist (b j) (a j)) ∙ ap (stepTo (take n ps)) f
 
-  pub step-in : (st : List Float) → take n st ≡ tab (stepTo (take n ps)) n → (i : ℕ) → 0 < i → i < n → getD st i nan ≡ gridDist (getD ps i origin) (getD ps (i - 1) origin)
+  pub step-in : (st : List Float) → take n st ≡ tab (stepTo (take n ps)) n → (i : ℕ) → 0 < i → i < n
+      → getD st i nan ≡ gridDist (getD ps i origin) (getD ps (i - 1) origin)
   step-in st e i p l = read-tab st (stepTo (take n ps)) n i nan e l ∙ sym (step-more i p l (gridDist (getD ps i origin) (getD ps (i - 1) origin)) refl)
 
-  pub step-after : (st : List Float) → take n st ≡ tab (stepTo (take n ps)) n → (i j : ℕ) → i < n → j ≡ (i + 1) % n → eqb (i + 1) n ≡ false → getD st j nan ≡ gridDist (getD ps j origin) (getD ps i origin)
+  pub step-after : (st : List Float) → take n st ≡ tab (stepTo (take n ps)) n → (i j : ℕ) → i < n → j ≡ (i + 1) % n → eqb (i + 1) n ≡ false
+      → getD st j nan ≡ gridDist (getD ps j origin) (getD ps i origin)
   step-after st e i j l ej k =
       let z : i + 1 < n = let y = eqb-false (i + 1) n k in omega arith in
       let h : i + 1 - 1 ≡ i = omega arith in
@@ -62,7 +65,8 @@ onStep a low b high s =
     cond (high -f low ≤f nat 0) (inMm b) (lerp (inMm a) (inMm b) (clamp (nat 0) (nat 1) ((s -f low) /f (high -f low))))
 
 module _ (ps : List GridPoint) (arc : List Float) (n : ℕ) (h : n ≤ length ps) (m : 2 ≤ n) (e : take n arc ≡ tab (Chain.arc (take n ps)) n) (s : Float) where
-  pub at-length : (i : ℕ) → i ≤ n - 2 → i ≡ first (λ i. s ≤f getD arc (suc i) nan) (n - 2) 0 → (r : Point) → r ≡ onStep (getD ps i origin) (getD arc i nan) (getD ps (i + 1) origin) (getD arc (i + 1) nan) s → r ≡ Chain.pointAtArclength (take n ps) s
+  pub at-length : (i : ℕ) → i ≤ n - 2 → i ≡ first (λ i. s ≤f getD arc (suc i) nan) (n - 2) 0 → (r : Point)
+      → r ≡ onStep (getD ps i origin) (getD arc i nan) (getD ps (i + 1) origin) (getD arc (i + 1) nan) s → r ≡ Chain.pointAtArclength (take n ps) s
   unfolding Chain.pointAtArclength
   at-length i l ei r er =
       let c = take n ps in
@@ -71,7 +75,9 @@ module _ (ps : List GridPoint) (arc : List Float) (n : ℕ) (h : n ≤ length ps
       let u = read-tab arc (Chain.arc c) n i nan e (omega arith) in
       let v = read-tab arc (Chain.arc c) n (i + 1) nan e (omega arith) ∙ ap (Chain.arc c) (add-one i) in
       let g : i ≡ first (λ i. s ≤f Chain.arc c (suc i)) (length c - 2) 0 =
-      ei ∙ first-ext (λ i. s ≤f getD arc (suc i) nan) (λ i. s ≤f Chain.arc c (suc i)) (n - 2) 0 (λ k x y. ap (λ (z : Float). s ≤f z) (read-tab arc (Chain.arc c) n (suc k) nan e (omega arith))) ∙ ap (λ (k : ℕ). first (λ i. s ≤f Chain.arc c (suc i)) (k - 2) 0) (sym (length-take-le n ps h)) in
+      ei ∙ first-ext (λ i. s ≤f getD arc (suc i) nan) (λ i. s ≤f Chain.arc c (suc i)) (n - 2) 0
+      (λ k x y. ap (λ (z : Float). s ≤f z) (read-tab arc (Chain.arc c) n (suc k) nan e (omega arith)))
+      ∙ ap (λ (k : ℕ). first (λ i. s ≤f Chain.arc c (suc i)) (k - 2) 0) (sym (length-take-le n ps h)) in
       er ∙ (λ j. onStep (a j) (u j) (b j) (v j) s) ∙ ap (λ (k : ℕ). onStep (pointAt c k) (Chain.arc c k) (pointAt c (suc k)) (Chain.arc c (suc k)) s) g
 
 -- ---- whether a point stays
@@ -81,7 +87,8 @@ turned a b c last =
     last || same (sub b a) origin || same (sub c b) origin || (cosine (sub b a) (sub c b) <f lit 9063077870366499 16)
 
 module _ (ps : List GridPoint) (n : ℕ) (h : n ≤ length ps) (i : ℕ) (p : 0 < i) (l : i < n) where
-  at-turn : (j : ℕ) → j ≡ (i + 1) % n → (t : Bool) → eqb (i + 1) n ≡ t → turned (getD ps (i - 1) origin) (getD ps i origin) (getD ps j origin) t ≡ Chain.stays (take n ps) (i - 1)
+  at-turn : (j : ℕ) → j ≡ (i + 1) % n → (t : Bool) → eqb (i + 1) n ≡ t
+      → turned (getD ps (i - 1) origin) (getD ps i origin) (getD ps j origin) t ≡ Chain.stays (take n ps) (i - 1)
   unfolding Chain.stays
   at-turn j ej true k =
       let z = eqb-true (i + 1) n k in
@@ -97,5 +104,6 @@ module _ (ps : List GridPoint) (n : ℕ) (h : n ≤ length ps) (i : ℕ) (p : 0 
       let c = ap (λ (k : ℕ). getD ps k origin) (ej ∙ mod-eq-of-lt z) ∙ sym (getD-take n ps (i + 1) origin z) ∙ ap (pointAt (take n ps)) g in
       (λ k. turned (a k) (b k) (c k) (sym q k))
 
-  pub stays-in : (j : ℕ) → j ≡ (i + 1) % n → (r : Bool) → r ≡ turned (getD ps (i - 1) origin) (getD ps i origin) (getD ps j origin) (eqb (i + 1) n) → r ≡ Chain.stays (take n ps) (i - 1)
+  pub stays-in : (j : ℕ) → j ≡ (i + 1) % n → (r : Bool) → r ≡ turned (getD ps (i - 1) origin) (getD ps i origin) (getD ps j origin) (eqb (i + 1) n)
+      → r ≡ Chain.stays (take n ps) (i - 1)
   stays-in j ej r er = er ∙ at-turn j ej (eqb (i + 1) n) refl

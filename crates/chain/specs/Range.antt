@@ -2,9 +2,8 @@
 use Prim.Native.Nat.{ℕ, _≤_, _<_}
 use mathlib.Core.List.{List}
 use lib.ListN.{length, getD}
-use Rattle.laws.specs.Within.{Within}
 use Rattle.vector.specs.declared.GridPoint.{GridPoint}
-use Rattle.vector.specs.Size.{OnSheet}
+use Rattle.vector.specs.Size.{OnSheet, InSheet}
 use Rattle.chain.specs.Chain.{pointAt, Stretch, noStretch}
 
 -- 01, Units: a chain of 0 to 60 points, all on the sheet
@@ -14,4 +13,4 @@ pub record ChainOnSheet (c : List GridPoint) : Type 0 where
 
 -- the snap point of each stretch is finite and within 1,024 mm either way
 abbrev pub SnapsInRange : List Stretch → Type 0
-SnapsInRange ss = (k : ℕ) → k < length ss → Within 1024 (getD ss k noStretch .snap .x) × Within 1024 (getD ss k noStretch .snap .y)
+SnapsInRange ss = (k : ℕ) → k < length ss → InSheet (getD ss k noStretch .snap)

@@ -30,19 +30,6 @@ pub struct Simplified {
     pub count: usize,
 }
 
-// x held to [lo, hi].
-fn clamp(x: f64, lo: f64, hi: f64) -> f64
-    ensures { λ r. ⌜ r ≡ Double.clamp lo hi x ⌝ }
-{
-    if x < lo {
-        return lo;
-    }
-    if hi < x {
-        return hi;
-    }
-    x
-}
-
 // The cosine of two steps. Their norms come in, so that a caller that compares one step with several computes its norm
 // once.
 pub fn cosine(a: GridPoint, na: f64, b: GridPoint, nb: f64) -> f64
@@ -55,7 +42,7 @@ pub fn cosine(a: GridPoint, na: f64, b: GridPoint, nb: f64) -> f64
     if b.is_zero() {
         return 1.0;
     }
-    clamp(vector::square_mm(a.dot(b)) / (na * nb), -1.0, 1.0)
+    vector::clamp(vector::square_mm(a.dot(b)) / (na * nb), -1.0, 1.0)
 }
 
 // The length of the step to each point of a chain, and of the chain up to it.
@@ -103,7 +90,7 @@ fn between(a: GridPoint, low: f64, b: GridPoint, high: f64, s: f64) -> Point
     if span <= 0.0 {
         return Point::new(b);
     }
-    let t = clamp((s - low) / span, 0.0, 1.0);
+    let t = vector::clamp((s - low) / span, 0.0, 1.0);
     Point::new(a).lerp(Point::new(b), t)
 }
 
@@ -120,7 +107,8 @@ fn point_at_arclength(chain: [GridPoint; 60], arc: &[f64; 60], n: usize, s: f64)
 // 25 degrees. The lengths of the two steps come in.
 fn stays(a: GridPoint, b: GridPoint, c: GridPoint, nu: f64, nv: f64, last: bool) -> bool
     requires { ⌜ OnSheet a × OnSheet b × OnSheet c × (nu ≡ Norm.gridDist b a) × (last ≡ false → nv ≡ Norm.gridDist c b) ⌝ }
-    ensures { λ r. ⌜ r ≡ (last || Grid.same (Grid.sub b a) Grid.origin || Grid.same (Grid.sub c b) Grid.origin || (Cosine.cosine (Grid.sub b a) (Grid.sub c b) <f lit 9063077870366499 16)) ⌝ }
+    ensures { λ r. ⌜ r ≡ (last || Grid.same (Grid.sub b a) Grid.origin || Grid.same (Grid.sub c b) Grid.origin
+        || (Cosine.cosine (Grid.sub b a) (Grid.sub c b) <f lit 9063077870366499 16)) ⌝ }
 {
     let u = b.sub(a);
     let v = c.sub(b);

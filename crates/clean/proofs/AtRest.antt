@@ -58,9 +58,12 @@ module _ (tol : Float) (r : List GridPoint) where
 
   straight-none : straightened tol r ≡ r → 3 < length r → ((i : ℕ) → i < length r → flat tol r i ≡ false) ⊎ (length (bent tol r (length r)) < 3)
   unfolding straightened
-  straight-none e l = go (leb 3 (length (bent tol r (length r)))) refl (ap (λ (b : Bool). cond (b && leb 3 (length (bent tol r (length r)))) (bent tol r (length r)) r) (sym (lt-ltb 3 (length r) l)) ∙ e)
+  straight-none e l =
+      go (leb 3 (length (bent tol r (length r)))) refl
+      (ap (λ (b : Bool). cond (b && leb 3 (length (bent tol r (length r)))) (bent tol r (length r)) r) (sym (lt-ltb 3 (length r) l)) ∙ e)
     where
-      go : (b : Bool) → leb 3 (length (bent tol r (length r))) ≡ b → cond (true && b) (bent tol r (length r)) r ≡ r → ((i : ℕ) → i < length r → flat tol r i ≡ false) ⊎ (length (bent tol r (length r)) < 3)
+      go : (b : Bool) → leb 3 (length (bent tol r (length r))) ≡ b → cond (true && b) (bent tol r (length r)) r ≡ r
+          → ((i : ℕ) → i < length r → flat tol r i ≡ false) ⊎ (length (bent tol r (length r)) < 3)
       go true f e = inl (bent-none (length r) (le-refl (length r)) (ap length e))
       go false f e = inr (omega (arith, leb-false 3 (length (bent tol r (length r))) f))
 
@@ -101,7 +104,8 @@ module _ (size : ℕ) (r : List GridPoint) where
     where
       stopped : (c : List GridPoint) → Settled (tolerance size) c → stops (tolerance size) c ≡ true
       stopped c (inl l) = ap (λ (b : Bool). b || eqb (length (pass (tolerance size) c)) (length c)) (lt-ltb (length c) 3 l)
-      stopped c (inr e) = ap (λ (b : Bool). ltb (length c) 3 || b) (eq-eqb (length (pass (tolerance size) c)) (length c) (ap length e)) ∙ or-true (ltb (length c) 3)
+      stopped c (inr e) =
+          ap (λ (b : Bool). ltb (length c) 3 || b) (eq-eqb (length (pass (tolerance size) c)) (length c) (ap length e)) ∙ or-true (ltb (length c) 3)
         where
           or-true : (b : Bool) → (b || true) ≡ true
           or-true true = refl
@@ -118,5 +122,8 @@ sliver = corner 0 0 ∷ corner 1 0 ∷ corner 2 1 ∷ corner 1 1 ∷ []
     corner x y = record { x = pos x; y = pos y }
 
 pub flat-left : (cleanPolygon 1024 sliver ≡ sliver) × (flat (tolerance 1024) sliver 1 ≡ true) × (flat (tolerance 1024) sliver 3 ≡ true)
-unfolding tolerance near spaced opened pointSegmentDistance flat bent straightened pass passes cleanPolygon norm dist gridNorm gridDist in-root Units.mm Units.mm² Grid.sub Grid.dot Grid.same Grid.at Grid.prev Plane.inMm Plane.sub Plane.dot Plane.lerp lit clamp Ieee.add Ieee.sub Ieee.mul Ieee.div Ieee.lt Ieee.le Ieee.ofInt Ieee.round Ieee.size Ieee.units
+unfolding tolerance near spaced opened pointSegmentDistance flat bent straightened pass passes cleanPolygon norm dist
+    gridNorm gridDist in-root Units.mm Units.mm² Grid.sub Grid.dot Grid.same Grid.at Grid.prev Plane.inMm Plane.sub
+    Plane.dot Plane.lerp lit clamp Ieee.add Ieee.sub Ieee.mul Ieee.div Ieee.lt Ieee.le Ieee.ofInt Ieee.round Ieee.size
+    Ieee.units
 flat-left = (refl, refl, refl)

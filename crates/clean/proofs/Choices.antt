@@ -1,4 +1,4 @@
--- A choice of places as the code holds it: how many points it has, and which point each is. Assumes nothing.
+-- A choice of places as the code holds it: how many points it has, and which point each is.
 use Prim.Native.Nat.{ℕ, suc, _+_, _-_, _*_, _%_, _<_}
 use native.Mathlib.Nat.{le-refl}
 use native.Mathlib.Omega.{arith}
@@ -47,7 +47,8 @@ module _ (ring : List GridPoint) (c : Choice) (a : Chosen ring c) where
 
   pub chosen-at : (i : ℕ) → i < c .count → getD (chosen ring c) i origin ≡ point ring c i
   chosen-at i h =
-      map-getD (λ (k : ℕ). getD ring k origin) (placesOf c) i 0 origin (omega (arith, places-length)) ∙ ap (λ (k : ℕ). getD ring k origin) (getD-take (c .count) (c .places) i 0 h)
+      map-getD (λ (k : ℕ). getD ring k origin) (placesOf c) i 0 origin (omega (arith, places-length))
+      ∙ ap (λ (k : ℕ). getD ring k origin) (getD-take (c .count) (c .places) i 0 h)
 
   module _ (i : ℕ) (l : i < c .count) where
     some : 0 < length (chosen ring c)

@@ -1,5 +1,5 @@
 -- The cleaned ring is the image of the kept places (`kept-image`), which rise and are places of the ring (`kept-rising`).
--- So each step of a pass leaves the points at the places that it keeps. Assumes nothing.
+-- So each step of a pass leaves the points at the places that it keeps.
 use Prim.Native.Nat.{ℕ, zero, suc, _+_, _-_, _≤_, _<_}
 use native.Mathlib.Nat.{le-refl}
 use native.Mathlib.Decide.{decLe}
@@ -51,7 +51,8 @@ module _ {A : Type 0} (d : A) (l : List A) where
   choose-all = choose-front (length l) (le-refl (length l)) ∙ take-length l
 
   -- places among places
-  pub choose-among : (ks ws : List ℕ) → ((i : ℕ) → i < length ws → getD ws i 0 < length ks) → map (λ (w : ℕ). getD (at-places ks) w d) ws ≡ at-places (among ks ws)
+  pub choose-among : (ks ws : List ℕ) → ((i : ℕ) → i < length ws → getD ws i 0 < length ks)
+      → map (λ (w : ℕ). getD (at-places ks) w d) ws ≡ at-places (among ks ws)
   choose-among ks [] h = refl
   choose-among ks (w ∷ ws) h =
       let e = map-getD (λ (k : ℕ). getD l k d) ks w 0 d (h 0 (omega arith)) in
@@ -100,7 +101,8 @@ rising-snoc n ks h = record { below = low; rising = up }
 rising-take : (n m : ℕ) (ks : List ℕ) → m ≤ length ks → Rising n ks → Rising n (take m ks)
 rising-take n m ks l h = record {
   below = λ i k. let q : i < m = rw e at k in rw (getD-take m ks i 0 q) (h .below i (omega arith));
-  rising = λ i j k o. let q : j < m = rw e at o in let p : i < m = omega arith in rw (getD-take m ks i 0 p, getD-take m ks j 0 q) (h .rising i j k (omega arith));
+  rising =
+      λ i j k o. let q : j < m = rw e at o in let p : i < m = omega arith in rw (getD-take m ks i 0 p, getD-take m ks j 0 q) (h .rising i j k (omega arith));
 }
   where
     e : length (take m ks) ≡ m
@@ -255,7 +257,8 @@ module _ (tol : Float) where
       ks : List ℕ
       ks = passPlaces tol r
 
-      go : (b : Bool) → Rising (length (pick r ks)) (passesPlaces d tol (pick r ks)) → Rising (length r) (cond b (places (length r)) (among ks (passesPlaces d tol (pick r ks))))
+      go : (b : Bool) → Rising (length (pick r ks)) (passesPlaces d tol (pick r ks))
+          → Rising (length r) (cond b (places (length r)) (among ks (passesPlaces d tol (pick r ks))))
       go true h = rising-places (length r)
       go false h = rising-among (length r) ks (passesPlaces d tol (pick r ks)) (pass-rising r) (rw (pick-length r ks) at h)
 
@@ -273,10 +276,12 @@ module _ (tol : Float) where
       ks : List ℕ
       ks = passPlaces tol r
 
-      low : Rising (length (pick r ks)) (passesPlaces d tol (pick r ks)) → (i : ℕ) → i < length (passesPlaces d tol (pick r ks)) → getD (passesPlaces d tol (pick r ks)) i 0 < length ks
+      low : Rising (length (pick r ks)) (passesPlaces d tol (pick r ks)) → (i : ℕ) → i < length (passesPlaces d tol (pick r ks))
+          → getD (passesPlaces d tol (pick r ks)) i 0 < length ks
       low h i k = rw (← pick-length r ks) (h .below i k)
 
-      go : (b : Bool) → cond b (pick r (places (length r))) (pick r (among ks (passesPlaces d tol (pick r ks)))) ≡ pick r (cond b (places (length r)) (among ks (passesPlaces d tol (pick r ks))))
+      go : (b : Bool) → cond b (pick r (places (length r))) (pick r (among ks (passesPlaces d tol (pick r ks))))
+          ≡ pick r (cond b (places (length r)) (among ks (passesPlaces d tol (pick r ks))))
       go true = refl
       go false = refl
 

@@ -21,11 +21,10 @@ use Rattle.laws.proofs.Between.{within-real}
 use Rattle.laws.proofs.Booleans.{bool-ext}
 use Rattle.laws.proofs.Constants.{one-is, zero-is}
 use Rattle.laws.proofs.Grid.{IsZ, add-to-isZ, mul-isZ, scaled-isZ}
-use Rattle.laws.proofs.Integers.{natAbs-add}
 use Rattle.laws.proofs.Order.{not-lt-is-le}
 use Rattle.laws.proofs.RustDoubles.{Holds}
 use Rattle.laws.proofs.Scaled.{ofInt-scaled, scaled}
-use Rattle.laws.proofs.Signed.{diff-small, product}
+use Rattle.laws.proofs.Signed.{diff-small}
 use Rattle.laws.proofs.Units.{mm-is, mm-isZ, mm-sub}
 use Rattle.laws.proofs.WholeQuotient.{clamp-zero, holds-isZ, num-above, quotient, zero-over}
 use Rattle.vector.specs.declared.GridPoint.{GridPoint}
@@ -34,10 +33,10 @@ use Rattle.vector.specs.Grid as Grid
 use Rattle.vector.specs.Grid.{at, prev}
 use Rattle.vector.specs.Plane as Plane
 use Rattle.vector.specs.Plane.{inMm, lerp}
-use Rattle.vector.specs.Size.{AllOnSheet, OnSheet, Step}
+use Rattle.vector.specs.Size.{AllOnSheet, OnSheet}
 use Rattle.vector.proofs.RustDoubles as exact
 use Rattle.vector.proofs.Same.{same→, →same, same-comm, step-zero}
-use Rattle.vector.proofs.Sheet.{at-on, prev-on, step}
+use Rattle.vector.proofs.Sheet.{at-on, prev-on, step, dot-fits}
 use Rattle.root.specs.Norm.{dist, gridDist}
 use Rattle.root.proofs.Length.{gridDist-within}
 use Rattle.root.proofs.RustLengths.{dist-in-mm, dot-is, dot-zero, square-sum}
@@ -61,7 +60,8 @@ same-near tol a b h k = ap (λ (d : Float). le d tol) (dist-in-mm a b h k)
 pub same-kept : (tol : Float) (a b : GridPoint) → T (not (isNan tol)) → OnSheet a → OnSheet b → not (near tol a b) ≡ (tol <f dist (inMm a) (inMm b))
 unfolding near
 same-kept tol a b r h k =
-    ap not (sym (not-lt-is-le tol (gridDist a b) r (within-real (2 ^ 14) (gridDist a b) (gridDist-within a b h k)))) ∙ twice (lt tol (gridDist a b)) ∙ ap (lt tol) (dist-in-mm a b h k)
+    ap not (sym (not-lt-is-le tol (gridDist a b) r (within-real (2 ^ 14) (gridDist a b) (gridDist-within a b h k)))) ∙ twice (lt tol (gridDist a b))
+    ∙ ap (lt tol) (dist-in-mm a b h k)
   where
     twice : (b : Bool) → not (not b) ≡ b
     twice true = refl
@@ -73,11 +73,8 @@ dots : (p q r s : GridPoint) → OnSheet p → OnSheet q → OnSheet r → OnShe
 dots p q r s hp hq hr hs =
     let u = sym (exact.difference p q hp hq) in
     let v = sym (exact.difference r s hr hs) in
-    subst (λ (x : Float). Holds x (Grid.dot (Grid.sub p q) (Grid.sub r s))) (λ i. Plane.dot (u i) (v i)) (exact.dot (Grid.sub p q) (Grid.sub r s) (step p q hp hq) (step r s hr hs))
-
-dot-fits : (u v : GridPoint) → Step u → Step v → natAbs (Grid.dot u v) ≤ 2 ^ 53
-unfolding Grid.dot
-dot-fits u v h k = omega (arith, natAbs-add (u .x *ℤ v .x) (u .y *ℤ v .y), product (u .x) (v .x) (h .x) (k .x), product (u .y) (v .y) (h .y) (k .y))
+    subst (λ (x : Float). Holds x (Grid.dot (Grid.sub p q) (Grid.sub r s))) (λ i. Plane.dot (u i) (v i))
+    (exact.dot (Grid.sub p q) (Grid.sub r s) (step p q hp hq) (step r s hr hs))
 
 area-zero : Units.mm² (pos 0) ≡ nat 0
 unfolding Units.mm² ofInt round div
@@ -94,7 +91,8 @@ none-or-less v = ap (λ (z : ℤ). leZ z (pos 0)) (dot-is v) ∙ bool-ext (leb (
 
 pub no-segment : (a b : GridPoint) → OnSheet a → OnSheet b → (Plane.dot (Plane.sub (inMm b) (inMm a)) (Plane.sub (inMm b) (inMm a)) ≤f nat 0) ≡ Grid.same a b
 no-segment a b h k =
-    ap (le (Plane.dot (Plane.sub (inMm b) (inMm a)) (Plane.sub (inMm b) (inMm a)))) (sym area-zero) ∙ dots b a b a k h k h .atMost (pos 0) (lit≤ tt) ∙ none-or-less (Grid.sub b a) ∙ step-zero b a ∙ same-comm b a
+    ap (le (Plane.dot (Plane.sub (inMm b) (inMm a)) (Plane.sub (inMm b) (inMm a)))) (sym area-zero) ∙ dots b a b a k h k h .atMost (pos 0) (lit≤ tt)
+    ∙ none-or-less (Grid.sub b a) ∙ step-zero b a ∙ same-comm b a
 
 -- ---- the foot where the quotient is a zero
 zero-isZ : IsZ (nat 0) (pos 0) 1
@@ -112,7 +110,9 @@ stay t z w o h k =
     let d : natAbs (w -ℤ z) ≤ 2 ^ 53 = le-trans (diff-small w z k h) (lit≤ tt) in
     let e = mm-sub w z (le-trans k (lit≤ tt)) l d in
     let y = t *f Units.mm (w -ℤ z) in
-    let p : IsZ y (pos 0 *ℤ (w -ℤ z)) (2 ^ 13) = mul-isZ binary64 t (Units.mm (w -ℤ z)) (pos 0) (w -ℤ z) 0 13 (lit≤ tt) (subst (λ (v : ℤ). natAbs v ≤ 2 ^ 53) (sym (zero-*ℤ (w -ℤ z))) (lit≤ tt)) o (mm-isZ (w -ℤ z) d) in
+    let p : IsZ y (pos 0 *ℤ (w -ℤ z)) (2 ^ 13) =
+    mul-isZ binary64 t (Units.mm (w -ℤ z)) (pos 0) (w -ℤ z) 0 13 (lit≤ tt) (subst (λ (v : ℤ). natAbs v ≤ 2 ^ 53) (sym (zero-*ℤ (w -ℤ z))) (lit≤ tt)) o
+    (mm-isZ (w -ℤ z) d) in
     ap (λ (v : Float). Units.mm z +f t *f v) e ∙ ap (λ (v : Float). v +f y) (mm-is z l) ∙ add-to-isZ binary64 z y (pos 0 *ℤ (w -ℤ z)) 13 l (lit≤ tt) p
     ∙ ap (λ (v : ℤ). scaled binary64 (z +ℤ v) (2 ^ 13)) (zero-*ℤ (w -ℤ z)) ∙ ap (λ (v : ℤ). scaled binary64 v (2 ^ 13)) (+ℤ-idr z) ∙ sym (mm-is z l)
 
@@ -149,7 +149,8 @@ module _ (p a b : GridPoint) (hp : OnSheet p) (ha : OnSheet a) (hb : OnSheet b) 
     rust-zero : along ≡ pos 0 → IsZ (alongMm /f lengthMm) (pos 0) 1
     rust-zero z =
         let d = num-above lengthMm length² (2 ^ 26) apart (holds-isZ lengthMm length² length-small (dots b a b a hb ha hb ha)) in
-        zero-over binary64 alongMm lengthMm (2 ^ 26) (pow-pos 26) (subst (λ (v : ℤ). IsZ alongMm v (2 ^ 26)) z (holds-isZ alongMm along along-small (dots p a b a hp ha hb ha))) (d .0) (d .1)
+        zero-over binary64 alongMm lengthMm (2 ^ 26) (pow-pos 26)
+        (subst (λ (v : ℤ). IsZ alongMm v (2 ^ 26)) z (holds-isZ alongMm along along-small (dots p a b a hp ha hb ha))) (d .0) (d .1)
 
     whole-zero : along ≡ pos 0 → IsZ (int along /f int length²) (pos 0) 1
     whole-zero z =
@@ -159,10 +160,14 @@ module _ (p a b : GridPoint) (hp : OnSheet p) (ha : OnSheet a) (hb : OnSheet b) 
     same-foot : lerp (inMm a) (inMm b) (clamp (nat 0) (nat 1) (int along /f int length²)) ≡ lerp (inMm a) (inMm b) (clamp (nat 0) (nat 1) (alongMm /f lengthMm))
     same-foot = go along refl
       where
-        moved : (along ≡ pos 0 → ⊥) → lerp (inMm a) (inMm b) (clamp (nat 0) (nat 1) (int along /f int length²)) ≡ lerp (inMm a) (inMm b) (clamp (nat 0) (nat 1) (alongMm /f lengthMm))
-        moved m = ap (λ (t : Float). lerp (inMm a) (inMm b) (clamp (nat 0) (nat 1) t)) (sym (quotient alongMm lengthMm along length² along-small length-small apart (dots p a b a hp ha hb ha) (dots b a b a hb ha hb ha) .same m))
+        moved : (along ≡ pos 0 → ⊥)
+            → lerp (inMm a) (inMm b) (clamp (nat 0) (nat 1) (int along /f int length²)) ≡ lerp (inMm a) (inMm b) (clamp (nat 0) (nat 1) (alongMm /f lengthMm))
+        moved m =
+            ap (λ (t : Float). lerp (inMm a) (inMm b) (clamp (nat 0) (nat 1) t))
+            (sym (quotient alongMm lengthMm along length² along-small length-small apart (dots p a b a hp ha hb ha) (dots b a b a hb ha hb ha) .same m))
 
-        go : (z : ℤ) → along ≡ z → lerp (inMm a) (inMm b) (clamp (nat 0) (nat 1) (int along /f int length²)) ≡ lerp (inMm a) (inMm b) (clamp (nat 0) (nat 1) (alongMm /f lengthMm))
+        go : (z : ℤ) → along ≡ z
+            → lerp (inMm a) (inMm b) (clamp (nat 0) (nat 1) (int along /f int length²)) ≡ lerp (inMm a) (inMm b) (clamp (nat 0) (nat 1) (alongMm /f lengthMm))
         go (pos zero) e = start (int along /f int length²) a b (whole-zero e) ha hb ∙ sym (start (alongMm /f lengthMm) a b (rust-zero e) ha hb)
         go (pos (suc m)) e = moved (λ z. omega (arith, ap natAbs (sym e ∙ z)))
         go (negsuc m) e = moved (λ z. omega (arith, ap natAbs (sym e ∙ z)))
@@ -170,7 +175,9 @@ module _ (p a b : GridPoint) (hp : OnSheet p) (ha : OnSheet a) (hb : OnSheet b) 
   pub same-distance : pointSegmentDistance p a b ≡ rustSegmentDistance (inMm p) (inMm a) (inMm b)
   unfolding pointSegmentDistance
   same-distance =
-      go (Grid.same a b) refl ∙ ap (λ (t : Bool). cond t (dist (inMm p) (inMm a)) (dist (inMm p) (lerp (inMm a) (inMm b) (clamp (nat 0) (nat 1) (alongMm /f lengthMm))))) (sym (no-segment a b ha hb))
+      go (Grid.same a b) refl ∙ ap
+      (λ (t : Bool). cond t (dist (inMm p) (inMm a)) (dist (inMm p) (lerp (inMm a) (inMm b) (clamp (nat 0) (nat 1) (alongMm /f lengthMm)))))
+      (sym (no-segment a b ha hb))
     where
       go : (t : Bool) → Grid.same a b ≡ t
           → cond t (gridDist p a) (dist (inMm p) (lerp (inMm a) (inMm b) (clamp (nat 0) (nat 1) (int along /f int length²))))
@@ -189,5 +196,6 @@ same-flat tol r i on =
     let hp = at-on r i on in
     let hb = at-on r (suc i) on in
     let u = same-distance p a b hp ha hb in
-    let v = sym (dots p a b p hp ha hb hp .above (pos 0) (lit≤ tt)) ∙ ap (λ (z : Float). z <f Plane.dot (Plane.sub (inMm p) (inMm a)) (Plane.sub (inMm b) (inMm p))) area-zero in
+    let v = sym (dots p a b p hp ha hb hp .above (pos 0) (lit≤ tt))
+    ∙ ap (λ (z : Float). z <f Plane.dot (Plane.sub (inMm p) (inMm a)) (Plane.sub (inMm b) (inMm p))) area-zero in
     λ j. (u j ≤f tol) && v j

@@ -1,6 +1,6 @@
 -- A mark that survives stays on its edge: the edge of the cleaned ring that carries it has the two ring points that it had
 -- (`surviving-edge`). There are as many marks as points (`surviving-many`). Whether a kept place's mark survives is told
--- by the next kept place alone (`survives-next`). Assumes nothing.
+-- by the next kept place alone (`survives-next`).
 use Prim.Native.Nat.{ℕ, zero, suc, _%_, _<_}
 use native.Mathlib.Nat.{mod-eq-of-lt, mod-self, mod-lt}
 use native.Mathlib.Decide.{decLe}
@@ -144,7 +144,9 @@ module _ (n : ℕ) (ks : List ℕ) (h : Rising n ks) (j : ℕ) (l : j < length k
 
       go : (b : Bool) → survives n ks q ≡ b → b ≡ eqb (getD ks m 0) (suc q % n)
       go true e = sym (eq-eqb (getD ks m 0) (suc q % n) (after (subst T (sym e) tt)))
-      go false e = sym (ne-eqb (getD ks m 0) (suc q % n) (λ d. subst T e (both (isIn q ks) (isIn (suc q % n) ks) (is-in q j ks l refl) (is-in (suc q % n) m ks (mod-lt (suc j) (omega (arith, l))) d))))
+      go false e =
+          sym (ne-eqb (getD ks m 0) (suc q % n)
+          (λ d. subst T e (both (isIn q ks) (isIn (suc q % n) ks) (is-in q j ks l refl) (is-in (suc q % n) m ks (mod-lt (suc j) (omega (arith, l))) d))))
 
 -- ---- the edge
 module _ (size : ℕ) (r : List GridPoint) (j : ℕ) (l : j < length (keptPlaces size r)) where

@@ -1,5 +1,5 @@
 -- The set of limits as the code writes it, `Limits::DELIVERED`, is the set of the definition. The compiler makes the bits of
--- its doubles, and each is the double that the decimal number of 01 rounds to. Assumes nothing.
+-- its doubles, and each is the double that the decimal number of 01 rounds to.
 use mathlib.Core.Path.{_≡_, refl}
 use lib.Ieee.{binary64, ofBits, ofInt, round, add, sub, div}
 use Rattle.laws.specs.Double.{lit}

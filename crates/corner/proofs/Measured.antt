@@ -103,8 +103,10 @@ module _ (q : Float) (h : Within 1 q) where
   unfolding two four fits
   behind =
       measured (two -f q) 3 (sub-within binary64 2 1 two q (lit≤ tt) (tt, lit≤ tt) h)
-      (rounds-ge binary64 (two -f q) naught _ _ _ (mul-pos (den-pos two) (den-pos q)) (sub-rounds binary64 two q tt (h .0)) tt tt (omega (arith, plus-le q, h .1)))
-      (rounds-le binary64 (two -f q) four _ _ _ (mul-pos (den-pos two) (den-pos q)) (sub-rounds binary64 two q tt (h .0)) tt tt (omega (arith, less-le q, h .1)))
+      (rounds-ge binary64 (two -f q) naught _ _ _ (mul-pos (den-pos two) (den-pos q)) (sub-rounds binary64 two q tt (h .0)) tt tt
+      (omega (arith, plus-le q, h .1)))
+      (rounds-le binary64 (two -f q) four _ _ _ (mul-pos (den-pos two) (den-pos q)) (sub-rounds binary64 two q tt (h .0)) tt tt
+      (omega (arith, less-le q, h .1)))
 
   left : T (le naught q) → Measured q
   unfolding four
@@ -114,8 +116,10 @@ module _ (q : Float) (h : Within 1 q) where
   unfolding four fits
   right l =
       measured (four +f q) 5 (add-within binary64 4 1 four q (lit≤ tt) (tt, lit≤ tt) h)
-      (rounds-ge binary64 (four +f q) naught _ _ _ (mul-pos (den-pos four) (den-pos q)) (add-rounds binary64 four q tt (h .0)) tt tt (omega (arith, less-le q, h .1)))
-      (rounds-le binary64 (four +f q) four _ _ _ (mul-pos (den-pos four) (den-pos q)) (add-rounds binary64 four q tt (h .0)) tt tt (omega (arith, nonpos q (h .0) l)))
+      (rounds-ge binary64 (four +f q) naught _ _ _ (mul-pos (den-pos four) (den-pos q)) (add-rounds binary64 four q tt (h .0)) tt tt
+      (omega (arith, less-le q, h .1)))
+      (rounds-le binary64 (four +f q) four _ _ _ (mul-pos (den-pos four) (den-pos q)) (add-rounds binary64 four q tt (h .0)) tt tt
+      (omega (arith, nonpos q (h .0) l)))
 
 straight : Measured two
 unfolding two four le lt eq

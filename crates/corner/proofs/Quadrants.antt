@@ -1,4 +1,4 @@
--- The measure of a corner, by the signs of dot and cross, where no step is zero. Assumes nothing.
+-- The measure of a corner, by the signs of dot and cross, where no step is zero.
 use mathlib.Core.Bool.{Bool, true, false, _||_}
 use mathlib.Core.Path.{_≡_, refl, sym, ap, _∙_}
 use lib.IntN.{ℤ}

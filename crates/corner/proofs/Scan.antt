@@ -1,4 +1,4 @@
--- A scan over the corners of a part that keeps the worst so far: one turn of it. Assumes nothing.
+-- A scan over the corners of a part that keeps the worst so far: one turn of it.
 use Prim.Native.Nat.{ℕ, suc, _+_, _-_, _<_}
 use native.Mathlib.Omega.{arith}
 use mathlib.Core.Bool.{Bool, true, false, cond}

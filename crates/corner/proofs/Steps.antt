@@ -5,18 +5,14 @@ use native.Mathlib.Omega.{arith}
 use mathlib.Core.Path.{_≡_, refl, sym, ap, _∙_, subst}
 use mathlib.Core.Logic.{_⊎_, inl, inr}
 use mathlib.Core.Bool.{Bool, true, false, not, _&&_, _||_, Bool·beq, true≢false, false≢true}
-use lib.IntN.{ℤ, pos, negsuc, negℤ, natAbs, _+ℤ_, _-ℤ_, _*ℤ_, -ℤ-+ℤ-cancel, +ℤ-idl, +ℤ-negℤ-cancel}
+use lib.IntN.{ℤ, pos, negsuc, negℤ, natAbs, _+ℤ_, _-ℤ_, _*ℤ_, -ℤ-+ℤ-cancel, +ℤ-idl}
 use lib.Signed.{nonNeg}
 use lib.Dec.{T, T-not}
 use Rattle.laws.proofs.Booleans.{or-l, or-r}
-use Rattle.laws.proofs.Integers.{natAbs-mul, natAbs-neg}
+use Rattle.laws.proofs.Integers.{opposite, size-zero, natAbs-mul, natAbs-neg}
 use Rattle.vector.specs.declared.GridPoint.{GridPoint}
 use Rattle.laws.specs.Integer.{eqZ}
 use Rattle.vector.specs.Grid.{origin, dot, cross, same}
-
-none : (z : ℤ) → natAbs z ≡ 0 → z ≡ pos 0
-none (pos n) e = ap pos e
-none (negsuc n) e = absurd (omega (arith, e))
 
 -- the sign of a product and of an opposite
 minus-sign : (n : ℕ) → 0 < n → nonNeg (negℤ (pos n)) ≡ false
@@ -53,12 +49,9 @@ clash false false true false e f = true≢false e
 clash false false false true e f = false≢true e
 clash false false false false e f = true≢false f
 
--- the two products of a cross product that is zero are equal, those of a dot product opposite
+-- the two products of a cross product that is zero are equal
 level : (z w : ℤ) → z -ℤ w ≡ pos 0 → z ≡ w
 level z w e = sym (-ℤ-+ℤ-cancel z w) ∙ ap (λ x. x +ℤ w) e ∙ +ℤ-idl w
-
-opposed : (z w : ℤ) → z +ℤ w ≡ pos 0 → z ≡ negℤ w
-opposed z w e = sym (+ℤ-negℤ-cancel z w) ∙ ap (λ x. x -ℤ w) e ∙ +ℤ-idl (negℤ w)
 
 -- by the sizes: all four coordinates are above zero, or a step is zero
 sizes : (a b c d : ℕ) → a * d ≡ b * c → a * c ≡ b * d → ((0 < a) × (0 < b) × (0 < c) × (0 < d)) ⊎ (((a ≡ 0) × (b ≡ 0)) ⊎ ((c ≡ 0) × (d ≡ 0)))
@@ -76,8 +69,8 @@ sizes (suc a) (suc b) (suc c) zero e f = absurd (omega (arith, e))
 still : (u : GridPoint) → natAbs (u .x) ≡ 0 → natAbs (u .y) ≡ 0 → T (same u origin)
 unfolding same
 still u e f =
-    subst (λ x. T (eqZ x (pos 0) && eqZ (u .y) (pos 0))) (sym (none (u .x) e))
-    (subst (λ y. T (eqZ (pos 0) (pos 0) && eqZ y (pos 0))) (sym (none (u .y) f)) tt)
+    subst (λ x. T (eqZ x (pos 0) && eqZ (u .y) (pos 0))) (sym (size-zero (u .x) e))
+    (subst (λ y. T (eqZ (pos 0) (pos 0) && eqZ y (pos 0))) (sym (size-zero (u .y) f)) tt)
 
 both-zero : (u v : GridPoint) → cross u v ≡ pos 0 → dot u v ≡ pos 0 → T (same u origin || same v origin)
 unfolding cross dot
@@ -91,7 +84,7 @@ both-zero u v e f =
     l = level (u .x *ℤ v .y) (u .y *ℤ v .x) e
 
     o : u .x *ℤ v .x ≡ negℤ (u .y *ℤ v .y)
-    o = opposed (u .x *ℤ v .x) (u .y *ℤ v .y) f
+    o = opposite (u .x *ℤ v .x) (u .y *ℤ v .y) f
 
     Moving : Type 0
     Moving = (0 < natAbs (u .x)) × (0 < natAbs (u .y)) × (0 < natAbs (v .x)) × (0 < natAbs (v .y))
@@ -117,5 +110,5 @@ moving u v t = go (natAbs (cross u v) + natAbs (dot u v)) refl
     go zero e =
         absurd
         (T-not (same u origin || same v origin) t
-        (both-zero u v (none (cross u v) (omega arith)) (none (dot u v) (omega arith))))
+        (both-zero u v (size-zero (cross u v) (omega arith)) (size-zero (dot u v) (omega arith))))
     go (suc n) e = omega arith

@@ -34,8 +34,11 @@ worst-step r i w h true e =
     go : (j : ℕ) → (j ≡ suc i) ⊎ (j < suc i) → T (not (measureAt r (suc i) <f measureAt r j))
     go j (inr g) =
         not-T (measureAt r (suc i) <f measureAt r j)
-        (λ k. T-not (measureAt r w <f measureAt r j) (h .above j (le-of-suc-le-suc g)) (le-lt-trans-f (measureAt r w) (measureAt r (suc i)) (measureAt r j) (subst T (sym e) tt) k))
-    go j (inl q) = subst (λ n. T (not (measureAt r (suc i) <f measureAt r n))) (sym q) (not-T (measureAt r (suc i) <f measureAt r (suc i)) (lt-irrefl-f (measureAt r (suc i))))
+        (λ k. T-not (measureAt r w <f measureAt r j) (h .above j (le-of-suc-le-suc g))
+        (le-lt-trans-f (measureAt r w) (measureAt r (suc i)) (measureAt r j) (subst T (sym e) tt) k))
+    go j (inl q) =
+        subst (λ n. T (not (measureAt r (suc i) <f measureAt r n))) (sym q)
+        (not-T (measureAt r (suc i) <f measureAt r (suc i)) (lt-irrefl-f (measureAt r (suc i))))
 worst-step r i w h false e =
     record {
       low = omega (arith, h .low);

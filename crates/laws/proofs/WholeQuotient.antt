@@ -35,7 +35,8 @@ zero-isZ x true c h = (true, 0, h, refl)
 zero-isZ x false c h = (false, 0, h, refl)
 
 round-zero : (f : Format) (s : Bool) (c : ℕ) → 0 < c → IsZ (round f s 0 c) (pos 0) c
-round-zero f s c C = zero-isZ (round f s 0 c) s c (round-exact f s 0 c 0 0 C (pow-pos (prec f)) (pow-pos (low f + suc (emax f))) (zero-mul (2 ^ low f) ∙ sym (zero-mul c)))
+round-zero f s c C =
+    zero-isZ (round f s 0 c) s c (round-exact f s 0 c 0 0 C (pow-pos (prec f)) (pow-pos (low f + suc (emax f))) (zero-mul (2 ^ low f) ∙ sym (zero-mul c)))
 
 -- a zero over another denominator
 zero-over-any : (x : Float) (c d : ℕ) → 0 < c → IsZ x (pos 0) c → IsZ x (pos 0) d
@@ -75,12 +76,17 @@ unfolding eq
 holds-isZ nan (pos zero) l h = absurd (h .number)
 holds-isZ (inf s) (pos zero) l h = absurd (subst (λ (y : Float). T (eq (inf s) y)) area-zero (h .number))
 holds-isZ (fin s m e) (pos zero) l h =
-    zero-isZ (fin s m e) s (2 ^ 26) (refl, ap (λ (n : ℕ). n * 2 ^ 26) (nought s (m * up e) (down e) (eq→Eq (fin s m e) naught tt tt (subst (λ (y : Float). T (eq (fin s m e) y)) area-zero (h .number)))) ∙ omega arith)
+    zero-isZ (fin s m e) s (2 ^ 26) (
+      refl,
+      ap (λ (n : ℕ). n * 2 ^ 26)
+          (nought s (m * up e) (down e) (eq→Eq (fin s m e) naught tt tt (subst (λ (y : Float). T (eq (fin s m e) y)) area-zero (h .number)))) ∙ omega arith,
+    )
   where
     nought : (s : Bool) (n d : ℕ) → pl s n * 1 + 0 * d ≡ 0 * d + ls s n * 1 → n ≡ 0
     nought true n d h = omega arith
     nought false n d h = omega arith
-holds-isZ x (pos (suc n)) l h = subst (λ (y : Float). IsZ y (pos (suc n)) (2 ^ 26)) (sym (h .same (not-zero (pos (suc n)) (zero-lt-suc n)))) (mm²-isZ (pos (suc n)) l)
+holds-isZ x (pos (suc n)) l h =
+    subst (λ (y : Float). IsZ y (pos (suc n)) (2 ^ 26)) (sym (h .same (not-zero (pos (suc n)) (zero-lt-suc n)))) (mm²-isZ (pos (suc n)) l)
 holds-isZ x (negsuc n) l h = subst (λ (y : Float). IsZ y (negsuc n) (2 ^ 26)) (sym (h .same (not-zero (negsuc n) (zero-lt-suc n)))) (mm²-isZ (negsuc n) l)
 
 -- ---- quotients over one denominator
@@ -99,8 +105,11 @@ size-above (negsuc k) n = omega arith
 pub num-above : (y : Float) (w : ℤ) (c : ℕ) → (w ≡ pos 0 → ⊥) → IsZ y w c → T (finite y) × (0 < num y)
 num-above nan w c n h = absurd (h .2)
 num-above (inf t) w c n h = absurd (h .2)
-num-above (fin t m e) w c n h =
-    (tt, first-pos (m * up e) c (subst (λ (v : ℕ). 0 < v) (sym (h .2 .1)) (mul-pos (subst (λ (v : ℕ). 0 < v) (sym (size-of (h .0) (h .1) w (h .3))) (size-above w n)) (down-pos e))))
+num-above (fin t m e) w c n h = (
+  tt,
+  first-pos (m * up e) c (subst (λ (v : ℕ). 0 < v) (sym (h .2 .1))
+      (mul-pos (subst (λ (v : ℕ). 0 < v) (sym (size-of (h .0) (h .1) w (h .3))) (size-above w n)) (down-pos e))),
+)
 
 module _ (f : Format) (x y : Float) (z w : ℤ) (j : ℕ) (n : w ≡ pos 0 → ⊥) (h : IsZ x z (2 ^ j)) (k : IsZ y w (2 ^ j)) where
   over-is : div f x y ≡ round f (unlike (h .0) (minusSign w)) (natAbs z) (natAbs w)
@@ -118,7 +127,8 @@ module _ (f : Format) (x y : Float) (z w : ℤ) (j : ℕ) (n : w ≡ pos 0 → �
 module _ (f : Format) (z w : ℤ) (p : natAbs z ≤ 2 ^ prec f) (q : natAbs w ≤ 2 ^ prec f) (n : w ≡ pos 0 → ⊥) where
   whole-is : div f (ofInt f z) (ofInt f w) ≡ round f (unlike (minusSign z) (minusSign w)) (natAbs z) (natAbs w)
   whole-is =
-      div-at f (ofInt f z) (ofInt f w) (minusSign z) (natAbs z) 1 (minusSign w) (natAbs w) 1 (zero-lt-suc 0) (zero-lt-suc 0) (size-above w n) (ofInt-value f z p) (ofInt-value f w q)
+      div-at f (ofInt f z) (ofInt f w) (minusSign z) (natAbs z) 1 (minusSign w) (natAbs w) 1 (zero-lt-suc 0) (zero-lt-suc 0) (size-above w n)
+      (ofInt-value f z p) (ofInt-value f w q)
       ∙ (λ i. round f (unlike (minusSign z) (minusSign w)) (mul-one (natAbs z) i) (mul-one (natAbs w) i))
 
   module _ (x y : Float) (j : ℕ) (h : IsZ x z (2 ^ j)) (k : IsZ y w (2 ^ j)) where
@@ -132,13 +142,20 @@ module _ (f : Format) (z w : ℤ) (p : natAbs z ≤ 2 ^ prec f) (q : natAbs w �
         (subst (λ (v : Float). T (eq (round f (unlike (h .0) (minusSign w)) (natAbs z) (natAbs w)) v)) (sym whole-is) (go z (h .0) (h .1) (h .3)))
       where
         self : (s : Bool) (a c : ℕ) → T (eq (round f s a c) (round f s a c))
-        self s a c = let r = le-refl-f (round f s a c) (signed-real s (round f s a c) (round-signed f s a c)) in le-antisym-f (round f s a c) (round f s a c) r r
+        self s a c =
+            let r = le-refl-f (round f s a c) (signed-real s (round f s a c) (round-signed f s a c)) in le-antisym-f (round f s a c) (round f s a c) r r
 
-        like : (z : ℤ) (s : Bool) → s ≡ minusSign z → T (eq (round f (unlike s (minusSign w)) (natAbs z) (natAbs w)) (round f (unlike (minusSign z) (minusSign w)) (natAbs z) (natAbs w)))
-        like z s e = subst (λ (t : Bool). T (eq (round f (unlike t (minusSign w)) (natAbs z) (natAbs w)) (round f (unlike (minusSign z) (minusSign w)) (natAbs z) (natAbs w)))) (sym e) (self (unlike (minusSign z) (minusSign w)) (natAbs z) (natAbs w))
+        like : (z : ℤ) (s : Bool) → s ≡ minusSign z
+            → T (eq (round f (unlike s (minusSign w)) (natAbs z) (natAbs w)) (round f (unlike (minusSign z) (minusSign w)) (natAbs z) (natAbs w)))
+        like z s e =
+            subst (λ (t : Bool). T (eq (round f (unlike t (minusSign w)) (natAbs z) (natAbs w))
+            (round f (unlike (minusSign z) (minusSign w)) (natAbs z) (natAbs w)))) (sym e) (self (unlike (minusSign z) (minusSign w)) (natAbs z) (natAbs w))
 
-        go : (z : ℤ) (s : Bool) (a : ℕ) → pl s a + negp z ≡ posp z + ls s a → T (eq (round f (unlike s (minusSign w)) (natAbs z) (natAbs w)) (round f (unlike (minusSign z) (minusSign w)) (natAbs z) (natAbs w)))
-        go (pos zero) s a e = isZ-eq (round f (unlike s (minusSign w)) 0 (natAbs w)) (round f (unlike false (minusSign w)) 0 (natAbs w)) (pos 0) (natAbs w) (size-above w n) (round-zero f (unlike s (minusSign w)) (natAbs w) (size-above w n)) (round-zero f (unlike false (minusSign w)) (natAbs w) (size-above w n))
+        go : (z : ℤ) (s : Bool) (a : ℕ) → pl s a + negp z ≡ posp z + ls s a
+            → T (eq (round f (unlike s (minusSign w)) (natAbs z) (natAbs w)) (round f (unlike (minusSign z) (minusSign w)) (natAbs z) (natAbs w)))
+        go (pos zero) s a e =
+            isZ-eq (round f (unlike s (minusSign w)) 0 (natAbs w)) (round f (unlike false (minusSign w)) 0 (natAbs w)) (pos 0) (natAbs w) (size-above w n)
+            (round-zero f (unlike s (minusSign w)) (natAbs w) (size-above w n)) (round-zero f (unlike false (minusSign w)) (natAbs w) (size-above w n))
         go (pos (suc m)) s a e = like (pos (suc m)) s (sign-of s a (pos (suc m)) (not-zero (pos (suc m)) (zero-lt-suc m)) e)
         go (negsuc m) s a e = like (negsuc m) s (sign-of s a (negsuc m) (not-zero (negsuc m) (zero-lt-suc m)) e)
 

@@ -42,7 +42,8 @@ module _ (l : List ℕ) (at : ℕ) (nodes : List Float) (i : ℕ) (few : i < 100
   unfolding line
   whole = omega (arith, line-long nodes i few)
 
-  pub line-written : {a b c d : ℕ} {m n o p : List ℕ} → Written l at number a m → Written m a x b n → Written n b y c o → Written o c (10 ∷ []) d p → Written l at (line nodes i) d p
+  pub line-written : {a b c d : ℕ} {m n o p : List ℕ} → Written l at number a m → Written m a x b n → Written n b y c o → Written o c (10 ∷ []) d p
+      → Written l at (line nodes i) d p
   unfolding line
   line-written u v w z =
       let three = shorter at (length l) (number ++ x ++ y) (10 ∷ []) whole in

@@ -35,7 +35,8 @@ shown-nearest (fin s m e) f = half-nearest (m * up e * 10000) (down e) (down-pos
 
 pub no-other : (x : Float) (N : ℕ) → NearestShown x N → N ≡ tenThousandths x
 unfolding tenThousandths
-no-other (fin s m e) N a = nearest-unique (m * up e * 10000) (down e) N (tenThousandths (fin s m e)) (down-pos e) a (half-nearest (m * up e * 10000) (down e) (down-pos e))
+no-other (fin s m e) N a =
+    nearest-unique (m * up e * 10000) (down e) N (tenThousandths (fin s m e)) (down-pos e) a (half-nearest (m * up e * 10000) (down e) (down-pos e))
 
 -- ---- where the point and the four decimals stand
 abbrev tail : ℕ → List ℕ
@@ -49,7 +50,8 @@ module _ (m : Bool) (n : ℕ) where
   unfolding right
   parted =
       let e : decimals m n ≡ (sign m ++ decimal (n / 10000)) ++ 46 ∷ tail n = decimals-is m n ∙ simp append-assoc in
-      ap (λ (t : List ℕ). spaces (28 - length (decimals m n)) ++ t) e ∙ sym (append-assoc (spaces (28 - length (decimals m n))) (sign m ++ decimal (n / 10000)) (46 ∷ tail n))
+      ap (λ (t : List ℕ). spaces (28 - length (decimals m n)) ++ t) e
+      ∙ sym (append-assoc (spaces (28 - length (decimals m n))) (sign m ++ decimal (n / 10000)) (46 ∷ tail n))
 
   front-long : length (decimals m n) ≤ 28 → length front ≡ 23
   front-long h =
@@ -71,7 +73,9 @@ module _ (m : Bool) (n : ℕ) where
   pub at-decimals : length (decimals m n) ≤ 28 → (k : ℕ) → k < 4 → T (isDigit (getD (right 28 (decimals m n)) (24 + k) 0))
   at-decimals h k l =
       let e : 24 + k ≡ length front + suc k = omega (arith, front-long h) in
-      subst (λ (b : ℕ). T (isDigit b)) (sym (ap (λ (t : List ℕ). getD t (24 + k) 0) parted ∙ ap (λ (i : ℕ). getD (front ++ 46 ∷ tail n) i 0) e ∙ getD-append-add front (46 ∷ tail n) (suc k) 0)) (at-digit k l)
+      subst (λ (b : ℕ). T (isDigit b))
+      (sym (ap (λ (t : List ℕ). getD t (24 + k) 0) parted ∙ ap (λ (i : ℕ). getD (front ++ 46 ∷ tail n) i 0) e ∙ getD-append-add front (46 ∷ tail n) (suc k) 0))
+      (at-digit k l)
 
 -- ---- a coordinate in its 28 columns
 pub shown-as : (x : Float) → Within 1024 x → ShownAs x (right 28 (shown x))
@@ -141,7 +145,8 @@ module _ (l : List Float) (n : ℕ) (out : List ℕ) (u : Usable l n) (r : n * 6
   line-at i h =
       let p = rest l i n h in
       let few : i < 1000000 = omega (arith, u .few) in
-      let e : lines l n ++ drop (n * 65) out ≡ lines l i ++ (line l i ++ (p .0 ++ drop (n * 65) out)) = ap (λ (t : List ℕ). t ++ drop (n * 65) out) (p .1) ∙ simp append-assoc in
+      let e : lines l n ++ drop (n * 65) out ≡ lines l i ++ (line l i ++ (p .0 ++ drop (n * 65) out)) =
+      ap (λ (t : List ℕ). t ++ drop (n * 65) out) (p .1) ∙ simp append-assoc in
       ap (λ (t : List ℕ). take 65 (drop (i * 65) t)) e
       ∙ ap (take 65) (drop-at (lines l i) (line l i ++ (p .0 ++ drop (n * 65) out)) (i * 65) (lines-long l i (omega (arith, u .few))))
       ∙ take-at (line l i) (p .0 ++ drop (n * 65) out) 65 (line-long l i few)
@@ -158,7 +163,8 @@ pub accepted : (l : List Float) (n : ℕ) (out : List ℕ) → answer l n out �
 unfolding left answer
 accepted l n out e = go (nodesOut l n) (ltb (length out) (n * 65)) refl refl e
   where
-    go : (a b : Bool) → nodesOut l n ≡ a → ltb (length out) (n * 65) ≡ b → _≡_ {A = ℕ} (cond a 3 (cond b 17 0)) 0 → SheetIs l n out (cond (eqb (cond (nodesOut l n) 3 (cond (ltb (length out) (n * 65)) 17 0)) 0) (put out 0 (lines l n)) out)
+    go : (a b : Bool) → nodesOut l n ≡ a → ltb (length out) (n * 65) ≡ b → _≡_ {A = ℕ} (cond a 3 (cond b 17 0)) 0
+        → SheetIs l n out (cond (eqb (cond (nodesOut l n) 3 (cond (ltb (length out) (n * 65)) 17 0)) 0) (put out 0 (lines l n)) out)
     go true b p q e = absurd (omega arith)
     go false true p q e = absurd (omega arith)
     go false false p q e = rw (p, q) (sheet-put l n out (usable l n p) (ltb-false (length out) (n * 65) q))

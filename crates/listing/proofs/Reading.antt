@@ -53,7 +53,8 @@ one n h = subst (Reads n) (one-digit n (48 + n) h refl) (read-digit 0 n h ∙ om
 more : (n : ℕ) → 10 ≤ n → n < 2 ^ 64 → Reads (n / 10) (decimal (n / 10)) → Reads n (decimal n)
 more n h l r =
     subst (Reads n) (more-digits n (48 + n % 10) h l refl) (
-      read-append 0 (decimal (n / 10)) (digit (n % 10)) ∙ ap (λ (k : ℕ). readFrom k (digit (n % 10))) (r .0) ∙ read-digit (n / 10) (n % 10) (omega arith) ∙ omega arith,
+      read-append 0 (decimal (n / 10)) (digit (n % 10)) ∙ ap (λ (k : ℕ). readFrom k (digit (n % 10))) (r .0) ∙ read-digit (n / 10) (n % 10) (omega arith)
+          ∙ omega arith,
       λ b k. has-append b (decimal (n / 10)) (digit (n % 10)) ∙ (λ i. r .1 b k i || no-digit b (n % 10) k i),
     )
 

@@ -1,32 +1,17 @@
 -- Rounding n / d to the nearest whole number, ties to even: the result is nearest, nothing else is, and it depends on the
 -- value of the fraction alone.
-use mathlib.Core.Path.{_≡_, refl, sym, ap, _∙_, subst}
-use mathlib.Core.Bool.{not}
+use mathlib.Core.Path.{_≡_, refl, sym, ap, _∙_}
 use Prim.Native.Nat.{ℕ, suc, _+_, _-_, _*_, _/_, _%_, _≤_, _<_, compare, Ordering, Ordering·lt, Ordering·eq, Ordering·gt}
-use native.Mathlib.Nat.{suc-mul, add-mul, mul-comm, mul-assoc, mul-right-comm, mul-le-mul-right, mod-lt, div-add-mod', le-of-mul-le-mul-right, eq-of-mul-eq-mul-right}
+use native.Mathlib.Nat.{suc-mul, add-mul, mul-comm, mul-assoc, mul-right-comm, mul-le-mul-right, mod-lt, div-add-mod', le-of-mul-le-mul-right}
+use native.Mathlib.Nat.{eq-of-mul-eq-mul-right}
 use native.Mathlib.Omega.{arith}
 use native.Mathlib.Decide.{decLe}
-use lib.Dec.{T, isLe, isEq, leb→le, nleb→lt, eqb, eqb→eq, eqb-refl}
-use lib.Arith.{lt-of-le-ne}
 use lib.Ieee.{nearest}
+use Rattle.laws.proofs.HalfUlp.{Cmp, cmp}
 use Rattle.listing.specs.Rounded.{halfEven}
 use Rattle.listing.specs.Nearest.{Nearest}
 
--- ---- `nearest` by an order
-abbrev Cmp : Ordering → ℕ → ℕ → Type 0
-Cmp Ordering·lt a b = a < b
-Cmp Ordering·eq a b = a ≡ b
-Cmp Ordering·gt a b = b < a
-
-cmp : (a b : ℕ) → Cmp (compare a b) a b
-cmp a b = go (compare a b) (leb→le a b) (nleb→lt a b) (eqb→eq a b) (λ (e : a ≡ b). subst (λ (x : ℕ). T (eqb a x)) e (eqb-refl a))
-  where
-    go : (o : Ordering) → (T (isLe o) → a ≤ b) → (T (not (isLe o)) → b < a) → (T (isEq o) → a ≡ b) → (a ≡ b → T (isEq o)) → Cmp o a b
-    go Ordering·lt h k e n = lt-of-le-ne (h tt) n
-    go Ordering·eq h k e n = e tt
-    go Ordering·gt h k e n = k tt
-
--- the three ways of a program
+-- ---- `nearest` by an order, the three ways of a program
 module _ (n d : ℕ) where
   pub half-under : n % d * 2 < d → n / d ≡ halfEven n d
   unfolding halfEven
@@ -123,11 +108,14 @@ module _ (n d m c N : ℕ) (D : 0 < d) (C : 0 < c) (e : n * c ≡ m * d) where
   }
 
 pub half-same : (n d m c : ℕ) → 0 < d → 0 < c → n * c ≡ m * d → halfEven n d ≡ halfEven m c
-half-same n d m c D C e = nearest-unique m c (halfEven n d) (halfEven m c) C (nearest-same n d m c (halfEven n d) D C e (half-nearest n d D)) (half-nearest m c C)
+half-same n d m c D C e =
+    nearest-unique m c (halfEven n d) (halfEven m c) C (nearest-same n d m c (halfEven n d) D C e (half-nearest n d D)) (half-nearest m c C)
 
 -- below a half it is nothing
 pub half-none : (n d : ℕ) → 0 < d → 2 * n < d → halfEven n d ≡ 0
-half-none n d D h = nearest-unique n d (halfEven n d) 0 D (half-nearest n d D) (record { not-low = omega arith; not-high = omega arith; even-low = λ k. refl; even-high = λ k. refl })
+half-none n d D h =
+    nearest-unique n d (halfEven n d) 0 D (half-nearest n d D)
+    (record { not-low = omega arith; not-high = omega arith; even-low = λ k. refl; even-high = λ k. refl })
 
 -- no more than a bound that the fraction has
 pub half-le : (n d B : ℕ) → 0 < d → n ≤ B * d → halfEven n d ≤ B

@@ -1,8 +1,8 @@
 -- The tests of the sheet as the code makes them.
 use Prim.Native.Nat.{ℕ, _+_, _*_, _/_, _≤_, _<_}
 use native.Mathlib.Omega.{arith}
-use mathlib.Core.Path.{_≡_, refl, sym, ap, _∙_, subst}
-use mathlib.Core.Bool.{Bool, true, false, not, _&&_, _||_, true≢false}
+use mathlib.Core.Path.{_≡_, sym, ap, _∙_, subst}
+use mathlib.Core.Bool.{true, false, not, _&&_, _||_}
 use mathlib.Core.List.{List}
 use lib.IntN.{pos}
 use lib.Dec.{T, ltb}
@@ -12,6 +12,7 @@ use lib.Ieee.{Float, nan, fin, le}
 use lib.Ieee.Fits.{and-l, and-r}
 use Rattle.laws.specs.Within.{Within}
 use Rattle.laws.proofs.Between.{tested-1024}
+use Rattle.laws.proofs.Booleans.{neither, not-not, is-true}
 use Rattle.laws.proofs.Search.{any-none}
 use Rattle.report.specs.Text.{Written}
 use Rattle.nodes.specs.Nodes.{mostPlaces}
@@ -24,22 +25,6 @@ held-within x h =
     let k = subst T (sym (held-is x)) h in
     tested-1024 x (and-l (le (fin true 1 (pos 10)) x) (le x (fin false 1 (pos 10))) k) (and-r (le (fin true 1 (pos 10)) x) (le x (fin false 1 (pos 10))) k)
 
-not-not : (b : Bool) → T (not (not b)) → T b
-not-not true h = tt
-not-not false h = h
-
-shown-true : (b : Bool) → not b ≡ false → T b
-shown-true true e = tt
-shown-true false e = absurd (true≢false e)
-
-or-left : (a b : Bool) → a || b ≡ false → a ≡ false
-or-left true b e = e
-or-left false b e = refl
-
-or-right : (a b : Bool) → a || b ≡ false → b ≡ false
-or-right true b e = absurd (true≢false e)
-or-right false b e = e
-
 each : (l : List Float) (n : ℕ) → T (allHeld l n) → (k : ℕ) → k < n → Within 1024 (getD l k nan)
 unfolding allHeld
 each l n t k h = held-within (getD l k nan) (not-not (held (getD l k nan)) (any-none (λ i. not (held (getD l i nan))) n t k h))
@@ -48,10 +33,11 @@ each l n t k h = held-within (getD l k nan) (not-not (held (getD l k nan)) (any-
 pub usable : (l : List Float) (n : ℕ) → nodesOut l n ≡ false → Usable l n
 unfolding nodesOut
 usable l n e =
-    let f = or-left (ltb (length l / 2) n || ltb mostPlaces (length l / 2)) (not (allHeld l (n * 2))) e in
-    let a = ltb-false (length l / 2) n (or-left (ltb (length l / 2) n) (ltb mostPlaces (length l / 2)) f) in
-    let b = ltb-false mostPlaces (length l / 2) (or-right (ltb (length l / 2) n) (ltb mostPlaces (length l / 2)) f) in
-    let t = shown-true (allHeld l (n * 2)) (or-right (ltb (length l / 2) n || ltb mostPlaces (length l / 2)) (not (allHeld l (n * 2))) e) in
+    let f = neither (ltb (length l / 2) n || ltb mostPlaces (length l / 2)) (not (allHeld l (n * 2))) e in
+    let g = neither (ltb (length l / 2) n) (ltb mostPlaces (length l / 2)) (f .0) in
+    let a = ltb-false (length l / 2) n (g .0) in
+    let b = ltb-false mostPlaces (length l / 2) (g .1) in
+    let t = subst T (sym (is-true (allHeld l (n * 2)) (f .1))) tt in
     record {
       room = omega arith;
       few = omega arith;

@@ -36,16 +36,20 @@ point = 46 ∷ []
 abbrev pub digit : ℕ → List ℕ
 digit n = (48 + n) ∷ []
 
-filled-is : (m : Bool) (a b c d e : ℕ) → filled (cond m (bytes "-#.####") (bytes "#.####")) (a ∷ b ∷ c ∷ d ∷ e ∷ []) ≡ sign m ++ decimal a ++ point ++ decimal b ++ decimal c ++ decimal d ++ decimal e
+filled-is : (m : Bool) (a b c d e : ℕ)
+    → filled (cond m (bytes "-#.####") (bytes "#.####")) (a ∷ b ∷ c ∷ d ∷ e ∷ [])
+    ≡ sign m ++ decimal a ++ point ++ decimal b ++ decimal c ++ decimal d ++ decimal e
 unfolding filled filledTo marks part bytes
 filled-is true a b c d e = refl
 filled-is false a b c d e = refl
 
-pub decimals-is : (m : Bool) (n : ℕ) → decimals m n ≡ sign m ++ decimal (n / 10000) ++ point ++ digit (n / 1000 % 10) ++ digit (n / 100 % 10) ++ digit (n / 10 % 10) ++ digit (n % 10)
+pub decimals-is : (m : Bool) (n : ℕ)
+    → decimals m n ≡ sign m ++ decimal (n / 10000) ++ point ++ digit (n / 1000 % 10) ++ digit (n / 100 % 10) ++ digit (n / 10 % 10) ++ digit (n % 10)
 unfolding decimals
 decimals-is m n =
     filled-is m (n / 10000) (n / 1000 % 10) (n / 100 % 10) (n / 10 % 10) (n % 10)
-    ∙ (λ i. sign m ++ decimal (n / 10000) ++ point ++ is (n / 1000 % 10) (omega arith) i ++ is (n / 100 % 10) (omega arith) i ++ is (n / 10 % 10) (omega arith) i ++ is (n % 10) (omega arith) i)
+    ∙ (λ i. sign m ++ decimal (n / 10000) ++ point ++ is (n / 1000 % 10) (omega arith) i ++ is (n / 100 % 10) (omega arith) i
+    ++ is (n / 10 % 10) (omega arith) i ++ is (n % 10) (omega arith) i)
   where
     is : (d : ℕ) → d < 10 → decimal d ≡ digit d
     is d h = sym (one-digit d (48 + d) h refl)

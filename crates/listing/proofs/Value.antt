@@ -19,6 +19,7 @@ use borrow.Author.Tests.{lt-ltb, le-ltb, eq-eqb}
 use Rattle.laws.specs.Within.{Within}
 use Rattle.laws.proofs.Between.{value-num}
 use Rattle.laws.proofs.Canonical.{pow-le-back}
+use Rattle.laws.proofs.Constants.{+0, plus-zero-is}
 use Rattle.root.proofs.Pattern.{fields-low, fields-high}
 use Rattle.listing.specs.Rounded.{halfEven, tenThousandths, negative, minus}
 use Rattle.listing.proofs.Rounding.{half-same, half-none, half-le}
@@ -36,7 +37,9 @@ fields-top s x t e h = go (eqb (suc x) 2047) (eqb t 0) (odd 53 s (2 ^ 52 + t) x 
 -- ---- ten-thousandths of a value a / c
 value-is : (x : Float) (s : Bool) (a c : ℕ) → 0 < c → HasValue x s a c → tenThousandths x ≡ halfEven (a * 10000) c
 unfolding tenThousandths
-value-is (fin t m e) s a c C v = half-same (m * up e * 10000) (down e) (a * 10000) c (down-pos e) C (mul-right-comm (m * up e) 10000 c ∙ ap (λ (z : ℕ). z * 10000) (v .1) ∙ mul-right-comm a (down e) 10000)
+value-is (fin t m e) s a c C v =
+    half-same (m * up e * 10000) (down e) (a * 10000) c (down-pos e) C
+    (mul-right-comm (m * up e) 10000 c ∙ ap (λ (z : ℕ). z * 10000) (v .1) ∙ mul-right-comm a (down e) 10000)
 
 value-none : (x : Float) (s : Bool) (a B c : ℕ) → 0 < c → HasValue x s a c → a < B → c ≡ 32768 * B → tenThousandths x ≡ 0
 value-none x s a B c C v h e = value-is x s a c C v ∙ half-none (a * 10000) c C (omega arith)
@@ -44,7 +47,8 @@ value-none x s a B c C v h e = value-is x s a c C v ∙ half-none (a * 10000) c 
 value-le : (x : Float) (s : Bool) (a c : ℕ) → HasValue x s a c → Within 1024 x → a ≤ 1024 * c
 value-le x s a c v w =
     let n = value-num x s a c v .1 in
-    le-of-mul-le-mul-right {k = den x} (le-trans (le-of-eq (sym n)) (le-trans (mul-le-mul-right c (w .1)) (le-of-eq (mul-right-comm 1024 (den x) c)))) (den-pos x)
+    le-of-mul-le-mul-right {k = den x} (le-trans (le-of-eq (sym n)) (le-trans (mul-le-mul-right c (w .1)) (le-of-eq (mul-right-comm 1024 (den x) c))))
+    (den-pos x)
 
 -- ---- by the fields
 abbrev pub field : Float → ℕ
@@ -59,8 +63,12 @@ module _ (x : Float) (t : T (fits binary64 x)) where
   by-fields = ofBits-toBits binary64 x t
 
   below : (s : Bool) (f d : ℕ) → f < 1008 → d < 2 ^ 52 → tenThousandths (ofFields binary64 s f d) ≡ 0
-  below s zero d h l = value-none (ofFields binary64 s 0 d) s (d * 2 ^ 0) (2 ^ 1059) (2 ^ 1074) (pow-pos 1074) (fields-low s d) (lt-of-lt-of-le (shl-lt 52 0 l) (pow-mono {i = 52} {j = 1059} (omega arith))) (pow-add 2 15 1059)
-  below s (suc k) d h l = value-none (ofFields binary64 s (suc k) d) s ((2 ^ 52 + d) * 2 ^ k) (2 ^ 1059) (2 ^ 1074) (pow-pos 1074) (fields-high s k d (omega arith)) (lt-of-lt-of-le (shl-lt 53 k (omega arith)) (pow-mono {i = 53 + k} {j = 1059} (omega arith))) (pow-add 2 15 1059)
+  below s zero d h l =
+      value-none (ofFields binary64 s 0 d) s (d * 2 ^ 0) (2 ^ 1059) (2 ^ 1074) (pow-pos 1074) (fields-low s d)
+      (lt-of-lt-of-le (shl-lt 52 0 l) (pow-mono {i = 52} {j = 1059} (omega arith))) (pow-add 2 15 1059)
+  below s (suc k) d h l =
+      value-none (ofFields binary64 s (suc k) d) s ((2 ^ 52 + d) * 2 ^ k) (2 ^ 1059) (2 ^ 1074) (pow-pos 1074) (fields-high s k d (omega arith))
+      (lt-of-lt-of-le (shl-lt 53 k (omega arith)) (pow-mono {i = 53 + k} {j = 1059} (omega arith))) (pow-add 2 15 1059)
 
   pub low-field : field x < 1008 → 0 ≡ tenThousandths x
   low-field h = sym (ap tenThousandths (sym by-fields) ∙ below (leb (2 ^ 63) (toBits binary64 x)) (field x) (digits x) h (omega arith))
@@ -71,7 +79,9 @@ module _ (x : Float) (t : T (fits binary64 x)) where
     at-field = ap (λ (f : ℕ). ofFields binary64 (leb (2 ^ 63) (toBits binary64 x)) f (digits x)) (sym e) ∙ by-fields
 
     normal : suc k < 2047
-    normal = lower (λ d. fields-top (leb (2 ^ 63) (toBits binary64 x)) k (digits x) d (subst (λ (v : Float). T (finite v)) (sym at-field) (w .0))) (field-small (toBits binary64 x) k e)
+    normal =
+        lower (λ d. fields-top (leb (2 ^ 63) (toBits binary64 x)) k (digits x) d (subst (λ (v : Float). T (finite v)) (sym at-field) (w .0)))
+        (field-small (toBits binary64 x) k e)
       where
         field-small : (b k : ℕ) → b % 2 ^ 63 / 2 ^ 52 ≡ suc k → suc k ≤ 2047
         field-small b k e = omega arith
@@ -80,10 +90,16 @@ module _ (x : Float) (t : T (fits binary64 x)) where
         lower f h = lt-of-le-ne h f
 
     value : HasValue x (leb (2 ^ 63) (toBits binary64 x)) ((2 ^ 52 + digits x) * 2 ^ k) (2 ^ 1074)
-    value = subst (λ (v : Float). HasValue v (leb (2 ^ 63) (toBits binary64 x)) ((2 ^ 52 + digits x) * 2 ^ k) (2 ^ 1074)) at-field (fields-high (leb (2 ^ 63) (toBits binary64 x)) k (digits x) normal)
+    value =
+        subst (λ (v : Float). HasValue v (leb (2 ^ 63) (toBits binary64 x)) ((2 ^ 52 + digits x) * 2 ^ k) (2 ^ 1074)) at-field
+        (fields-high (leb (2 ^ 63) (toBits binary64 x)) k (digits x) normal)
 
     pub field-le : k ≤ 1032
-    field-le = from k (pow-le-back (52 + k) 1084 (le-trans (le-of-eq (pow-add 2 52 k)) (le-trans (mul-le-mul-right (2 ^ k) (plus-le (2 ^ 52) (digits x))) (le-trans (value-le x _ ((2 ^ 52 + digits x) * 2 ^ k) (2 ^ 1074) value w) (le-of-eq (sym (pow-add 2 10 1074)))))))
+    field-le =
+        from k (pow-le-back (52 + k) 1084
+        (le-trans (le-of-eq (pow-add 2 52 k))
+        (le-trans (mul-le-mul-right (2 ^ k) (plus-le (2 ^ 52) (digits x)))
+        (le-trans (value-le x _ ((2 ^ 52 + digits x) * 2 ^ k) (2 ^ 1074) value w) (le-of-eq (sym (pow-add 2 10 1074)))))))
       where
         from : (k : ℕ) → 52 + k ≤ 1084 → k ≤ 1032
         from k h = omega arith
@@ -95,7 +111,8 @@ module _ (x : Float) (t : T (fits binary64 x)) where
     moved M P Q R r =
         mul-right-comm (M * P) 10000 Q
         ∙ ap (λ (z : ℕ). z * 10000) (mul-assoc M P Q)
-        ∙ sym (ap (λ (z : ℕ). M * 625 * z) r ∙ sym (mul-assoc (M * 625) (P * Q) 16) ∙ ap (λ (z : ℕ). z * 16) (mul-right-comm M 625 (P * Q)) ∙ mul-assoc (M * (P * Q)) 625 16)
+        ∙ sym (ap (λ (z : ℕ). M * 625 * z) r ∙ sym (mul-assoc (M * 625) (P * Q) 16) ∙ ap (λ (z : ℕ). z * 16) (mul-right-comm M 625 (P * Q))
+        ∙ mul-assoc (M * (P * Q)) 625 16)
 
     powers : 2 ^ 1074 ≡ 2 ^ k * 2 ^ (1070 - k) * 16
     powers = pow-add 2 1070 4 ∙ ap (λ (z : ℕ). 2 ^ z * 16) (sum k field-le) ∙ ap (λ (z : ℕ). z * 16) (pow-add 2 k (1070 - k))
@@ -107,7 +124,8 @@ module _ (x : Float) (t : T (fits binary64 x)) where
     high-field =
         sym
         (value-is x _ ((2 ^ 52 + digits x) * 2 ^ k) (2 ^ 1074) (pow-pos 1074) value
-        ∙ half-same ((2 ^ 52 + digits x) * 2 ^ k * 10000) (2 ^ 1074) ((2 ^ 52 + digits x) * 625) (2 ^ (1070 - k)) (pow-pos 1074) (pow-pos (1070 - k)) (moved (2 ^ 52 + digits x) (2 ^ k) (2 ^ (1070 - k)) (2 ^ 1074) powers))
+        ∙ half-same ((2 ^ 52 + digits x) * 2 ^ k * 10000) (2 ^ 1074) ((2 ^ 52 + digits x) * 625) (2 ^ (1070 - k)) (pow-pos 1074) (pow-pos (1070 - k))
+        (moved (2 ^ 52 + digits x) (2 ^ k) (2 ^ (1070 - k)) (2 ^ 1074) powers))
 
 -- ---- how many they are
 pub shown-le : (x : Float) → Within 1024 x → tenThousandths x ≤ 10240000
@@ -117,13 +135,6 @@ shown-le (inf s) w = absurd (w .0)
 shown-le (fin s m e) w = half-le (m * up e * 10000) (down e) 10240000 (down-pos e) (omega (arith, w .1))
 
 -- ---- the minus
-abbrev pub +0 : Float
-+0 = ofBits binary64 0
-
-zero-is : +0 ≡ fin false 0 (pos 0)
-unfolding ofBits
-zero-is = refl
-
 pub no-minus : (x : Float) (n : ℕ) → n ≡ tenThousandths x → n ≡ 0 → false ≡ minus x
 unfolding minus
 no-minus x n e z = sym (ap (λ (k : ℕ). negative x && ltb 0 k) (sym e ∙ z) ∙ go (negative x))
@@ -145,7 +156,7 @@ pub the-minus : (x : Float) (n : ℕ) → Within 1024 x → n ≡ tenThousandths
 unfolding minus
 the-minus x n w e z =
     let p : 0 < tenThousandths x = rw e at (positive n z) in
-    ap (lt x) zero-is ∙ below-zero x (w .0) p ∙ sym (ap (λ (b : Bool). negative x && b) (lt-ltb 0 (tenThousandths x) p) ∙ go (negative x))
+    ap (lt x) plus-zero-is ∙ below-zero x (w .0) p ∙ sym (ap (λ (b : Bool). negative x && b) (lt-ltb 0 (tenThousandths x) p) ∙ go (negative x))
   where
     positive : (n : ℕ) → (n ≡ 0 → ⊥) → 0 < n
     positive zero z = absurd (z refl)

@@ -127,7 +127,8 @@ fn put_coordinate(out: &mut [u8], at: usize, x: f64) -> usize
 
 // The line of node i.
 pub fn put_line(out: &mut [u8], at: usize, nodes: &[f64], i: usize) -> usize
-    requires { ⌜ (i < 1000000) × (i * 2 + 1 < length (now nodes)) × Within 1024 (getD (now nodes) (i * 2) nan) × Within 1024 (getD (now nodes) (i * 2 + 1) nan) × (at + 65 ≤ length (now out)) ⌝ }
+    requires { ⌜ (i < 1000000) × (i * 2 + 1 < length (now nodes))
+        × Within 1024 (getD (now nodes) (i * 2) nan) × Within 1024 (getD (now nodes) (i * 2 + 1) nan) × (at + 65 ≤ length (now out)) ⌝ }
     ensures { λ r. ⌜ Written (now (out .entry)) at (Sheet.line (now (nodes .entry)) i) r (now (out .exit)) ⌝ }
 {
     let x = put_number(out, at, i as u64);
@@ -163,7 +164,8 @@ pub fn nodes_out(nodes: &[f64], count: usize) -> bool
 
 // The sheet of the first `node_count` nodes: 0, or 3 or 17 and no byte written.
 pub fn node_sheet(nodes: &[f64], node_count: usize, out: &mut [u8]) -> u64
-    ensures { λ r. ⌜ (r ≡ Sheet.answer (now (nodes .entry)) «node_count» (now (out .entry))) × (now (out .exit) ≡ Sheet.left (now (nodes .entry)) «node_count» (now (out .entry))) ⌝ }
+    ensures { λ r. ⌜ (r ≡ Sheet.answer (now (nodes .entry)) «node_count» (now (out .entry)))
+        × (now (out .exit) ≡ Sheet.left (now (nodes .entry)) «node_count» (now (out .entry))) ⌝ }
 {
     if nodes_out(nodes, node_count) {
         return 3;

@@ -1,4 +1,4 @@
--- Marks laid edge by edge into an array (`Marked`), and counted. Assumes nothing.
+-- Marks laid edge by edge into an array (`Marked`), and counted.
 use Prim.Native.Nat.{ℕ, suc, _+_, _≤_, _<_}
 use native.Mathlib.Numerals.{add-one}
 use native.Mathlib.Omega.{arith}
@@ -49,7 +49,8 @@ module _ (s : Simplified) (a b : GridPoint) (j : ℕ) (e : j ≡ first (λ k. jo
   unfolding stretchesIn table
   found =
       ap (λ (d : ℕ). first (λ k. joins a b (getD (tab table (s .count)) k noStretch)) d 0) (length-tab table (s .count))
-      ∙ first-ext (λ k. joins a b (getD (tab table (s .count)) k noStretch)) (λ k. joins a b (table k)) (s .count) 0 (λ k l m. ap (joins a b) (getD-tab table (s .count) k noStretch (omega arith)))
+      ∙ first-ext (λ k. joins a b (getD (tab table (s .count)) k noStretch)) (λ k. joins a b (table k)) (s .count) 0
+      (λ k l m. ap (joins a b) (getD-tab table (s .count) k noStretch (omega arith)))
       ∙ sym e
 
   pub mark-snap : j < s .count → mark (stretchesIn s) a b ≡ Snap (getD (s .snaps) j (noStretch .snap))

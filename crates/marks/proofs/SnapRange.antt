@@ -9,10 +9,10 @@ use lib.ListN.{length, getD, length-append}
 use lib.Dec.{ltb}
 use borrow.Author.Tests.{ltb-true}
 use Rattle.laws.specs.Bounded.{first}
-use Rattle.laws.specs.Within.{Within}
 use Rattle.vector.specs.declared.GridPoint.{GridPoint}
 use Rattle.vector.specs.declared.Point.{Point}
 use Rattle.vector.specs.Grid.{at}
+use Rattle.vector.specs.Size.{InSheet}
 use Rattle.chain.specs.Chain.{Stretch, noStretch, simplifyChain}
 use Rattle.chain.specs.Range.{ChainOnSheet, SnapsInRange}
 use Rattle.chain.proofs.Snaps.{snaps-in-range}
@@ -31,9 +31,6 @@ unfolding marked
 marked-many ss r = marks-many ss r (length r)
 
 -- ---- in range
-abbrev InSheet : Point → Type 0
-InSheet p = Within 1024 (p .x) × Within 1024 (p .y)
-
 abbrev pub InSheetEdge : EdgeMark → Type 0
 InSheetEdge m = (q : Point) → m ≡ Snap q → InSheet q
 
@@ -59,12 +56,14 @@ unfolding marksTo
 marks-in ss r h zero i = straight-in
 marks-in ss r h (suc n) i = last (marksTo ss r n) (mark ss (at r n) (at r (suc n))) (marks-in ss r h n) (mark-in ss (at r n) (at r (suc n)) h) i
   where
-    last : (es : List EdgeMark) (e : EdgeMark) → ((i : ℕ) → InSheetEdge (getD es i Straight)) → InSheetEdge e → (i : ℕ) → InSheetEdge (getD (es ++ (e ∷ [])) i Straight)
+    last : (es : List EdgeMark) (e : EdgeMark) → ((i : ℕ) → InSheetEdge (getD es i Straight)) → InSheetEdge e → (i : ℕ)
+        → InSheetEdge (getD (es ++ (e ∷ [])) i Straight)
     last [] e f g zero = g
     last [] e f g (suc i) = straight-in
     last (d ∷ es) e f g zero = f zero
     last (d ∷ es) e f g (suc i) = last es e (λ j. f (suc j)) g i
 
-pub marked-in-range : (c : List GridPoint) → ChainOnSheet c → (r : List GridPoint) (i : ℕ) (q : Point) → getD (marked (simplifyChain c) r .edges) i Straight ≡ Snap q → Within 1024 (q .x) × Within 1024 (q .y)
+pub marked-in-range : (c : List GridPoint) → ChainOnSheet c → (r : List GridPoint) (i : ℕ) (q : Point)
+    → getD (marked (simplifyChain c) r .edges) i Straight ≡ Snap q → InSheet q
 unfolding marked
 marked-in-range c h r i = marks-in (simplifyChain c) r (snaps-in-range c h) (length r) i

@@ -1,4 +1,5 @@
--- 01, Words of demand 3: "A part is that ring, or one of the two that make_sub_polygon gives": its corners, and beside each the mark of the edge that starts there.
+-- 01, Words of demand 3: "A part is that ring, or one of the two that make_sub_polygon gives": its corners, and beside
+-- each the mark of the edge that starts there.
 use Prim.Native.Nat.{ℕ, suc}
 use mathlib.Core.List.{List, [], _∷_}
 use Rattle.vector.specs.declared.GridPoint.{GridPoint}

@@ -25,7 +25,8 @@ use Rattle.nodes.proofs.Flat.{length-in, node-in, at-over}
 use Rattle.nodes.specs.declared.nearby.Span.{Span}
 use Rattle.nodes.specs.declared.nearby.Window.{Window}
 use Rattle.nodes.specs.declared.nearby.Nearby.{Nearby}
-use Rattle.nodes.specs.Nearby.{mostNearby, Spans, Framed, insideAt, inside, xsOf, surrounds, Collected, Held, Lists, hasListed, strictly, inSpan, wellIn, wellInside}
+use Rattle.nodes.specs.Nearby.{mostNearby, Spans, Framed, insideAt, inside, xsOf, surrounds, Collected, Held, Lists, hasListed, strictly, inSpan, wellIn}
+use Rattle.nodes.specs.Nearby.{wellInside}
 use Rattle.nodes.proofs.Scan.{has-is, not-near, fewer, found-is}
 use Rattle.nodes.proofs.Rounding.{wider}
 use Rattle.nodes.proofs.Monotone.{in-span, well-in}
@@ -50,7 +51,8 @@ same-inside : (l m : List Float) (w : Window) (i : ℕ) → pointAt l i ≡ poin
 unfolding insideAt
 same-inside l m w i e = ap (λ (p : Point). inSpan (w .x) (p .x) && inSpan (w .y) (p .y)) e
 
-later : (l m : List Float) (w : Window) (n count : ℕ) (numbers : List ℕ) (xs : List Float) → ((i : ℕ) → i < n → pointAt m i ≡ pointAt l i) → Collected l w n numbers xs count → Collected m w n numbers xs count
+later : (l m : List Float) (w : Window) (n count : ℕ) (numbers : List ℕ) (xs : List Float) → ((i : ℕ) → i < n → pointAt m i ≡ pointAt l i)
+    → Collected l w n numbers xs count → Collected m w n numbers xs count
 later l m w n count numbers xs h c =
     let k : (i : ℕ) → i < n → pointAt l i ≡ pointAt m i = (λ i u. sym (h i u)) in
     let e : inside w l n ≡ inside w m n = chosen-ext (insideAt w l) (insideAt w m) n 0 (λ i u. same-inside l m w i (k i (omega (arith, u)))) in
@@ -59,23 +61,30 @@ later l m w n count numbers xs h c =
       places-x = c .places-x;
       few = c .few;
       are = c .are ∙ e;
-      are-x = c .are-x ∙ map-ext (λ i. pointAt l i .x) (λ i. pointAt m i .x) (inside w l n) (λ j u. ap (λ (p : Point). p .x) (k (getD (inside w l n) j 0) (omega (arith, below (insideAt w l) n 0 j u)))) ∙ ap (xsOf m) e;
+      are-x =
+          c .are-x ∙ map-ext (λ i. pointAt l i .x) (λ i. pointAt m i .x) (inside w l n)
+          (λ j u. ap (λ (p : Point). p .x) (k (getD (inside w l n) j 0) (omega (arith, below (insideAt w l) n 0 j u)))) ∙ ap (xsOf m) e;
     }
 
 -- so while the list grows
-held-grown : {P : Point → Type 0} (l : List Float) (used : ℕ) (ns : List Point) (c : Nearby) (numbers : List ℕ) (xs : List Float) → Grown P (nodesIn l used) ns → Held l used c numbers xs → Held (over l ns) (length ns) c numbers xs
+held-grown : {P : Point → Type 0} (l : List Float) (used : ℕ) (ns : List Point) (c : Nearby) (numbers : List ℕ) (xs : List Float) → Grown P (nodesIn l used) ns
+    → Held l used c numbers xs → Held (over l ns) (length ns) c numbers xs
 held-grown l used ns c numbers xs g k =
     let h = length-in l used in
     record {
       old = omega (arith, k .old, g .longer, h);
       framed = k .framed;
       complete = λ u. later l (over l ns) (c .window) (c .old) (c .count) numbers xs
-          (λ i v. at-over l ns i (omega (arith, v, k .old, g .longer, h)) ∙ g .same i (omega (arith, v, k .old, h)) ∙ node-in l used i (omega (arith, v, k .old)))
+          (λ i v. at-over l ns i (omega (arith, v, k .old, g .longer, h)) ∙ g .same i (omega (arith, v, k .old, h))
+          ∙ node-in l used i (omega (arith, v, k .old)))
           (k .complete u);
     }
 
-pub held-over : {P : Point → Type 0} (l m : List Float) (used v : ℕ) (ns : List Point) (c : Nearby) (numbers : List ℕ) (xs : List Float) → m ≡ over l ns → v ≡ length ns → Grown P (nodesIn l used) ns → Held l used c numbers xs → Held m v c numbers xs
-held-over l m used v ns c numbers xs e f g k = subst (λ (z : ℕ). Held m z c numbers xs) (sym f) (subst (λ (z : List Float). Held z (length ns) c numbers xs) (sym e) (held-grown l used ns c numbers xs g k))
+pub held-over : {P : Point → Type 0} (l m : List Float) (used v : ℕ) (ns : List Point) (c : Nearby) (numbers : List ℕ) (xs : List Float) → m ≡ over l ns
+    → v ≡ length ns → Grown P (nodesIn l used) ns → Held l used c numbers xs → Held m v c numbers xs
+held-over l m used v ns c numbers xs e f g k =
+    subst (λ (z : ℕ). Held m z c numbers xs) (sym f)
+    (subst (λ (z : List Float). Held z (length ns) c numbers xs) (sym e) (held-grown l used ns c numbers xs g k))
 
 -- ---- what it holds
 module _ (l : List Float) (w : Window) (n count : ℕ) (numbers : List ℕ) (xs : List Float) (c : Collected l w n numbers xs count) where
@@ -104,16 +113,25 @@ listed-is l n count numbers xs kx ky j c h =
     let k = getD numbers j 0 in
     has-is l kx ky k ∙ ap (λ (x : Float). eqZ kx (key x) && eqZ ky (key (getD l (k * 2 + 1) nan))) (sym (c .same j h))
 
-pub not-close : (l : List Float) (n count : ℕ) (numbers : List ℕ) (xs : List Float) (kx : SoughtKey) (ky : ℤ) (j : ℕ) → Lists l n numbers xs count → Sought kx → Usable l n → j < count → near (kx .scaled) (getD xs j nan) ≡ false → hasListed l numbers (keyOf kx) ky j ≡ false
-not-close l n count numbers xs kx ky j c so u h e = not-near l kx ky (getD numbers j 0) so (u .ranged (getD numbers j 0) (c .low j h) .0) (ap (near (kx .scaled)) (sym (c .same j h)) ∙ e)
+pub not-close : (l : List Float) (n count : ℕ) (numbers : List ℕ) (xs : List Float) (kx : SoughtKey) (ky : ℤ) (j : ℕ) → Lists l n numbers xs count → Sought kx
+    → Usable l n → j < count → near (kx .scaled) (getD xs j nan) ≡ false → hasListed l numbers (keyOf kx) ky j ≡ false
+not-close l n count numbers xs kx ky j c so u h e =
+    not-near l kx ky (getD numbers j 0) so (u .ranged (getD numbers j 0) (c .low j h) .0) (ap (near (kx .scaled)) (sym (c .same j h)) ∙ e)
 
 -- fewer of them
 pub lists-fewer : (l : List Float) (n count m : ℕ) (numbers : List ℕ) (xs : List Float) → m ≤ count → Lists l n numbers xs count → Lists l n numbers xs m
 lists-fewer l n count m numbers xs h c =
-    record { places = c .places; places-x = c .places-x; few = omega (arith, c .few); low = λ j k. c .low j (omega arith); same = λ j k. c .same j (omega arith) }
+    record {
+      places = c .places;
+      places-x = c .places-x;
+      few = omega (arith, c .few);
+      low = λ j k. c .low j (omega arith);
+      same = λ j k. c .same j (omega arith);
+    }
 
 -- d of them, where none of m places is near
-pub none-close : (l : List Float) (n count : ℕ) (numbers : List ℕ) (xs : List Float) (kx : SoughtKey) (ky : ℤ) (i d m : ℕ) → Lists l n numbers xs count → Sought kx → Usable l n → d ≤ m → i + d ≤ count
+pub none-close : (l : List Float) (n count : ℕ) (numbers : List ℕ) (xs : List Float) (kx : SoughtKey) (ky : ℤ) (i d m : ℕ) → Lists l n numbers xs count
+    → Sought kx → Usable l n → d ≤ m → i + d ≤ count
     → any (λ j. near (kx .scaled) (getD xs (i + j) nan)) m ≡ false → first (hasListed l numbers (keyOf kx) ky) d i ≡ i + d
 none-close l n count numbers xs kx ky i d m c so u g h e = first-none (hasListed l numbers (keyOf kx) ky) d i clear
   where
@@ -125,7 +143,8 @@ none-close l n count numbers xs kx ky i d m c so u g h e = first-none (hasListed
 
 -- ---- what it decides
 -- a node with keys strictly inside is in the window
-pub keyed-inside : (l : List Float) (w : Window) (kx ky : ℤ) (i : ℕ) → Framed w → InRange (pointAt l i) → surrounds w kx ky ≡ true → hasAt l kx ky i ≡ true → insideAt w l i ≡ true
+pub keyed-inside : (l : List Float) (w : Window) (kx ky : ℤ) (i : ℕ) → Framed w → InRange (pointAt l i) → surrounds w kx ky ≡ true → hasAt l kx ky i ≡ true
+    → insideAt w l i ≡ true
 unfolding insideAt
 keyed-inside l w kx ky i f r s h =
     let x = pointAt l i .x in
@@ -138,7 +157,8 @@ keyed-inside l w kx ky i f r s h =
     let q = in-span (w .y) y (f .1) (wider y (r .1)) (subst (λ (k : ℤ). T (strictly (w .y) k)) b (and-r (strictly (w .x) kx) (strictly (w .y) ky) v)) in
     T→true _ (and-i (inSpan (w .x) x) (inSpan (w .y) y) p q)
 
-module _ (l : List Float) (w : Window) (n used count : ℕ) (numbers : List ℕ) (xs : List Float) (kx ky : ℤ) (c : Collected l w n numbers xs count) (u : Usable l used) (le : n ≤ used) (f : Framed w) (s : surrounds w kx ky ≡ true)
+module _ (l : List Float) (w : Window) (n used count : ℕ) (numbers : List ℕ) (xs : List Float) (kx ky : ℤ) (c : Collected l w n numbers xs count)
+    (u : Usable l used) (le : n ≤ used) (f : Framed w) (s : surrounds w kx ky ≡ true)
     (j : ℕ) (e : j ≡ first (hasListed l numbers kx ky) count 0) where
   only : (k : ℕ) → k < n → hasAt l kx ky k ≡ true → insideAt w l k ≡ true
   only k h t = keyed-inside l w kx ky k f (u .ranged k (omega arith)) s t
@@ -153,16 +173,19 @@ module _ (l : List Float) (w : Window) (n used count : ℕ) (numbers : List ℕ)
   pub decided : j < count → getD numbers j 0 ≡ first (hasAt l kx ky) used 0
   decided h =
       let a = listed (hasAt l kx ky) (insideAt w l) n count numbers room (c .are) only j e h in
-      a ∙ sym (first-within (hasAt l kx ky) n (used - n) 0 (omega (arith, a, listed-low l w n count numbers xs c j h))) ∙ ap (λ (m : ℕ). first (hasAt l kx ky) m 0) rest
+      a ∙ sym (first-within (hasAt l kx ky) n (used - n) 0 (omega (arith, a, listed-low l w n count numbers xs c j h)))
+      ∙ ap (λ (m : ℕ). first (hasAt l kx ky) m 0) rest
 
   -- or the search goes on after the old nodes
   pub undecided : count ≤ j → first (hasAt l kx ky) (used - n) n ≡ first (hasAt l kx ky) used 0
   undecided h =
       let a = unlisted (hasAt l kx ky) (insideAt w l) n count numbers room (c .are) only j e h in
-      sym (ap (λ (m : ℕ). first (hasAt l kx ky) m 0) (sym rest) ∙ first-beyond (hasAt l kx ky) n (used - n) 0 (omega (arith, a)) ∙ ap (first (hasAt l kx ky) (used - n)) (zero-add n))
+      sym (ap (λ (m : ℕ). first (hasAt l kx ky) m 0) (sym rest) ∙ first-beyond (hasAt l kx ky) n (used - n) 0 (omega (arith, a))
+      ∙ ap (first (hasAt l kx ky) (used - n)) (zero-add n))
 
 -- ---- the search of a point p, whose keys are those of a and b, where the collection decides
-module _ (l : List Float) (used : ℕ) (c : Nearby) (numbers : List ℕ) (xs : List Float) (p : Point) (a b : SoughtKey) (h : Held l used c numbers xs) (u : Usable l used) (e : a ≡ soughtKey (p .x)) (f : b ≡ soughtKey (p .y)) (v : Sought a) (w : Sought b)
+module _ (l : List Float) (used : ℕ) (c : Nearby) (numbers : List ℕ) (xs : List Float) (p : Point) (a b : SoughtKey) (h : Held l used c numbers xs)
+    (u : Usable l used) (e : a ≡ soughtKey (p .x)) (f : b ≡ soughtKey (p .y)) (v : Sought a) (w : Sought b)
     (d : (leb (c .count) mostNearby && wellInside (c .window) (a .scaled) (b .scaled)) ≡ true) where
   both : T (leb (c .count) mostNearby && wellInside (c .window) (a .scaled) (b .scaled))
   both = subst T (sym d) tt
@@ -194,4 +217,5 @@ module _ (l : List Float) (used : ℕ) (c : Nearby) (numbers : List ℕ) (xs : L
     found k = decided l (c .window) (c .old) used (c .count) numbers xs (keyOf a) (keyOf b) all u (h .old) (h .framed) within j g k ∙ found-is l used p a b e f
 
     pub not-found : (r : ℕ) → c .count ≤ j → r ≡ first (hasAt l (keyOf a) (keyOf b)) (used - c .old) (c .old) → r ≡ number (nodesIn l used) p
-    not-found r k s = s ∙ undecided l (c .window) (c .old) used (c .count) numbers xs (keyOf a) (keyOf b) all u (h .old) (h .framed) within j g k ∙ found-is l used p a b e f
+    not-found r k s =
+        s ∙ undecided l (c .window) (c .old) used (c .count) numbers xs (keyOf a) (keyOf b) all u (h .old) (h .framed) within j g k ∙ found-is l used p a b e f

@@ -13,7 +13,7 @@ use lib.ListN.{length, getD, take, drop, set, length-append, length-take, length
 use lib.Seq.{take-all, take-at, take-append-le, length-take-le, drop-cons, set-at}
 use lib.Ieee.{Float, nan}
 use Rattle.laws.specs.Bounded.{any}
-use Rattle.laws.proofs.Booleans.{is-false}
+use Rattle.laws.proofs.Booleans.{is-false, and-false}
 use Rattle.laws.proofs.Search.{any-none}
 use Rattle.nodes.specs.Flat.{pointAt}
 use Rattle.nodes.specs.declared.nearby.Span.{Span}
@@ -22,13 +22,11 @@ use Rattle.nodes.specs.declared.nearby.Nearby.{Nearby}
 use Rattle.nodes.specs.Nearby.{mostNearby, chosen, Framed, inSpan, insideAt, inside, xsOf, counted, laid, nearby, Gathered, GoesOn, Collected, Held}
 use Rattle.nodes.proofs.Chosen.{beyond, pass, hit, skip}
 
-and-false : (b : Bool) → (b && false) ≡ false
-and-false true = refl
-and-false false = refl
-
 -- where branches join
-pub carried : (P : List ℕ → List Float → ℕ → Type 0) (numbers numbers' : List ℕ) (xs xs' : List Float) (k k' : ℕ) → numbers' ≡ numbers → xs' ≡ xs → k' ≡ k → P numbers xs k → P numbers' xs' k'
-carried P numbers numbers' xs xs' k k' d e f p = subst (λ (z : List ℕ). P z xs' k') (sym d) (subst (λ (z : List Float). P numbers z k') (sym e) (subst (λ (z : ℕ). P numbers xs z) (sym f) p))
+pub carried : (P : List ℕ → List Float → ℕ → Type 0) (numbers numbers' : List ℕ) (xs xs' : List Float) (k k' : ℕ) → numbers' ≡ numbers → xs' ≡ xs → k' ≡ k
+    → P numbers xs k → P numbers' xs' k'
+carried P numbers numbers' xs xs' k k' d e f p =
+    subst (λ (z : List ℕ). P z xs' k') (sym d) (subst (λ (z : List Float). P numbers z k') (sym e) (subst (λ (z : ℕ). P numbers xs z) (sym f) p))
 
 -- ---- how many are held
 low : (n : ℕ) → n ≤ mostNearby → counted n ≡ n
@@ -73,7 +71,8 @@ module _ {ℓ} {A : Type ℓ} where
       let n : length (u ++ (x ∷ [])) ≡ suc (length u) = length-append u (x ∷ []) ∙ add-one (length u) in
       ap (λ (v : List A). set v (length u) x) (laid-short u l (omega arith) ∙ ap (λ (v : List A). u ++ v) (drop-cons l (length u) x (omega (arith, h, e))))
       ∙ set-at u (getD l (length u) x) (drop (suc (length u)) l) x (length u) refl
-      ∙ sym (laid-short (u ++ (x ∷ [])) l (omega (arith, n, h)) ∙ ap (λ (k : ℕ). (u ++ (x ∷ [])) ++ drop k l) n ∙ append-assoc u (x ∷ []) (drop (suc (length u)) l))
+      ∙ sym (laid-short (u ++ (x ∷ [])) l (omega (arith, n, h)) ∙ ap (λ (k : ℕ). (u ++ (x ∷ [])) ++ drop k l) n
+      ∙ append-assoc u (x ∷ []) (drop (suc (length u)) l))
 
   laid-full : (u v l : List A) → mostNearby ≤ length u → laid (u ++ v) l ≡ laid u l
   unfolding laid
@@ -81,7 +80,15 @@ module _ {ℓ} {A : Type ℓ} where
 
   laid-length : (u l : List A) → length l ≡ mostNearby → length (laid u l) ≡ mostNearby
   unfolding laid
-  laid-length u l e = omega (arith, e, length-append (take mostNearby u) (drop (length (take mostNearby u)) l), length-drop (length (take mostNearby u)) l, length-take mostNearby u, min-le-left mostNearby (length u))
+  laid-length u l e =
+      omega (
+        arith,
+        e,
+        length-append (take mostNearby u) (drop (length (take mostNearby u)) l),
+        length-drop (length (take mostNearby u)) l,
+        length-take mostNearby u,
+        min-le-left mostNearby (length u),
+      )
 
   laid-take : (u l : List A) → length u ≤ mostNearby → take (length u) (laid u l) ≡ u
   laid-take u l h = ap (take (length u)) (laid-short u l h) ∙ take-at u (drop (length u) l) (length u) refl
@@ -113,7 +120,8 @@ module _ (l : List Float) (w : Window) (a : List ℕ) (b : List Float) where
   pub past : (i k : ℕ) (numbers : List ℕ) (xs : List Float) → insideAt w l i ≡ false → G i numbers xs k → G (i + 1) numbers xs k
   past i k numbers xs h g = same i (i + 1) k numbers xs (pass (insideAt w l) i h) g
 
-  pub past-all : (m n k : ℕ) (numbers : List ℕ) (xs : List Float) → m ≤ n → ((i : ℕ) → m ≤ i → i < n → insideAt w l i ≡ false) → G m numbers xs k → G n numbers xs k
+  pub past-all : (m n k : ℕ) (numbers : List ℕ) (xs : List Float) → m ≤ n → ((i : ℕ) → m ≤ i → i < n → insideAt w l i ≡ false) → G m numbers xs k
+      → G n numbers xs k
   past-all m n k numbers xs h f g = same m n k numbers xs (skip (insideAt w l) m n h f) g
 
   -- one that is, and goes to the next place
@@ -132,19 +140,25 @@ module _ (l : List Float) (w : Window) (a : List ℕ) (b : List Float) where
         record {
           count = add-one k ∙ ap suc (sym n) ∙ sym longer ∙ sym (low (length (U (i + 1))) (omega (arith, longer, n, h)));
           are = (λ j. set (g .are j) (sym n j) i) ∙ laid-more (U i) a i (omega (arith, n, h)) p ∙ ap (λ (u : List ℕ). laid u a) (sym next);
-          are-x = (λ j. set (g .are-x j) (sym nx j) (pointAt l i .x)) ∙ laid-more (xsOf l (U i)) b (pointAt l i .x) (omega (arith, nx, h)) q ∙ ap (λ (u : List Float). laid u b) (sym e);
+          are-x =
+              (λ j. set (g .are-x j) (sym nx j) (pointAt l i .x)) ∙ laid-more (xsOf l (U i)) b (pointAt l i .x) (omega (arith, nx, h)) q
+              ∙ ap (λ (u : List Float). laid u b) (sym e);
         }
 
   -- more than are held: all that comes after changes nothing
-  more : (m n r : ℕ) (numbers : List ℕ) (xs : List Float) → m ≤ n → mostNearby ≤ length (U m) → r ≡ counted (length (U n)) → numbers ≡ laid (U m) a → xs ≡ laid (xsOf l (U m)) b → G n numbers xs r
+  more : (m n r : ℕ) (numbers : List ℕ) (xs : List Float) → m ≤ n → mostNearby ≤ length (U m) → r ≡ counted (length (U n)) → numbers ≡ laid (U m) a
+      → xs ≡ laid (xsOf l (U m)) b → G n numbers xs r
   more m n r numbers xs h k c e f =
       let v = U n in
       let s = beyond (insideAt w l) m n h in
-      let z : xsOf l (U n) ≡ xsOf l (U m) ++ xsOf l (chosen (insideAt w l) (n - m) m) = ap (xsOf l) s ∙ map-append x-at (U m) (chosen (insideAt w l) (n - m) m) in
+      let z : xsOf l (U n) ≡ xsOf l (U m) ++ xsOf l (chosen (insideAt w l) (n - m) m) =
+      ap (xsOf l) s ∙ map-append x-at (U m) (chosen (insideAt w l) (n - m) m) in
       record {
         count = c;
         are = e ∙ sym (ap (λ (u : List ℕ). laid u a) s ∙ laid-full (U m) (chosen (insideAt w l) (n - m) m) a k);
-        are-x = f ∙ sym (ap (λ (u : List Float). laid u b) z ∙ laid-full (xsOf l (U m)) (xsOf l (chosen (insideAt w l) (n - m) m)) b (omega (arith, k, length-map (U m) x-at)));
+        are-x =
+            f ∙ sym (ap (λ (u : List Float). laid u b) z
+            ∙ laid-full (xsOf l (U m)) (xsOf l (chosen (insideAt w l) (n - m) m)) b (omega (arith, k, length-map (U m) x-at)));
       }
 
   up : (m n : ℕ) → m ≤ n → length (U m) ≤ length (U n)
@@ -157,14 +171,16 @@ module _ (l : List Float) (w : Window) (a : List ℕ) (b : List Float) where
       more m n r numbers xs h (omega (arith, o)) (g .count ∙ c) (g .are) (g .are-x)
 
   -- one in the window, where the places are all taken
-  pub full : (i n k r : ℕ) (numbers : List ℕ) (xs : List Float) → insideAt w l i ≡ true → i < n → mostNearby ≤ k → k ≤ mostNearby → r ≡ suc mostNearby → G i numbers xs k → G n numbers xs r
+  pub full : (i n k r : ℕ) (numbers : List ℕ) (xs : List Float) → insideAt w l i ≡ true → i < n → mostNearby ≤ k → k ≤ mostNearby → r ≡ suc mostNearby
+      → G i numbers xs k → G n numbers xs r
   full i n k r numbers xs t h p q e g =
       let o : length (U i) ≡ k = few (length (U i)) k (g .count) q in
       let u : length (U i) < length (U n) = omega (arith, longer i k numbers xs t g, up (i + 1) n (omega arith)) in
       more i n r numbers xs (omega arith) (omega (arith, o, p)) (e ∙ sym (over-full (length (U n)) (omega (arith, u, o, p)))) (g .are) (g .are-x)
 
   -- ---- what the search asks for
-  pub collected : (n r : ℕ) (numbers : List ℕ) (xs : List Float) → length a ≡ mostNearby → length b ≡ mostNearby → r ≤ mostNearby → G n numbers xs r → Collected l w n numbers xs r
+  pub collected : (n r : ℕ) (numbers : List ℕ) (xs : List Float) → length a ≡ mostNearby → length b ≡ mostNearby → r ≤ mostNearby → G n numbers xs r
+      → Collected l w n numbers xs r
   collected n r numbers xs p q h g =
       let o : length (U n) ≡ r = few (length (U n)) r (g .count) h in
       let ox : length (xsOf l (U n)) ≡ r = length-map (U n) x-at ∙ o in
@@ -176,15 +192,23 @@ module _ (l : List Float) (w : Window) (a : List ℕ) (b : List Float) where
         are-x = (λ j. take (sym ox j) (g .are-x j)) ∙ laid-take (xsOf l (U n)) b (omega (arith, ox, h));
       }
 
-  pub held : (old : ℕ) (r : Nearby) (numbers : List ℕ) (xs : List Float) → length a ≡ mostNearby → length b ≡ mostNearby → Framed w → r ≡ nearby w l old → numbers ≡ laid (inside w l old) a → xs ≡ laid (xsOf l (inside w l old)) b → Held l old r numbers xs
+  pub held : (old : ℕ) (r : Nearby) (numbers : List ℕ) (xs : List Float) → length a ≡ mostNearby → length b ≡ mostNearby → Framed w → r ≡ nearby w l old
+      → numbers ≡ laid (inside w l old) a → xs ≡ laid (xsOf l (inside w l old)) b → Held l old r numbers xs
   held old r numbers xs p q f e c d =
       subst (λ (r : Nearby). Held l old r numbers xs) (sym e)
-      (record { old = le-refl old; framed = f; complete = λ h. collected old (counted (length (inside w l old))) numbers xs p q h (record { count = refl; are = c; are-x = d }) })
+      (record {
+        old = le-refl old;
+        framed = f;
+        complete = λ h. collected old (counted (length (inside w l old))) numbers xs p q h
+            (record { count = refl; are = c; are-x = d });
+      })
 
 -- ---- d nodes before place n, of which none has its x in the window, or none its y
 module _ (l : List Float) (w : Window) (d m n : ℕ) (g : n ≤ m + d) (k : d ≤ n) where
   clear : (t : Span) (at : ℕ) → any (λ j. inSpan t (getD l (at + j * 2) nan)) d ≡ false → (j h : ℕ) → j < d → at + j * 2 ≡ h → inSpan t (getD l h nan) ≡ false
-  clear t at e j h b z = subst (λ (m : ℕ). inSpan t (getD l m nan) ≡ false) z (is-false _ (any-none (λ j. inSpan t (getD l (at + j * 2) nan)) d (subst (λ (b : Bool). T (not b)) (sym e) tt) j b))
+  clear t at e j h b z =
+      subst (λ (m : ℕ). inSpan t (getD l m nan) ≡ false) z
+      (is-false _ (any-none (λ j. inSpan t (getD l (at + j * 2) nan)) d (subst (λ (b : Bool). T (not b)) (sym e) tt) j b))
 
   pub none-across : any (λ j. inSpan (w .x) (getD l ((n - d) * 2 + j * 2) nan)) d ≡ false → (i : ℕ) → m ≤ i → i < n → insideAt w l i ≡ false
   unfolding insideAt
@@ -192,4 +216,6 @@ module _ (l : List Float) (w : Window) (d m n : ℕ) (g : n ≤ m + d) (k : d �
 
   pub none-along : any (λ j. inSpan (w .y) (getD l ((n - d) * 2 + 1 + j * 2) nan)) d ≡ false → (i : ℕ) → m ≤ i → i < n → insideAt w l i ≡ false
   unfolding insideAt
-  none-along e i p q = ap (λ (b : Bool). inSpan (w .x) (pointAt l i .x) && b) (clear (w .y) ((n - d) * 2 + 1) e (i - (n - d)) (i * 2 + 1) (omega arith) (omega arith)) ∙ and-false (inSpan (w .x) (pointAt l i .x))
+  none-along e i p q =
+      ap (λ (b : Bool). inSpan (w .x) (pointAt l i .x) && b) (clear (w .y) ((n - d) * 2 + 1) e (i - (n - d)) (i * 2 + 1) (omega arith) (omega arith))
+      ∙ and-false (inSpan (w .x) (pointAt l i .x))

@@ -27,12 +27,14 @@ use Rattle.nodes.specs.declared.nearby.Span.{Span}
 use Rattle.nodes.specs.Nearby.{span, Spans, inSpan, strictly, wellIn}
 
 -- ---- a product with 1.0e8
-scaled-up : (p n d q m c z e : ℕ) → p * c + m * d ≤ q * d + n * c → (p * z + n * 0) * (c * e) + (q * 0 + m * z) * (d * e) ≤ (q * z + m * 0) * (d * e) + (p * 0 + n * z) * (c * e)
+scaled-up : (p n d q m c z e : ℕ) → p * c + m * d ≤ q * d + n * c
+    → (p * z + n * 0) * (c * e) + (q * 0 + m * z) * (d * e) ≤ (q * z + m * 0) * (d * e) + (p * 0 + n * z) * (c * e)
 scaled-up p n d q m c z e h = omega (arith, mul-le-mul-right (z * e) h)
 
 mul-mono : (x y : Float) → T (finite x) → T (finite y) → T (le x y) → T (le (mul binary64 x e8) (mul binary64 y e8))
 mul-mono x y p q h =
-    rounds-mono binary64 (mul binary64 x e8) (mul binary64 y e8) _ _ (den x * den e8) _ _ (den y * den e8) (mul-pos (den-pos x) (den-pos e8)) (mul-pos (den-pos y) (den-pos e8))
+    rounds-mono binary64 (mul binary64 x e8) (mul binary64 y e8) _ _ (den x * den e8) _ _ (den y * den e8) (mul-pos (den-pos x) (den-pos e8))
+    (mul-pos (den-pos y) (den-pos e8))
     (mul-rounds binary64 x e8 p tt) (mul-rounds binary64 y e8 q tt)
     (scaled-up (plus x) (less x) (den x) (plus y) (less y) (den y) (plus e8) (den e8) (le→Le x y p q h))
 
@@ -78,7 +80,8 @@ rounded-mono (fin false m e) (fin true n d) p q h =
     (halfUp-zero (m * up e) (down e) (down-pos e) (nothing (m * up e) (down d) (down-pos d) (omega arith)))
     (halfUp-zero (n * up d) (down d) (down-pos d) (nothing (n * up d) (down e) (down-pos e) (omega arith)))
 rounded-mono (fin true m e) (fin true n d) p q h =
-    minus-minus (halfUp (m * up e) (down e)) (halfUp (n * up d) (down d)) (halfUp-mono (n * up d) (down d) (m * up e) (down e) (down-pos d) (down-pos e) (omega arith))
+    minus-minus (halfUp (m * up e) (down e)) (halfUp (n * up d) (down d))
+    (halfUp-mono (n * up d) (down d) (m * up e) (down e) (down-pos d) (down-pos e) (omega arith))
 
 -- ---- keys
 pub key-mono : (x y : Float) → Within 1025 x → Within 1025 y → T (le x y) → T (leZ (key x) (key y))
@@ -162,10 +165,14 @@ module _ (s : Span) (x : Float) (r : Spans s) (w : Within 1025 x) where
       f = scaled-1025 x w .0
 
       lo-val : Val (s .least) (posp (key (s .lo) +ℤ pos 1)) (negp (key (s .lo) +ℤ pos 1)) 1
-      lo-val = subst (λ (z : Float). Val z (posp (key (s .lo) +ℤ pos 1)) (negp (key (s .lo) +ℤ pos 1)) 1) (sym (ap (λ (u : Span). u .least) (r .same))) (int-val (key (s .lo) +ℤ pos 1) (le-trans (one-above (key (s .lo)) (key-small (s .lo) (r .low))) (lit≤ tt)))
+      lo-val =
+          subst (λ (z : Float). Val z (posp (key (s .lo) +ℤ pos 1)) (negp (key (s .lo) +ℤ pos 1)) 1) (sym (ap (λ (u : Span). u .least) (r .same)))
+          (int-val (key (s .lo) +ℤ pos 1) (le-trans (one-above (key (s .lo)) (key-small (s .lo) (r .low))) (lit≤ tt)))
 
       hi-val : Val (s .most) (posp (key (s .hi) -ℤ pos 1)) (negp (key (s .hi) -ℤ pos 1)) 1
-      hi-val = subst (λ (z : Float). Val z (posp (key (s .hi) -ℤ pos 1)) (negp (key (s .hi) -ℤ pos 1)) 1) (sym (ap (λ (u : Span). u .most) (r .same))) (int-val (key (s .hi) -ℤ pos 1) (le-trans (one-below (key (s .hi)) (key-small (s .hi) (r .high))) (lit≤ tt)))
+      hi-val =
+          subst (λ (z : Float). Val z (posp (key (s .hi) -ℤ pos 1)) (negp (key (s .hi) -ℤ pos 1)) 1) (sym (ap (λ (u : Span). u .most) (r .same)))
+          (int-val (key (s .hi) -ℤ pos 1) (le-trans (one-below (key (s .hi)) (key-small (s .hi) (r .high))) (lit≤ tt)))
 
       low : T (leZ (key (s .lo) +ℤ pos 1) (key x))
       low =

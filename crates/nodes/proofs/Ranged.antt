@@ -12,7 +12,7 @@ use lib.Ieee.{Float, nan, fin, le}
 use Rattle.laws.specs.Bounded.{any}
 use Rattle.laws.proofs.Booleans.{is-false}
 use Rattle.laws.proofs.Constants.{least-1024, most-1024}
-use Rattle.laws.proofs.Search.{any-none, any-hit}
+use Rattle.laws.proofs.Search.{any-none, any-fails, any-hit}
 use Rattle.nodes.specs.Flat.{pointAt, held, allHeld}
 
 pub held-is : (x : Float) → (le (fin true 1 (pos 10)) x && le x (fin false 1 (pos 10))) ≡ held x
@@ -41,11 +41,6 @@ some p b (suc d) n h e = go (any (λ j. p (b + j)) d) (p (b + d)) (some p b d n 
     go true y u v w = u refl
     go false y u v w = v w
 
-clear : (p : ℕ → Bool) (n : ℕ) → ((k : ℕ) → k < n → p k ≡ false) → any p n ≡ false
-unfolding any
-clear p zero h = refl
-clear p (suc n) h = λ j. clear p n (λ k l. h k (omega arith)) j || h n (omega arith) j
-
 low : (p : ℕ → Bool) (n k : ℕ) → any p n ≡ false → k < n → p k ≡ false
 low p n k e h = is-false _ (any-none p n (subst (λ (b : Bool). T (not b)) (sym e) tt) k h)
 
@@ -56,7 +51,7 @@ one-of l d t n h k e = sym (ap not (some (out l) (t - d) d n (omega arith) e))
 
 -- all of them are, and those before place i
 pub go-on : (l : List Float) (d i t : ℕ) → d ≤ t → t ≤ i + d → any (out l) i ≡ false → any (λ j. out l (t - d + j)) d ≡ false → any (out l) t ≡ false
-go-on l d i t h k a b = clear (out l) t (λ m q. go m q (decLe (suc m) i))
+go-on l d i t h k a b = any-fails (out l) t (λ m q. go m q (decLe (suc m) i))
   where
     go : (m : ℕ) → m < t → Dec (m < i) → out l m ≡ false
     go m q (yes y) = low (out l) i m a y

@@ -133,8 +133,10 @@ pub fn add_node(
     numbers: &[NodeNumber],
     xs: &[f64],
 ) -> Placed
-    requires { ⌜ Usable (now nodes) used × InRange p × (length (addNode (nodesIn (now nodes) used) p) * 2 ≤ length (now nodes)) × Held (now nodes) used near (now numbers) (now xs) ⌝ }
-    ensures { λ r. ⌜ (r ≡ placed (nodesIn (now (nodes .entry)) used) p) × (now (nodes .exit) ≡ over (now (nodes .entry)) (addNode (nodesIn (now (nodes .entry)) used) p)) ⌝ }
+    requires { ⌜ Usable (now nodes) used × InRange p × (length (addNode (nodesIn (now nodes) used) p) * 2 ≤ length (now nodes))
+        × Held (now nodes) used near (now numbers) (now xs) ⌝ }
+    ensures { λ r. ⌜ (r ≡ placed (nodesIn (now (nodes .entry)) used) p)
+        × (now (nodes .exit) ≡ over (now (nodes .entry)) (addNode (nodesIn (now (nodes .entry)) used) p)) ⌝ }
 {
     let i = find_nearby(nodes, used, p, near, numbers, xs);
     if i < used {

@@ -12,7 +12,8 @@ ghost use lib.Ieee.{nan};
 ghost use Rattle.laws.specs.Within.{Within};
 ghost use Rattle.laws.specs.Bounded.{any, first};
 ghost use Rattle.nodes.specs.Flat.{Usable, keyOf, Sought, near};
-ghost use Rattle.nodes.specs.Nearby.{mostNearby, span, Spans, inSpan, Framed, inWindow, wellIn, wellInside, inside, xsOf, laid, nearby, Gathered, GoesOn, Lists, hasListed};
+ghost use Rattle.nodes.specs.Nearby.{mostNearby, span, Spans, inSpan, Framed, inWindow, wellIn, wellInside, inside};
+ghost use Rattle.nodes.specs.Nearby.{xsOf, laid, nearby, Gathered, GoesOn, Lists, hasListed};
 use super::NodeNumber;
 use super::keys;
 use super::keys::SoughtKey;
@@ -179,7 +180,8 @@ fn collect_block(
     xs: &mut [f64],
     n: usize,
 ) -> usize
-    requires { ⌜ Usable (now nodes) to × (from ≤ to) × (to ≤ from + 64) × (64 ≤ to) × (length (now numbers) ≡ mostNearby) × (length (now xs) ≡ mostNearby) × (n ≤ mostNearby) ⌝ }
+    requires { ⌜ Usable (now nodes) to × (from ≤ to) × (to ≤ from + 64) × (64 ≤ to)
+        × (length (now numbers) ≡ mostNearby) × (length (now xs) ≡ mostNearby) × (n ≤ mostNearby) ⌝ }
     ensures { λ r. ⌜ GoesOn (now (nodes .entry)) w from (now (numbers .entry)) (now (xs .entry)) n to (now (numbers .exit)) (now (xs .exit)) r ⌝ }
 {
     let at = (to - 64) * 2;
@@ -304,7 +306,8 @@ fn find_listed_block(
     kx: SoughtKey,
     ky: SoughtKey,
 ) -> usize
-    requires { ⌜ Usable (now nodes) old × Lists (now nodes) old (now numbers) (now xs) to × (from ≤ to) × (to ≤ from + 16) × (from + 16 ≤ mostNearby) × Sought kx × Sought ky ⌝ }
+    requires { ⌜ Usable (now nodes) old × Lists (now nodes) old (now numbers) (now xs) to
+        × (from ≤ to) × (to ≤ from + 16) × (from + 16 ≤ mostNearby) × Sought kx × Sought ky ⌝ }
     ensures { λ r. ⌜ r ≡ first (hasListed (now (nodes .entry)) (now (numbers .entry)) (keyOf kx) (keyOf ky)) (to - from) from ⌝ }
 {
     if any_close(xs, from, kx) {

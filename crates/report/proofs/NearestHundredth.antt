@@ -1,5 +1,6 @@
--- Claim (Card 3): what is printed of an area is its nearest hundredth of a square millimetre, halves up; no other number is; a doubled area of 16,777,216 units squared,
--- an eighth of a square millimetre, prints 13, and one of 16,777,215 prints 12.
+-- Claim (Card 3): what is printed of an area is its nearest hundredth of a square millimetre, halves up; no other
+-- number is; a doubled area of 16,777,216 units squared, an eighth of a square millimetre, prints 13, and one of
+-- 16,777,215 prints 12.
 use Prim.Native.Nat.{ℕ, _+_, _*_, _/_, _^_, _≤_, _<_}
 use mathlib.Core.Path.{_≡_, refl}
 use native.Mathlib.Omega.{arith}

@@ -162,7 +162,8 @@ fn put_quads(out: &mut [u8], at: usize, cells: &[u32]) -> usize
 
 // The lines of an accepted ring and its cells, four node numbers a cell and at most 124 of them.
 pub fn print_ring(out: &mut [u8], a: Divided, cells: &[u32]) -> usize
-    ensures { λ r. ⌜ Printed (holds (now (out .entry)) && fewCells (now (cells .entry))) (now (out .entry)) (Report.ringText a (now (cells .entry))) r (now (out .exit)) ⌝ }
+    ensures { λ r. ⌜ Printed (holds (now (out .entry)) && fewCells (now (cells .entry))) (now (out .entry))
+        (Report.ringText a (now (cells .entry))) r (now (out .exit)) ⌝ }
 {
     if out.len() < MOST_TEXT {
         return 0;

@@ -1,5 +1,6 @@
--- Claim (Card 4): "Every ring count has its old reserve". Each row of the reserve sheet, for a ring of 3 to 60 points, has the 3r + 2m + 1 node places and the r + 2m cell
--- places of 01 at 32 cuts. One computation over the whole sheet (`node-rows`, `cell-rows`), and one lemma that says it of each row (`sheet-rows`).
+-- Claim (Card 4): "Every ring count has its old reserve". Each row of the reserve sheet, for a ring of 3 to 60 points,
+-- has the 3r + 2m + 1 node places and the r + 2m cell places of 01 at 32 cuts. One computation over the whole sheet
+-- (`node-rows`, `cell-rows`), and one lemma that says it of each row (`sheet-rows`).
 use Prim.Native.Nat.{ℕ, _+_, _-_, _≤_, _<_}
 use native.Mathlib.Omega.{arith}
 use mathlib.Core.Path.{_≡_, refl, ap, _∙_}

@@ -24,14 +24,16 @@ squares X x Y y R r h k l =
     (lt-of-lt-of-le l (le-trans (mul-le-mul-right x (mul-le-mul m m)) (le-trans (le-of-eq a) (le-trans (mul-le-mul-right (2 * r * (2 * r)) h) (le-of-eq b)))))
 
 pub root-least : (m : ℕ) (e : ℤ) (n : ℕ) (d : ℤ) → T (fits binary64 (fin false (suc m) e)) → T (fits binary64 (fin false (suc n) d))
-    → num (fin false (suc n) d) * num (fin false (suc n) d) * den (fin false (suc m) e) ≤ num (fin false (suc m) e) * (den (fin false (suc n) d) * den (fin false (suc n) d))
+    → num (fin false (suc n) d) * num (fin false (suc n) d) * den (fin false (suc m) e) ≤ num (fin false (suc m) e) *
+    (den (fin false (suc n) d) * den (fin false (suc n) d))
     → T (lt (rootOf (fin false (suc m) e)) (fin false (suc n) d)) → ⊥
 root-least m e n d f g h t =
     let x = fin false (suc m) e in
     let y = fin false (suc n) d in
     let r = rootOf x in
     let N = nearest-root m e f in
-    squares (num x) (den x) (num y) (den y) (num r) (den r) h (le→cross r y (N .above-zero) (lt→ltb 0 (suc n) (omega arith)) (lt→le r y t)) (N .from-above (suc n) d g t)
+    squares (num x) (den x) (num y) (den y) (num r) (den r) h (le→cross r y (N .above-zero) (lt→ltb 0 (suc n) (omega arith)) (lt→le r y t))
+    (N .from-above (suc n) d g t)
 
 -- 2 ^ -12 and its square
 abbrev pub bound : Float
@@ -50,4 +52,5 @@ not-below (fin false zero e) f h t = absurd (above-of-le square (fin false zero 
 not-below (fin false (suc m) e) f h t = root-least m e 0 (negsuc 11) f tt (le→cross square (fin false (suc m) e) tt (lt→ltb 0 (suc m) (omega arith)) h) t
 
 pub root-above : (x t : Float) → T (fits binary64 x) → le square x ≡ true → lt t bound ≡ true → le (rootOf x) t ≡ false
-root-above x t f h k = bool-ext (le (rootOf x) t) false (λ l. not-below x f (subst T (sym h) tt) (le-lt-trans-f (rootOf x) t bound l (subst T (sym k) tt))) (λ z. absurd z)
+root-above x t f h k =
+    bool-ext (le (rootOf x) t) false (λ l. not-below x f (subst T (sym h) tt) (le-lt-trans-f (rootOf x) t bound l (subst T (sym k) tt))) (λ z. absurd z)

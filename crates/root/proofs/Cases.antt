@@ -14,15 +14,9 @@ use lib.Ieee.{Float, nan, inf, fin, binary64, up, down, lt, eq, div, odd, isNan,
 use lib.Ieee.Bits.{ofBits-toBits, toBits-ofBits, toBits-lt, nanBits-above, nanBits-is, is-true, cond-no}
 use lib.Ieee.Fits.{eq→eqb, up-pos, down-pos}
 use lib.Ieee.Exact.{HasValue, odd-sign}
+use Rattle.laws.proofs.Constants.{+0, plus-zero-is}
 use Rattle.root.specs.Root.{rootOf, rootBits}
 use Rattle.root.proofs.Pattern.{plain, fields-low}
-
-abbrev pub +0 : Float
-+0 = ofBits binary64 0
-
-zero-is : +0 ≡ fin false 0 (pos 0)
-unfolding ofBits
-zero-is = refl
 
 pub nan-is : div binary64 +0 +0 ≡ nan
 unfolding ofBits div
@@ -30,10 +24,10 @@ nan-is = refl
 
 -- a test at +0, at its value
 at-zero : (f : Float → Float → Bool) (b : Bool) (x : Float) → f +0 x ≡ b → f (fin false 0 (pos 0)) x ≡ b
-at-zero f b x h = subst (λ (z : Float). f z x ≡ b) zero-is h
+at-zero f b x h = subst (λ (z : Float). f z x ≡ b) plus-zero-is h
 
 at-zero-right : (f : Float → Float → Bool) (b : Bool) (x : Float) → f x +0 ≡ b → f x (fin false 0 (pos 0)) ≡ b
-at-zero-right f b x h = subst (λ (z : Float). f x z ≡ b) zero-is h
+at-zero-right f b x h = subst (λ (z : Float). f x z ≡ b) plus-zero-is h
 
 no : {X : Type 0} → false ≡ true → X
 no h = absurd (true≢false (sym h))
@@ -56,7 +50,8 @@ pattern-pos x f h = elim (eq-zero-or-pos (toBits binary64 x)) [
 pub no-nan-bits : (r : ℕ) → r < 0x7ff0_0000_0000_0000 → T (not (nanBits binary64 r))
 no-nan-bits r h =
     let small : r < 2 ^ 63 = omega arith in
-    subst (λ (b : Bool). T (not b)) (sym (nanBits-above binary64 r ∙ ap (ltb 0x7ff0_0000_0000_0000) (mod-eq-of-lt small))) (le→nltb 0x7ff0_0000_0000_0000 r (omega arith))
+    subst (λ (b : Bool). T (not b)) (sym (nanBits-above binary64 r ∙ ap (ltb 0x7ff0_0000_0000_0000) (mod-eq-of-lt small)))
+    (le→nltb 0x7ff0_0000_0000_0000 r (omega arith))
 
 -- ---- a pattern from the infinity's up, with the sign clear: the infinity's, or a NaN's
 fields-top : (x t : ℕ) → x ≡ 2047 → ofFields binary64 false x t ≡ cond (eqb t 0) (inf false) nan
@@ -71,7 +66,8 @@ top-fields : (b : ℕ) → 0x7ff0_0000_0000_0000 ≤ b → b < 2 ^ 63 → ofBits
 top-fields b l h = plain b h ∙ fields-top (b / 2 ^ 52) (b % 2 ^ 52) (omega arith)
 
 nan-pattern : (b : ℕ) → 0x7ff0_0000_0000_0000 < b → b < 2 ^ 63 → ofBits binary64 b ≡ nan
-nan-pattern b l h = top-fields b (omega arith) h ∙ cond-no (eqb (b % 2 ^ 52) 0) (inf false) nan (not-T (eqb (b % 2 ^ 52) 0) (λ u. none b l h (eqb→eq (b % 2 ^ 52) 0 u)))
+nan-pattern b l h =
+    top-fields b (omega arith) h ∙ cond-no (eqb (b % 2 ^ 52) 0) (inf false) nan (not-T (eqb (b % 2 ^ 52) 0) (λ u. none b l h (eqb→eq (b % 2 ^ 52) 0 u)))
   where
     none : (b : ℕ) → 0x7ff0_0000_0000_0000 < b → b < 2 ^ 63 → b % 2 ^ 52 ≡ 0 → ⊥
     none b l h e = omega arith
@@ -94,7 +90,8 @@ unfolding rootOf
 below-zero nan a v p = absurd v
 below-zero (inf t) a v p = absurd v
 below-zero (fin false m e) a v p = absurd (true≢false (sym (v .0)))
-below-zero (fin true zero e) a v p = absurd (lt-irrefl 0 (subst (λ (x : ℕ). 0 < x) (sym (v .1) ∙ ap (λ (x : ℕ). x * 2 ^ 1074) (zero-mul (up e))) (mul-pos p (down-pos e))))
+below-zero (fin true zero e) a v p =
+    absurd (lt-irrefl 0 (subst (λ (x : ℕ). 0 < x) (sym (v .1) ∙ ap (λ (x : ℕ). x * 2 ^ 1074) (zero-mul (up e))) (mul-pos p (down-pos e))))
 below-zero (fin true (suc m) e) a v p = refl
 
 no-root : (x t : ℕ) → 0 < x + t → rootOf (ofFields binary64 true x t) ≡ nan
@@ -144,7 +141,8 @@ zeros (fin s zero e) h = refl
 zeros (fin s (suc m) e) h =
     let n = suc m * up e * 1 in
     let p : 0 < n = mul-pos (mul-pos (zero-lt-suc m) (up-pos e)) (zero-lt-suc 0) in
-    let z : n ≡ 0 = eqb→eq n (0 * 1 * down e) (first-true (eqb n (0 * 1 * down e)) (Bool·beq s false || eqb n 0) (at-zero-right eq true (fin s (suc m) e) h)) ∙ zero-mul (down e) in
+    let z : n ≡ 0 = eqb→eq n (0 * 1 * down e) (first-true (eqb n (0 * 1 * down e)) (Bool·beq s false || eqb n 0) (at-zero-right eq true (fin s (suc m) e) h))
+    ∙ zero-mul (down e) in
     absurd (lt-irrefl 0 (subst (λ (x : ℕ). 0 < x) z p))
 
 -- ---- neither: a NaN, or below zero
@@ -160,7 +158,9 @@ unfolding rootOf lt eq
 others nan h k = refl
 others (inf true) h k = refl
 others (inf false) h k = absurd (true≢false (at-zero lt false (inf false) h))
-others (fin s zero e) h k = absurd (true≢false (sym (level-zero s (0 * up e * 1) (0 * 1 * down e) (ap (λ (x : ℕ). x * 1) (zero-mul (up e))) (zero-mul (down e))) ∙ at-zero-right eq false (fin s zero e) k))
+others (fin s zero e) h k =
+    absurd (true≢false (sym (level-zero s (0 * up e * 1) (0 * 1 * down e) (ap (λ (x : ℕ). x * 1) (zero-mul (up e))) (zero-mul (down e)))
+    ∙ at-zero-right eq false (fin s zero e) k))
 others (fin true (suc m) e) h k = refl
 others (fin false (suc m) e) h k =
     let n = suc m * up e * 1 in
@@ -192,7 +192,8 @@ zero-bits b h e = elim (either b h e) [
 
 pub positive-bits : (b r : ℕ) → ofBits binary64 r ≡ rootOf (ofBits binary64 b) → r < 0x7ff0_0000_0000_0000 → r ≡ rootBits b
 unfolding rootBits
-positive-bits b r e h = sym (ap (toBits binary64) (sym e) ∙ toBits-ofBits binary64 r (omega arith) (subst (λ (c : Bool). T (not c)) (nanBits-is binary64 r) (no-nan-bits r h)))
+positive-bits b r e h =
+    sym (ap (toBits binary64) (sym e) ∙ toBits-ofBits binary64 r (omega arith) (subst (λ (c : Bool). T (not c)) (nanBits-is binary64 r) (no-nan-bits r h)))
 
 pub infinite-bits : (b : ℕ) → b ≡ 0x7ff0_0000_0000_0000 → b ≡ rootBits b
 unfolding rootBits rootOf ofBits toBits

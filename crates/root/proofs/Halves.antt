@@ -1,7 +1,8 @@
 -- The lower half of a root's digits by one division. Nothing here is about floats.
 use mathlib.Core.Path.{_≡_, sym, ap, _∙_, subst}
 use Prim.Native.Nat.{ℕ, zero, suc, _+_, _-_, _*_, _/_, _%_, _^_, _≤_, _<_}
-use native.Mathlib.Nat.{lt-of-not-le, lt-of-le-of-lt, le-of-suc-le-suc, add-mul, mul-add, mul-comm, mul-assoc, mul-right-comm, mul-mul-mul-comm, mul-le-mul, mul-le-mul-right, div-add-mod', mod-lt}
+use native.Mathlib.Nat.{lt-of-not-le, lt-of-le-of-lt, le-of-suc-le-suc, add-mul, mul-add, mul-comm, mul-assoc, mul-right-comm, mul-mul-mul-comm, mul-le-mul}
+use native.Mathlib.Nat.{mul-le-mul-right, div-add-mod', mod-lt}
 use native.Mathlib.Omega.{arith}
 use lib.Dec.{lit<}
 use Rattle.root.specs.Root.{IsRoot}
@@ -31,7 +32,8 @@ module _ (n a b v : ℕ) (lo : 2 ^ 52 ≤ n) (hi : n < 2 ^ 54) (i : IsRoot n a) 
   -- n * 2 ^ 54 is the square of a * 2 ^ 27 + b, and v * 2 ^ 27 - b * b more
   square : (a * 2 ^ 27 + b) * (a * 2 ^ 27 + b) + v * 2 ^ 27 ≡ n * 2 ^ 54 + b * b
   square =
-      let e : (a * 2 ^ 27 + b) * (a * 2 ^ 27 + b) ≡ a * 2 ^ 27 * (a * 2 ^ 27) + a * 2 ^ 27 * b + (b * (a * 2 ^ 27) + b * b) = simp (add-mul, mul-add) (omega arith) in
+      let e : (a * 2 ^ 27 + b) * (a * 2 ^ 27 + b) ≡ a * 2 ^ 27 * (a * 2 ^ 27) + a * 2 ^ 27 * b + (b * (a * 2 ^ 27) + b * b) =
+      simp (add-mul, mul-add) (omega arith) in
       let f : a * 2 ^ 27 * (a * 2 ^ 27) ≡ a * a * 2 ^ 54 = mul-mul-mul-comm a (2 ^ 27) a (2 ^ 27) in
       let g : a * 2 ^ 27 * b ≡ b * a * 2 ^ 27 = mul-right-comm a (2 ^ 27) b ∙ ap (λ (x : ℕ). x * 2 ^ 27) (mul-comm a b) in
       let h : b * (a * 2 ^ 27) ≡ b * a * 2 ^ 27 = sym (mul-assoc b a (2 ^ 27)) in
@@ -74,7 +76,14 @@ known n a lo hi i =
     let p : 0 < a * 2 = omega arith in
     let split = div-add-mod' ((n - a * a) * 2 ^ 27) (a * 2) in
     let under = mod-lt ((n - a * a) * 2 ^ 27) p in
-    record { from = from; to = upper-to n a hi i; more = rest n a i; few = digits-le n a (quot n a) (left n a) lo hi i split under; under = under; split = split }
+    record {
+      from = from;
+      to = upper-to n a hi i;
+      more = rest n a i;
+      few = digits-le n a (quot n a) (left n a) lo hi i split under;
+      under = under;
+      split = split;
+    }
 
 pub square-few : (b : ℕ) → b ≤ 2 ^ 27 → b * b < 2 ^ 64
 square-few b h = lt-of-le-of-lt (mul-le-mul h h) (lit< tt)

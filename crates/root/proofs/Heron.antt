@@ -1,7 +1,8 @@
 -- Heron's steps to the whole part of a square root, and the range of each number on the way. Nothing here is about floats.
 use mathlib.Core.Path.{_≡_, subst}
 use Prim.Native.Nat.{ℕ, zero, suc, _+_, _-_, _*_, _/_, _^_, _≤_, _<_}
-use native.Mathlib.Nat.{le-of-lt, lt-of-not-le, lt-of-lt-of-le, lt-of-le-of-lt, lt-suc-self, zero-lt-suc, add-sub-of-le, add-mul, mul-add, mul-comm, mul-right-comm, mul-le-mul, mul-le-mul-left, mul-le-mul-right, div-lt-iff-lt-mul}
+use native.Mathlib.Nat.{le-of-lt, lt-of-not-le, lt-of-lt-of-le, lt-of-le-of-lt, lt-suc-self, zero-lt-suc, add-sub-of-le, add-mul, mul-add, mul-comm}
+use native.Mathlib.Nat.{mul-right-comm, mul-le-mul, mul-le-mul-left, mul-le-mul-right, div-lt-iff-lt-mul}
 use native.Mathlib.Decide.{decLe}
 use native.Mathlib.Omega.{arith}
 use lib.Dec.{lit<}

@@ -74,7 +74,8 @@ root-within (fin false (suc m) e) h k = round-within (suc m * up e * 2 ^ 2148 / 
     small : suc m * up e * 2 ^ 2148 < 2 ^ 2176 * down e
     small =
         lt-of-le-of-lt (mul-le-mul-right (2 ^ 2148) (k .1))
-        (lt-of-le-of-lt (le-of-eq (mul-right-comm (2 ^ 24) (down e) (2 ^ 2148) ∙ ap (λ (z : ℕ). z * down e) (sym (pow-add 2 24 2148)))) (mul-lt-mul-of-pos-right (pow-lt {i = 2172} {j = 2176} (lit< tt)) (down-pos e)))
+        (lt-of-le-of-lt (le-of-eq (mul-right-comm (2 ^ 24) (down e) (2 ^ 2148) ∙ ap (λ (z : ℕ). z * down e) (sym (pow-add 2 24 2148))))
+        (mul-lt-mul-of-pos-right (pow-lt {i = 2172} {j = 2176} (lit< tt)) (down-pos e)))
 
 -- ---- a sum of squares
 sum-plus : (z w : ℤ) → minusSign (z *ℤ z +ℤ w *ℤ w) ≡ false
@@ -88,7 +89,8 @@ unfolding Units.mm²
 square-mm-within z p h =
     let e = mm²-is z (omega arith) in (
       rw e (subst (λ (s : Bool). Signed s (scaled binary64 z (2 ^ 26))) p (round-signed binary64 (minusSign z) (natAbs z) (2 ^ 26))),
-      rw e (value-within (2 ^ 24) (scaled binary64 z (2 ^ 26)) (minusSign z) (natAbs z) (2 ^ 26) (pow-pos 26) (scaled-value binary64 z 26 (omega arith) (lit≤ tt)) (omega arith)),
+      rw e (value-within (2 ^ 24) (scaled binary64 z (2 ^ 26)) (minusSign z) (natAbs z) (2 ^ 26) (pow-pos 26)
+          (scaled-value binary64 z 26 (omega arith) (lit≤ tt)) (omega arith)),
     )
 
 pub gridNorm-within : (v : GridPoint) → Step v → Within (2 ^ 14) (gridNorm v)

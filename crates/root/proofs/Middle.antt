@@ -2,7 +2,8 @@
 use mathlib.Core.Path.{_≡_, sym, ap, _∙_}
 use mathlib.Core.Bool.{true, false, true≢false}
 use Prim.Native.Nat.{ℕ, _+_, _*_, _^_, _<_}
-use native.Mathlib.Nat.{le-of-eq, lt-of-lt-of-le, lt-of-le-of-lt, mul-comm, mul-assoc, mul-right-comm, mul-mul-mul-comm, add-mul, mul-lt-mul-of-pos-right, lt-of-mul-lt-mul-right, mul-pos}
+use native.Mathlib.Nat.{le-of-eq, lt-of-lt-of-le, lt-of-le-of-lt, mul-comm, mul-assoc, mul-right-comm, mul-mul-mul-comm, add-mul, mul-lt-mul-of-pos-right}
+use native.Mathlib.Nat.{lt-of-mul-lt-mul-right, mul-pos}
 use lib.Dec.{T, ltb→lt}
 use lib.Pow.{pow-pos}
 use lib.Ieee.{Float, nan, inf, fin, up, down, lt}
@@ -17,10 +18,13 @@ module _ (y r : Float) (w q : ℕ) (Y : HasValue y false w (2 ^ 1074)) (R : HasV
 
   second-is : num r * den y * 2 ^ 1074 ≡ q * (den y * den r)
   second-is =
-      mul-right-comm (num r) (den y) (2 ^ 1074) ∙ ap (λ (z : ℕ). z * den y) (value→cross r q (2 ^ 1074) R) ∙ mul-assoc q (den r) (den y) ∙ ap (λ (z : ℕ). q * z) (mul-comm (den r) (den y))
+      mul-right-comm (num r) (den y) (2 ^ 1074) ∙ ap (λ (z : ℕ). z * den y) (value→cross r q (2 ^ 1074) R) ∙ mul-assoc q (den r) (den y)
+      ∙ ap (λ (z : ℕ). q * z) (mul-comm (den r) (den y))
 
   middle-is : middle y r * 2 ^ 1074 ≡ (w + q) * (den y * den r)
-  middle-is = add-mul (num y * den r) (num r * den y) (2 ^ 1074) ∙ ap (λ (z : ℕ). z + num r * den y * 2 ^ 1074) first-is ∙ ap (λ (z : ℕ). w * (den y * den r) + z) second-is ∙ sym (add-mul w q (den y * den r))
+  middle-is =
+      add-mul (num y * den r) (num r * den y) (2 ^ 1074) ∙ ap (λ (z : ℕ). z + num r * den y * 2 ^ 1074) first-is
+      ∙ ap (λ (z : ℕ). w * (den y * den r) + z) second-is ∙ sym (add-mul w q (den y * den r))
 
   -- the order of the values is that of their units
   pub lt-units : T (lt y r) → w < q
@@ -42,7 +46,9 @@ module _ (y r : Float) (w q : ℕ) (Y : HasValue y false w (2 ^ 1074)) (R : HasV
     left-is : middle y r * middle y r * den x * (2 ^ 1074 * 2 ^ 1074) ≡ (w + q) * (w + q) * (den y * den r * (den y * den r) * den x)
     left-is =
         mul-right-comm (middle y r * middle y r) (den x) (2 ^ 1074 * 2 ^ 1074)
-        ∙ ap (λ (z : ℕ). z * den x) (mul-mul-mul-comm (middle y r) (middle y r) (2 ^ 1074) (2 ^ 1074) ∙ ap (λ (z : ℕ). z * z) middle-is ∙ mul-mul-mul-comm (w + q) (den y * den r) (w + q) (den y * den r))
+        ∙ ap (λ (z : ℕ). z * den x)
+        (mul-mul-mul-comm (middle y r) (middle y r) (2 ^ 1074) (2 ^ 1074) ∙ ap (λ (z : ℕ). z * z) middle-is
+        ∙ mul-mul-mul-comm (w + q) (den y * den r) (w + q) (den y * den r))
         ∙ mul-assoc ((w + q) * (w + q)) (den y * den r * (den y * den r)) (den x)
 
     right-is : num x * (twice y r * twice y r) * (2 ^ 1074 * 2 ^ 1074) ≡ a * 2 ^ 1076 * (den y * den r * (den y * den r) * den x)

@@ -2,7 +2,8 @@
 use mathlib.Core.Path.{_≡_, sym, ap, _∙_, subst}
 use mathlib.Core.Bool.{Bool, true, false, cond, true≢false}
 use Prim.Native.Nat.{ℕ, suc, _+_, _-_, _*_, _/_, _%_, _^_, _≤_, _<_}
-use native.Mathlib.Nat.{add-comm, le-trans, le-of-eq, lt-of-lt-of-le, lt-of-le-of-lt, zero-add, mul-div-cancel, mul-le-mul-right, mul-lt-mul-of-pos-right, mod-eq-of-lt}
+use native.Mathlib.Nat.{add-comm, le-trans, le-of-eq, lt-of-lt-of-le, lt-of-le-of-lt, zero-add, mul-div-cancel, mul-le-mul-right, mul-lt-mul-of-pos-right}
+use native.Mathlib.Nat.{mod-eq-of-lt}
 use native.Mathlib.Omega.{arith}
 use lib.Dec.{T, leb, eqb, eqb→eq, not-T}
 use lib.Arith.{lt→nleb}
@@ -40,7 +41,8 @@ written (fin false m e) q k v lo hi =
     ∙ ap (λ (x : ℕ). x + q) (zero-add (k * 2 ^ 52))
 
 -- so the pattern k * 2 ^ 52 + q stands for that value
-pub read-back : (v : Float) (q k : ℕ) → T (fits binary64 v) → HasValue v false (q * 2 ^ k) (2 ^ 1074) → 2 ^ 52 ≤ q → q < 2 ^ 53 → ofBits binary64 (k * 2 ^ 52 + q) ≡ v
+pub read-back : (v : Float) (q k : ℕ) → T (fits binary64 v) → HasValue v false (q * 2 ^ k) (2 ^ 1074) → 2 ^ 52 ≤ q → q < 2 ^ 53
+    → ofBits binary64 (k * 2 ^ 52 + q) ≡ v
 read-back v q k f h lo hi = ap (ofBits binary64) (sym (written v q k h lo hi)) ∙ ofBits-toBits binary64 v f
 
 -- ---- what a pattern's fields stand for, in units
@@ -52,7 +54,8 @@ pub fields-high : (s : Bool) (x t : ℕ) → suc x < 2047 → HasValue (ofFields
 unfolding ofFields
 fields-high s x t h =
     subst (λ (v : Float). HasValue v s ((2 ^ 52 + t) * 2 ^ x) (2 ^ 1074))
-    (sym (cond-no (eqb (suc x) 2047) (cond (eqb t 0) (inf s) nan) (odd 53 s (2 ^ 52 + t) x 1074) (not-T (eqb (suc x) 2047) (λ u. no x h (eqb→eq (suc x) 2047 u)))))
+    (sym (cond-no (eqb (suc x) 2047) (cond (eqb t 0) (inf s) nan) (odd 53 s (2 ^ 52 + t) x 1074)
+    (not-T (eqb (suc x) 2047) (λ u. no x h (eqb→eq (suc x) 2047 u)))))
     (odd-sign 53 s (2 ^ 52 + t) x 1074)
   where
     no : (x : ℕ) → suc x < 2047 → suc x ≡ 2047 → ⊥
@@ -89,6 +92,7 @@ decoded-high b h l = record {
   most = omega arith;
   value =
       let e : b / 2 ^ 52 ≡ suc (b / 2 ^ 52 - 1) = omega arith in
-      subst (λ (v : Float). HasValue v false ((b % 2 ^ 52 + 2 ^ 52) * 2 ^ (b / 2 ^ 52 - 1)) (2 ^ 1074)) (sym (plain b (omega arith) ∙ ap (λ (x : ℕ). ofFields binary64 false x (b % 2 ^ 52)) e))
+      subst (λ (v : Float). HasValue v false ((b % 2 ^ 52 + 2 ^ 52) * 2 ^ (b / 2 ^ 52 - 1)) (2 ^ 1074))
+      (sym (plain b (omega arith) ∙ ap (λ (x : ℕ). ofFields binary64 false x (b % 2 ^ 52)) e))
       (rw (add-comm (b % 2 ^ 52) (2 ^ 52)) (fields-high false (b / 2 ^ 52 - 1) (b % 2 ^ 52) (omega arith)));
 }

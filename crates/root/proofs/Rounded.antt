@@ -2,34 +2,23 @@
 -- The last digit of s says on which side of the middle between two values the root lies. It never lies at the middle, since 4 m is even.
 use mathlib.Core.Path.{_≡_, refl, sym, ap, _∙_, subst}
 use mathlib.Core.Logic.{inl, inr}
-use mathlib.Core.Bool.{Bool, true, false, not, cond}
+use mathlib.Core.Bool.{Bool, true, false, cond}
 use Prim.Native.Nat.{ℕ, suc, _+_, _-_, _*_, _/_, _^_, _≤_, _<_, compare, Ordering, Ordering·lt, Ordering·eq, Ordering·gt}
-use native.Mathlib.Nat.{le-trans, le-of-eq, lt-of-lt-of-le, lt-of-le-of-lt, mul-comm, mul-assoc, mul-mul-mul-comm, mul-le-mul, mul-le-mul-right, mul-lt-mul-of-pos-right, mul-pos, mul-div-cancel}
+use native.Mathlib.Nat.{le-trans, le-of-eq, lt-of-lt-of-le, lt-of-le-of-lt, mul-comm, mul-assoc, mul-mul-mul-comm, mul-le-mul, mul-le-mul-right}
+use native.Mathlib.Nat.{mul-lt-mul-of-pos-right, mul-pos, mul-div-cancel}
 use native.Mathlib.Omega.{arith}
-use lib.Dec.{T, ltb, eqb, isLe, isEq, leb→le, nleb→lt, eqb→eq, eqb-refl, lt→ltb}
+use lib.Dec.{T, ltb, lt→ltb}
 use lib.Arith.{lt-of-le-ne}
 use lib.Pow.{pow-add, pow-pos, pow-lt}
 use lib.Ieee.{binary64, inf, nearest, odd, size, units, fits}
 use lib.Ieee.Digits.{size-lt, size-le}
 use lib.Ieee.Fits.{odd-fits}
 use lib.Ieee.Exact.{HasValue, units-val}
+use Rattle.laws.proofs.HalfUlp.{Cmp, cmp}
 use Rattle.root.specs.Root.{IsRoot, wholeRoot, nearestRoot, dropped, roundRoot}
 use Rattle.root.proofs.Square.{pow-back, parity, odd-square, wholeRoot-is, half-root}
 
 -- ---- `nearest` by an order
-abbrev Cmp : Ordering → ℕ → ℕ → Type 0
-Cmp Ordering·lt a b = a < b
-Cmp Ordering·eq a b = a ≡ b
-Cmp Ordering·gt a b = b < a
-
-cmp : (a b : ℕ) → Cmp (compare a b) a b
-cmp a b = go (compare a b) (leb→le a b) (nleb→lt a b) (eqb→eq a b) (λ (e : a ≡ b). subst (λ (x : ℕ). T (eqb a x)) e (eqb-refl a))
-  where
-    go : (o : Ordering) → (T (isLe o) → a ≤ b) → (T (not (isLe o)) → b < a) → (T (isEq o) → a ≡ b) → (a ≡ b → T (isEq o)) → Cmp o a b
-    go Ordering·lt h k e n = lt-of-le-ne (h tt) n
-    go Ordering·eq h k e n = e tt
-    go Ordering·gt h k e n = k tt
-
 nearest-under : (q a b : ℕ) → a < b → nearest q (compare a b) ≡ q
 nearest-under q a b h = go (compare a b) (cmp a b)
   where
@@ -84,11 +73,13 @@ module _ (m s k : ℕ) (i : IsRoot (m * 4) s) (lo : 2 ^ 53 ≤ s) (hi : s < 2 ^ 
   judged = elim (parity s) [
     | inl e ↦
         nearest-under (s / 2) (4 * (m * (2 ^ k * 2 ^ k))) (h * h)
-        (lt-of-le-of-lt (le-of-eq four) (lt-of-lt-of-le (mul-lt-mul-of-pos-right (subst (λ (x : ℕ). m * 4 < x * x) (past s e) (i .above)) pp) (le-of-eq square)))
+        (lt-of-le-of-lt (le-of-eq four)
+        (lt-of-lt-of-le (mul-lt-mul-of-pos-right (subst (λ (x : ℕ). m * 4 < x * x) (past s e) (i .above)) pp) (le-of-eq square)))
         ∙ even-half s e
     | inr e ↦
         nearest-over (s / 2) (4 * (m * (2 ^ k * 2 ^ k))) (h * h)
-        (lt-of-le-of-lt (le-of-eq (sym square)) (lt-of-lt-of-le (mul-lt-mul-of-pos-right (subst (λ (x : ℕ). x * x < m * 4) (at s e) (strict e)) pp) (le-of-eq (sym four))))
+        (lt-of-le-of-lt (le-of-eq (sym square))
+        (lt-of-lt-of-le (mul-lt-mul-of-pos-right (subst (λ (x : ℕ). x * x < m * 4) (at s e) (strict e)) pp) (le-of-eq (sym four))))
         ∙ odd-half s e
   ]
     where

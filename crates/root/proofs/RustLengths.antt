@@ -8,7 +8,7 @@ use native.Mathlib.Omega.{arith}
 use lib.IntN.{ℤ, pos, negsuc, natAbs, _+ℤ_, _*ℤ_}
 use lib.Ieee.{add, div, mul, ofInt, round, sum}
 use Rattle.laws.specs.Units as Units
-use Rattle.laws.proofs.NearZero.{size-zero}
+use Rattle.laws.proofs.Integers.{size-zero}
 use Rattle.vector.specs.declared.GridPoint.{GridPoint}
 use Rattle.vector.specs.Grid as Grid
 use Rattle.vector.specs.Plane as Plane
@@ -53,7 +53,9 @@ pub square-in-mm : (v : GridPoint) → Step v → Plane.dot (Plane.inMm v) (Plan
 square-in-mm v s = go (square-sum v) (dot-is v)
   where
     go : (n : ℕ) → Grid.dot v v ≡ pos n → Plane.dot (Plane.inMm v) (Plane.inMm v) ≡ Units.mm² (Grid.dot v v)
-    go zero e = let o = dot-zero v e in ap (λ (u : GridPoint). Plane.dot (Plane.inMm u) (Plane.inMm u)) o ∙ at-origin ∙ ap (λ (u : GridPoint). Units.mm² (Grid.dot u u)) (sym o)
+    go zero e =
+        let o = dot-zero v e in
+        ap (λ (u : GridPoint). Plane.dot (Plane.inMm u) (Plane.inMm u)) o ∙ at-origin ∙ ap (λ (u : GridPoint). Units.mm² (Grid.dot u u)) (sym o)
     go (suc n) e = exact.dot v v s s .same (λ z. omega (arith, ap natAbs (sym e ∙ z)))
 
 -- ---- the claim

@@ -2,7 +2,8 @@
 use mathlib.Core.Path.{_≡_, sym, ap, _∙_, subst}
 use mathlib.Core.Bool.{true, false, true≢false}
 use Prim.Native.Nat.{ℕ, zero, suc, _+_, _-_, _*_, _/_, _%_, _^_, _≤_, _<_}
-use native.Mathlib.Nat.{le-trans, le-of-eq, le-of-suc-le-suc, lt-of-lt-of-le, lt-of-le-of-lt, lt-irrefl, zero-mul, mul-assoc, mul-right-comm, mul-div-cancel, mul-le-mul-right, mul-lt-mul-of-pos-right, mul-pos, mod-lt}
+use native.Mathlib.Nat.{le-trans, le-of-eq, le-of-suc-le-suc, lt-of-lt-of-le, lt-of-le-of-lt, lt-irrefl, zero-mul, mul-assoc, mul-right-comm, mul-div-cancel}
+use native.Mathlib.Nat.{mul-le-mul-right, mul-lt-mul-of-pos-right, mul-pos, mod-lt}
 use native.Mathlib.Omega.{arith}
 use lib.Dec.{T, lit<, lit≤}
 use lib.Pow.{pow-add, pow-pos}
@@ -21,10 +22,12 @@ unfolding rootOf
 root-at nan a v p = absurd v
 root-at (inf t) a v p = absurd v
 root-at (fin true m e) a v p = absurd (true≢false (v .0))
-root-at (fin false zero e) a v p = absurd (lt-irrefl 0 (subst (λ (x : ℕ). 0 < x) (sym (v .1) ∙ ap (λ (x : ℕ). x * 2 ^ 1074) (zero-mul (up e))) (mul-pos p (down-pos e))))
+root-at (fin false zero e) a v p =
+    absurd (lt-irrefl 0 (subst (λ (x : ℕ). 0 < x) (sym (v .1) ∙ ap (λ (x : ℕ). x * 2 ^ 1074) (zero-mul (up e))) (mul-pos p (down-pos e))))
 root-at (fin false (suc m) e) a v p =
     ap roundRoot
-    (ap (λ (x : ℕ). x / down e) (sym (mul-assoc (suc m * up e) (2 ^ 1074) (2 ^ 1074)) ∙ ap (λ (x : ℕ). x * 2 ^ 1074) (v .1) ∙ mul-right-comm a (down e) (2 ^ 1074))
+    (ap (λ (x : ℕ). x / down e)
+    (sym (mul-assoc (suc m * up e) (2 ^ 1074) (2 ^ 1074)) ∙ ap (λ (x : ℕ). x * 2 ^ 1074) (v .1) ∙ mul-right-comm a (down e) (2 ^ 1074))
     ∙ mul-div-cancel (a * 2 ^ 1074) (down-pos e))
 
 -- ---- the shift: m has 64 - z digits, and place k z is the place of its first one
@@ -54,7 +57,9 @@ lead m p h =
       low = omega (arith, t .1);
       high = omega (arith, t .1);
       from = le-trans (le-of-eq (ap (λ (x : ℕ). 2 ^ x) (sym s) ∙ pow-add 2 j (z - 11))) (mul-le-mul-right (2 ^ (z - 11)) (t .2));
-      to = lt-of-lt-of-le (mul-lt-mul-of-pos-right (t .3) (pow-pos (z - 11))) (le-of-eq (sym (pow-add 2 (suc j) (z - 11)) ∙ ap (λ (x : ℕ). 2 ^ x) (more j (z - 11) s)));
+      to =
+          lt-of-lt-of-le (mul-lt-mul-of-pos-right (t .3) (pow-pos (z - 11)))
+          (le-of-eq (sym (pow-add 2 (suc j) (z - 11)) ∙ ap (λ (x : ℕ). 2 ^ x) (more j (z - 11) s)));
     }
   where
     more : (j y : ℕ) → j + y ≡ 52 → suc j + y ≡ 53
@@ -84,7 +89,8 @@ pub root-to : (n s : ℕ) → Radicand n → IsRoot (n * 2 ^ 54) s → s < 2 ^ 5
 root-to n s r i = square-back s (2 ^ 54 - 1) (lt-of-le-of-lt (le-trans (i .below) (mul-le-mul-right (2 ^ 54) (r .to))) (lit< tt))
 
 -- ---- A value v of m * 2 ^ k units, z zeros before m, and s the root of the radicand that the code makes of them
-module _ (v : Float) (m k z s : ℕ) (h : HasValue v false (m * 2 ^ k) (2 ^ 1074)) (p : 0 < m) (kl : k ≤ 2045) (l : Lead m z) (i : IsRoot (m * 2 ^ shift k z * 2 ^ 54) s) where
+module _ (v : Float) (m k z s : ℕ) (h : HasValue v false (m * 2 ^ k) (2 ^ 1074)) (p : 0 < m) (kl : k ≤ 2045) (l : Lead m z)
+    (i : IsRoot (m * 2 ^ shift k z * 2 ^ 54) s) where
   pub lo : 2 ^ 53 ≤ s
   lo = root-from (m * 2 ^ shift k z) s (radicand m k z l) i
 
@@ -97,7 +103,8 @@ module _ (v : Float) (m k z s : ℕ) (h : HasValue v false (m * 2 ^ k) (2 ^ 1074
       let e = expo k z in
       mul-assoc m (2 ^ k) (2 ^ a)
       ∙ ap (λ (x : ℕ). m * x)
-      (sym (pow-add 2 k a) ∙ ap (λ (x : ℕ). 2 ^ x) (exponents k z a b (l .low) (l .high) t) ∙ pow-add 2 (shift k z) (b + (e + e)) ∙ ap (λ (x : ℕ). 2 ^ shift k z * x) (pow-add 2 b (e + e) ∙ ap (λ (x : ℕ). 2 ^ b * x) (pow-add 2 e e)))
+      (sym (pow-add 2 k a) ∙ ap (λ (x : ℕ). 2 ^ x) (exponents k z a b (l .low) (l .high) t) ∙ pow-add 2 (shift k z) (b + (e + e))
+      ∙ ap (λ (x : ℕ). 2 ^ shift k z * x) (pow-add 2 b (e + e) ∙ ap (λ (x : ℕ). 2 ^ b * x) (pow-add 2 e e)))
       ∙ sym (mul-assoc m (2 ^ shift k z) (2 ^ b * (2 ^ e * 2 ^ e)))
       ∙ sym (mul-assoc (m * 2 ^ shift k z) (2 ^ b) (2 ^ e * 2 ^ e))
     where

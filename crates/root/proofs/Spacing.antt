@@ -3,7 +3,8 @@ use mathlib.Core.Path.{_≡_, refl, sym, ap, _∙_, subst}
 use mathlib.Core.Logic.{inl, inr}
 use mathlib.Core.Bool.{true, false}
 use Prim.Native.Nat.{ℕ, zero, suc, _+_, _-_, _*_, _/_, _%_, _^_, _≤_, _<_}
-use native.Mathlib.Nat.{le-trans, le-of-eq, le-of-lt, lt-of-lt-of-le, lt-of-le-of-lt, lt-of-not-le, zero-lt-suc, zero-mul, mul-assoc, mul-right-comm, mul-mul-mul-comm, suc-mul, mul-le-mul, mul-le-mul-right, mul-lt-mul-of-pos-right, lt-of-mul-lt-mul-right, mul-pos}
+use native.Mathlib.Nat.{le-trans, le-of-eq, le-of-lt, lt-of-lt-of-le, lt-of-le-of-lt, lt-of-not-le, zero-lt-suc, zero-mul, mul-assoc, mul-right-comm}
+use native.Mathlib.Nat.{mul-mul-mul-comm, suc-mul, mul-le-mul, mul-le-mul-right, mul-lt-mul-of-pos-right, lt-of-mul-lt-mul-right, mul-pos}
 use native.Mathlib.Decide.{decLe}
 use native.Mathlib.Omega.{arith}
 use lib.IntN.{ℤ}
@@ -17,7 +18,8 @@ use lib.Ieee.Exact.{HasValue}
 use Rattle.root.specs.Root.{IsRoot}
 use Rattle.root.proofs.Square.{parity, odd-square, square-lt, pow-back}
 use Rattle.root.proofs.Pattern.{Decoded, decoded-low, decoded-high}
-use Rattle.root.proofs.Cases.{+0, pattern-pos, top-is}
+use Rattle.laws.proofs.Constants.{+0}
+use Rattle.root.proofs.Cases.{pattern-pos, top-is}
 
 -- ---- every finite value above zero is m * 2 ^ k units, m having at most 53 digits
 decoded : (b : ℕ) → 0 < b → b < 0x7ff0_0000_0000_0000 → (m : ℕ) × (k : ℕ) × Decoded b m k
@@ -71,7 +73,8 @@ units (suc n) d f =
 -- ---- a value of 2 ^ 52 * 2 ^ e units or more is a multiple of 2 ^ e units
 multiple : (m j e : ℕ) → m < 2 ^ 53 → 2 ^ 52 * 2 ^ e ≤ m * 2 ^ j → (c : ℕ) × (m * 2 ^ j ≡ c * 2 ^ e)
 multiple m j e s h =
-    let a : 2 ^ (52 + e) < 2 ^ (53 + j) = lt-of-le-of-lt (le-trans (le-of-eq (pow-add 2 52 e)) h) (lt-of-lt-of-le (mul-lt-mul-of-pos-right s (pow-pos j)) (le-of-eq (sym (pow-add 2 53 j)))) in
+    let a : 2 ^ (52 + e) < 2 ^ (53 + j) =
+    lt-of-le-of-lt (le-trans (le-of-eq (pow-add 2 52 e)) h) (lt-of-lt-of-le (mul-lt-mul-of-pos-right s (pow-pos j)) (le-of-eq (sym (pow-add 2 53 j)))) in
     let b : e ≤ j = under (pow-back (52 + e) (53 + j) a) in
     (m * 2 ^ (j - e), ap (λ (x : ℕ). m * x) (ap (λ (x : ℕ). 2 ^ x) (sym (join b)) ∙ pow-add 2 (j - e) e) ∙ sym (mul-assoc m (2 ^ (j - e)) (2 ^ e)))
   where

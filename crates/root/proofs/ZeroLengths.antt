@@ -1,7 +1,8 @@
 -- Claim: a length is 0 exactly where the step is (`zero-length`), and no other length is below 2 ^ -13 mm, one unit
--- (`unit-or-more`). So for every limit t from 0 up to that, and 0.0, 1.0e-12 and 1.0e-9 are such limits, the test `norm(v) <= t` holds exactly if the step v is zero
--- (`short-is-zero`), and `dist(a, b) <= t` exactly if the points a and b on the sheet are the same (`near-is-same`); of the
--- Rust's doubles in mm as well (`rust-short-is-zero`, `rust-near-is-same`).
+-- (`unit-or-more`). So for every limit t from 0 up to that, and 0.0, 1.0e-12 and 1.0e-9 are such limits, the test
+-- `norm(v) <= t` holds exactly if the step v is zero (`short-is-zero`), and `dist(a, b) <= t` exactly if the points a
+-- and b on the sheet are the same (`near-is-same`); of the Rust's doubles in mm as well (`rust-short-is-zero`,
+-- `rust-near-is-same`).
 use mathlib.Core.Path.{_≡_, refl, sym, ap, _∙_, subst}
 use mathlib.Core.Bool.{true, false, true≢false}
 use Prim.Native.Nat.{ℕ, zero, suc, _*_, _^_, _≤_, _<_}
@@ -72,7 +73,8 @@ module _ (t : Float) (low : T (le naught t)) (high : T (lt t unit)) where
           (λ k. subst (λ (x : Float). T (le x t)) (sym (ap (λ (z : ℤ). rootOf (Units.mm² z)) e ∙ at-zero)) low)
       go (suc n) e l =
           bool-ext (le (rootOf (Units.mm² (Grid.dot v v))) t) (Grid.same v Grid.origin)
-          (λ k. absurd (from-one n l (subst (λ (z : ℤ). T (lt (rootOf (Units.mm² z)) unit)) e (le-lt-trans-f (rootOf (Units.mm² (Grid.dot v v))) t unit k high))))
+          (λ k. absurd (from-one n l
+          (subst (λ (z : ℤ). T (lt (rootOf (Units.mm² z)) unit)) e (le-lt-trans-f (rootOf (Units.mm² (Grid.dot v v))) t unit k high))))
           (λ k. absurd (omega (arith, ap natAbs (sym e ∙ ap (λ (u : GridPoint). Grid.dot u u) (same→ v Grid.origin k) ∙ dot-origin))))
 
   pub near-is-same : (a b : GridPoint) → OnSheet a → OnSheet b → (gridDist a b ≤f t) ≡ Grid.same a b
@@ -94,7 +96,8 @@ unit-or-more v s n = go (square-sum v) (dot-is v) (dot-small v s)
     go zero e l = absurd (subst T n (→same v Grid.origin (dot-zero v e)))
     go (suc m) e l =
         let r = rootOf (Units.mm² (Grid.dot v v)) in
-        not-lt→le r unit (within-real (2 ^ 14) r (gridNorm-within v s)) tt (not-T (lt r unit) (λ t. from-one m l (subst (λ (z : ℤ). T (lt (rootOf (Units.mm² z)) unit)) e t)))
+        not-lt→le r unit (within-real (2 ^ 14) r (gridNorm-within v s)) tt
+        (not-T (lt r unit) (λ t. from-one m l (subst (λ (z : ℤ). T (lt (rootOf (Units.mm² z)) unit)) e t)))
 
 -- ---- the three limits
 pub from-0 : (T (le naught (nat 0))) × T (lt (nat 0) unit)

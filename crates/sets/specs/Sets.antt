@@ -1,5 +1,5 @@
--- 02, Card 7: "The bad-corner limit, the least and greatest diagonal cosine, the number of cuts and the snap share become one set of values held together": which sets are
--- refused, 15.
+-- 02, Card 7: "The bad-corner limit, the least and greatest diagonal cosine, the number of cuts and the snap share
+-- become one set of values held together": which sets are refused, 15.
 use Prim.Native.Nat.{ℕ}
 use mathlib.Core.Bool.{Bool, _&&_, _||_, not}
 use lib.Dec.{ltb}
@@ -16,7 +16,8 @@ between low high x = (low ≤f x) && (x ≤f high)
 unfoldable pub cosinesOut : Float → Float → Bool
 cosinesOut least greatest = not (between (nat 0 -f nat 1) (nat 1) least) || not (between (nat 0 -f nat 1) (nat 1) greatest) || (greatest <f least)
 
--- 15, "if cuts are above 32, the corner limit is not between 1 and 2, a cosine is not between -1 and 1, the least exceeds the greatest, or the share is not between 0 and 1"
+-- 15, "if cuts are above 32, the corner limit is not between 1 and 2, a cosine is not between -1 and 1, the least
+-- exceeds the greatest, or the share is not between 0 and 1"
 unfoldable pub limitsOut : Limits → Bool
 limitsOut L = ltb 32 (L .cuts) || not (between (nat 1) (nat 2) (L .corner)) || cosinesOut (L .least) (L .greatest) || not (between (nat 0) (nat 1) (L .share))
 

@@ -1,6 +1,7 @@
--- The laws of `firstOf`, by which every list of tests is taken apart. `first`: either a test of the list holds, and the result is its number; or none does, and the result
--- is 0. `all-pass`: where each number of the list is a refusal's, the result is 0 only if none holds. `away`: then a result that is not 0 is a refusal's number. And the order
--- of all entries, by its numbers (`order`) and by the names of its tests (`clear`).
+-- The laws of `firstOf`, by which every list of tests is taken apart. `first`: either a test of the list holds, and the
+-- result is its number; or none does, and the result is 0. `all-pass`: where each number of the list is a refusal's,
+-- the result is 0 only if none holds. `away`: then a result that is not 0 is a refusal's number. And the order of all
+-- entries, by its numbers (`order`) and by the names of its tests (`clear`).
 use Prim.Native.Nat.{ℕ}
 use mathlib.Core.Path.{_≡_, refl, sym, ap, _∙_, subst}
 use mathlib.Core.Bool.{Bool, true, false, _&&_, not, cond}

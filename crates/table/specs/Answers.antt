@@ -31,4 +31,15 @@ values (Failed corners k nodes cells) = failedRow corners k nodes cells
 -- the same row with another count of cells
 abbrev pub withCells : Values → ℕ → Values
 withCells v n =
-    record { code = v .code; corners = v .corners; k = v .k; marked = v .marked; cuts = v .cuts; pieces = v .pieces; turned = v .turned; area = v .area; nodes = v .nodes; cells = n }
+    record {
+      code = v .code;
+      corners = v .corners;
+      k = v .k;
+      marked = v .marked;
+      cuts = v .cuts;
+      pieces = v .pieces;
+      turned = v .turned;
+      area = v .area;
+      nodes = v .nodes;
+      cells = n;
+    }

@@ -1,4 +1,5 @@
--- 01, What is returned: "tested in rising order". A list of tests, each with its number; the number of the first that holds; and the one order in which every entry tests.
+-- 01, What is returned: "tested in rising order". A list of tests, each with its number; the number of the first that
+-- holds; and the one order in which every entry tests.
 use Prim.Native.Nat.{ℕ}
 use mathlib.Core.Path.{_≡_}
 use mathlib.Core.Bool.{Bool, true, false, _&&_, not, cond}
@@ -31,8 +32,9 @@ pub record Tests : Type 0 where
   pub lists : Bool
   pub room : Bool
 
--- the order, for all entries: 1 "ring or chain count", and "after 1" that of the practice paper, 16; 2 "coordinate or sheet size"; "after 2" the given marks, 13, "after 13"
--- their outline, 14, and the set of limits, 15, which "follows 2, and 14 where marks are given"; 3 "a used count above its list" and the rest of its row, 4 "free places"
+-- the order, for all entries: 1 "ring or chain count", and "after 1" that of the practice paper, 16; 2 "coordinate or
+-- sheet size"; "after 2" the given marks, 13, "after 13" their outline, 14, and the set of limits, 15, which "follows
+-- 2, and 14 where marks are given"; 3 "a used count above its list" and the rest of its row, 4 "free places"
 abbrev pub inOrder : Tests → List Refusal
 inOrder t =
     1 when t .counts

@@ -1,14 +1,17 @@
--- Claim (Card 6, `fan-area`): the fan of every list of points, the empty one and those of one and two points included, is its doubled area, the sum of ax × by - bx × ay.
--- Over the first i edges the fan is that sum less the term of the first corner and the corner reached (`fan-to`). A triangle of points on the sheet is at most 2 ^ 49, and by
--- `fan-to` the fan of i edges at most (i + 1) · 2 ^ 47 (`fan-small`): with 60 edges below 2 ^ 53, so 64 bits hold every term and every sum on the way.
+-- Claim (Card 6, `fan-area`): the fan of every list of points, the empty one and those of one and two points included,
+-- is its doubled area, the sum of ax × by - bx × ay. Over the first i edges the fan is that sum less the term of the
+-- first corner and the corner reached (`fan-to`). A triangle of points on the sheet is at most 2 ^ 49, and by `fan-to`
+-- the fan of i edges at most (i + 1) · 2 ^ 47 (`fan-small`): with 60 edges below 2 ^ 53, so 64 bits hold every term and
+-- every sum on the way.
 use Prim.Native.Nat.{ℕ, zero, suc, _+_, _-_, _*_, _^_, _%_, _≤_, _<_}
 use native.Mathlib.Nat.{add-mod-right, zero-add}
 use native.Mathlib.Omega.{arith}
 use mathlib.Core.Path.{_≡_, refl, sym, ap, _∙_, subst}
 use mathlib.Core.List.{List}
-use lib.IntN.{ℤ, pos, negsuc, sucℤ, predℤ, negℤ, natAbs, _+ℤ_, _-ℤ_, _*ℤ_, +ℤ-assoc, +ℤ-comm, +ℤ-idl, +ℤ-idr, +ℤ-invl, +ℤ-invr, negℤ-+ℤ, negℤ-negℤ, sucℤ-+ℤ, predℤ-+ℤ, sucℤ-*ℤ, predℤ-*ℤ, zero-*ℤ, *ℤ-comm}
+use lib.IntN.{ℤ, pos, negsuc, sucℤ, predℤ, negℤ, natAbs, _+ℤ_, _-ℤ_, _*ℤ_, +ℤ-assoc, +ℤ-comm, +ℤ-idl, +ℤ-idr, +ℤ-invl, +ℤ-invr, negℤ-+ℤ, negℤ-negℤ, sucℤ-+ℤ}
+use lib.IntN.{predℤ-+ℤ, sucℤ-*ℤ, predℤ-*ℤ, zero-*ℤ, *ℤ-comm}
 use lib.ListN.{length, getD}
-use Rattle.laws.proofs.Integers.{natAbs-add, natAbs-sub}
+use Rattle.laws.proofs.Integers.{+ℤ-left, opposite, natAbs-add, natAbs-sub}
 use Rattle.laws.proofs.Signed.{term-sheet}
 use Rattle.vector.specs.declared.GridPoint.{GridPoint}
 use Rattle.vector.specs.Grid.{origin, sub, cross, at, term, areaTo, polygonArea}
@@ -17,9 +20,6 @@ use Rattle.vector.specs.Size.{OnSheet, AllOnSheet}
 use Rattle.vector.proofs.Sheet.{at-on}
 
 -- ---- products of sums
-left : (a b c : ℤ) → a +ℤ (b +ℤ c) ≡ b +ℤ (a +ℤ c)
-left a b c = sym (+ℤ-assoc a b c) ∙ ap (λ x. x +ℤ c) (+ℤ-comm a b) ∙ +ℤ-assoc b a c
-
 swap-last : (a b c : ℤ) → (a +ℤ b) +ℤ c ≡ (a +ℤ c) +ℤ b
 swap-last a b c = +ℤ-assoc a b c ∙ ap (λ x. a +ℤ x) (+ℤ-comm b c) ∙ sym (+ℤ-assoc a c b)
 
@@ -45,10 +45,6 @@ pub sum-times : (a b c : ℤ) → (a +ℤ b) *ℤ c ≡ a *ℤ c +ℤ b *ℤ c
 sum-times (pos n) b c = sum-times-pos n b c
 sum-times (negsuc n) b c = sum-times-neg n b c
 
-opposite : (x y : ℤ) → x +ℤ y ≡ pos 0 → x ≡ negℤ y
-opposite x y e =
-    sym (+ℤ-idr x) ∙ ap (λ z. x +ℤ z) (sym (+ℤ-invr y)) ∙ sym (+ℤ-assoc x y (negℤ y)) ∙ ap (λ z. z +ℤ negℤ y) e ∙ +ℤ-idl (negℤ y)
-
 pub neg-times : (a c : ℤ) → negℤ a *ℤ c ≡ negℤ (a *ℤ c)
 neg-times a c = opposite (negℤ a *ℤ c) (a *ℤ c) (sym (sum-times (negℤ a) a c) ∙ ap (λ x. x *ℤ c) (+ℤ-invl a) ∙ zero-*ℤ c)
 
@@ -66,7 +62,7 @@ sub-times a p b q =
 regroup : (a b c d e f g : ℤ)
     → ((a +ℤ negℤ b) +ℤ (negℤ c +ℤ d)) +ℤ negℤ ((e +ℤ negℤ f) +ℤ (negℤ g +ℤ d))
     ≡ ((a +ℤ negℤ e) +ℤ ((f +ℤ negℤ b) +ℤ negℤ (c +ℤ negℤ g))) +ℤ (d +ℤ negℤ d)
-regroup a b c d e f g = simp (negℤ-+ℤ, negℤ-negℤ, +ℤ-assoc, +ℤ-comm, left)
+regroup a b c d e f g = simp (negℤ-+ℤ, negℤ-negℤ, +ℤ-assoc, +ℤ-comm, +ℤ-left)
 
 cancel : (x d : ℤ) → x +ℤ (d +ℤ negℤ d) ≡ x
 cancel x d = ap (λ y. x +ℤ y) (+ℤ-invr d) ∙ +ℤ-idr x
@@ -88,7 +84,7 @@ triangle-is p a b =
 
 -- ---- the edges up to i: all that the first corner makes cancels but for the last
 onward : (s t u v : ℤ) → (s -ℤ u) +ℤ (t +ℤ (u -ℤ v)) ≡ ((s +ℤ t) -ℤ v) +ℤ (u +ℤ negℤ u)
-onward s t u v = simp (+ℤ-assoc, +ℤ-comm, left)
+onward s t u v = simp (+ℤ-assoc, +ℤ-comm, +ℤ-left)
 
 term-self : (p : GridPoint) → term p p ≡ pos 0
 unfolding term

@@ -29,7 +29,8 @@ same-comm a b = bool-ext (same a b) (same b a) (λ t. →same b a (sym (same→ 
 
 pub step-zero : (a b : GridPoint) → same (sub a b) origin ≡ same a b
 unfolding sub
-step-zero a b = bool-ext (same (sub a b) origin) (same a b) (λ t. →same a b (back (same→ (sub a b) origin t))) (λ t. →same (sub a b) origin (there (same→ a b t)))
+step-zero a b =
+    bool-ext (same (sub a b) origin) (same a b) (λ t. →same a b (back (same→ (sub a b) origin t))) (λ t. →same (sub a b) origin (there (same→ a b t)))
   where
     level : (z w : ℤ) → z -ℤ w ≡ pos 0 → z ≡ w
     level z w e = sym (-ℤ-+ℤ-cancel z w) ∙ ap (λ (u : ℤ). u +ℤ w) e ∙ +ℤ-idl w

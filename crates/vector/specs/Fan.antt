@@ -1,5 +1,5 @@
--- 02, Card 6: "The doubled area is to be summed as a fan: for each edge, the cross of its two ends taken from the first corner." Definitions only; the area stays
--- `Grid.polygonArea`, and proofs/Fan shows that the two are one.
+-- 02, Card 6: "The doubled area is to be summed as a fan: for each edge, the cross of its two ends taken from the first
+-- corner." Definitions only; the area stays `Grid.polygonArea`, and proofs/Fan shows that the two are one.
 use Prim.Native.Nat.{ℕ, zero, suc}
 use mathlib.Core.List.{List}
 use lib.IntN.{ℤ, pos, _+ℤ_}

@@ -1,7 +1,7 @@
 -- The tests 1, 2 and 12 one after the other, what they show of a call that passes them, and the pair in its place.
 use Prim.Native.Nat.{ℕ, _+_, _-_, _*_, _/_, _%_, _≤_, _<_}
 use mathlib.Core.Path.{_≡_, refl, sym, ap, _∙_}
-use mathlib.Core.Bool.{Bool, true, false, not, cond, _||_, true≢false}
+use mathlib.Core.Bool.{Bool, true, false, not, cond, _||_}
 use mathlib.Core.List.{List, _++_, append-assoc}
 use native.Mathlib.Omega.{arith}
 use native.Mathlib.Decide.{decLe}
@@ -14,17 +14,13 @@ use borrow.Author.Tests.{lt-ltb, le-ltb, eq-eqb, ne-eqb, ltb-false, eqb-true}
 use borrow.Rule.Slice.PartMut.{putMid}
 use Rattle.laws.specs.Bounded.{any}
 use Rattle.laws.proofs.Search.{any-none}
-use Rattle.laws.proofs.Booleans.{is-false, is-true, not-of}
+use Rattle.laws.proofs.Booleans.{neither, is-false, is-true, not-of}
 use Rattle.demand.specs.Call.{beyond, outside, anyOutside, countsOut, unitsOut}
 use Rattle.demand.specs.Lent.{pointIn, pointsIn, odd}
 use Rattle.entry.proofs.Tests.{outsideAt, any-outside-is}
 use Rattle.blocks.specs.Writing.{blockBytes, Writable}
 use Rattle.blocks.proofs.Words.{past, length-block, part-back}
 use Rattle.writer.specs.Write.{counts, units, destinationOut, refusal, pairBytes, written}
-
-pub neither : (p q : Bool) → (p || q) ≡ false → (p ≡ false) × (q ≡ false)
-neither true q e = absurd (true≢false e)
-neither false q e = (refl, e)
 
 none-of : (p q r : Bool) → _≡_ {A = ℕ} (cond p 1 (cond q 2 (cond r 12 0))) 0 → (p ≡ false) × (q ≡ false) × (r ≡ false)
 none-of true q r e = absurd (omega arith)
@@ -57,7 +53,8 @@ module _ (l : List ℤ) (h : length l % 2 ≡ 0) (e : anyOutside (pointsIn l (le
   point-near i k =
       let x = getD l (i * 2) (pos 0) in
       let y = getD l (i * 2 + 1) (pos 0) in
-      let t = is-false (outside (pointIn l i)) (any-none (outsideAt l) (length l / 2) (not-of (any (outsideAt l) (length l / 2)) (sym (any-outside-is l (length l / 2)) ∙ e)) i k) in
+      let t = is-false (outside (pointIn l i))
+      (any-none (outsideAt l) (length l / 2) (not-of (any (outsideAt l) (length l / 2)) (sym (any-outside-is l (length l / 2)) ∙ e)) i k) in
       let u = neither (beyond x) (beyond y) t in
       (near x (u .0), near y (u .1))
 
@@ -98,11 +95,15 @@ module _ (ring chain : List ℤ) (size number places : ℕ) where
 
     pub room : 1024 ≤ places
     unfolding destinationOut
-    room = ltb-false places 1024 (neither (ltb places 1024) (not (eqb (number % 2) 0)) (neither (ltb places 1024 || not (eqb (number % 2) 0)) (ltb 65534 number) (tests .2) .0) .0)
+    room =
+        ltb-false places 1024 (neither (ltb places 1024) (not (eqb (number % 2) 0))
+        (neither (ltb places 1024 || not (eqb (number % 2) 0)) (ltb 65534 number) (tests .2) .0) .0)
 
     pub even-number : number % 2 ≡ 0
     unfolding destinationOut
-    even-number = eqb-true (number % 2) 0 (is-true (eqb (number % 2) 0) (neither (ltb places 1024) (not (eqb (number % 2) 0)) (neither (ltb places 1024 || not (eqb (number % 2) 0)) (ltb 65534 number) (tests .2) .0) .1))
+    even-number =
+        eqb-true (number % 2) 0 (is-true (eqb (number % 2) 0)
+        (neither (ltb places 1024) (not (eqb (number % 2) 0)) (neither (ltb places 1024 || not (eqb (number % 2) 0)) (ltb 65534 number) (tests .2) .0) .1))
 
     pub low-number : number ≤ 65534
     unfolding destinationOut
@@ -172,15 +173,19 @@ module _ (ring chain : List ℤ) (size number : ℕ) (out : List ℕ) where
   module _ (z : refusal ring chain size number (length out) ≡ 0) where
     pub written-is : written ring chain size number out ≡ blockBytes ring size number ++ (blockBytes chain 0 (number + 1) ++ drop 1024 out)
     unfolding written pairBytes
-    written-is = rw (eq-eqb (refusal ring chain size number (length out)) 0 z) (append-assoc (blockBytes ring size number) (blockBytes chain 0 (number + 1)) (drop 1024 out))
+    written-is =
+        rw (eq-eqb (refusal ring chain size number (length out)) 0 z)
+        (append-assoc (blockBytes ring size number) (blockBytes chain 0 (number + 1)) (drop 1024 out))
 
     -- the chain's block, written after the ring's
-    pub both : (l r : List ℕ) → l ≡ blockBytes ring size number ++ drop 512 out → r ≡ blockBytes chain 0 (number + 1) ++ drop 512 (take (length l - 512) (drop 512 l))
+    pub both : (l r : List ℕ) → l ≡ blockBytes ring size number ++ drop 512 out
+        → r ≡ blockBytes chain 0 (number + 1) ++ drop 512 (take (length l - 512) (drop 512 l))
         → putMid 512 (length l - 512) l r ≡ written ring chain size number out
     both l r d e =
         let b = blockBytes chain 0 (number + 1) in
         let n : length b ≡ 512 = length-block chain 0 (number + 1) in
-        let p = part-back l (blockBytes ring size number) b r (drop 512 out) 512 (length-block ring size number) d (omega (arith, n, length-drop 512 out, room ring chain size number (length out) z)) (e ∙ rw n) in
+        let p = part-back l (blockBytes ring size number) b r (drop 512 out) 512 (length-block ring size number) d
+        (omega (arith, n, length-drop 512 out, room ring chain size number (length out) z)) (e ∙ rw n) in
         let s : drop 512 (drop 512 out) ≡ drop 1024 out = drop-drop 512 512 out in
         p ∙ rw (n, s) (sym written-is)
 

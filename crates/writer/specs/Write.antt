@@ -44,7 +44,8 @@ padded ps = tab (λ k. getD ps k (pos 0)) 120
 -- "Reading its output as the pair at that number returns the same points"
 pub record ReadsBack (ring chain : List ℤ) (size number : ℕ) (out : List ℕ) : Type 0 where
   pub ring-read : readBlock (take 512 (written ring chain size number out)) number ≡ record { block = Ring (length ring / 2) size; points = padded ring }
-  pub chain-read : readBlock (take 512 (drop 512 (written ring chain size number out))) (number + 1) ≡ record { block = Chain (length chain / 2); points = padded chain }
+  pub chain-read : readBlock (take 512 (drop 512 (written ring chain size number out))) (number + 1)
+      ≡ record { block = Chain (length chain / 2); points = padded chain }
   pub ring-same : take (2 * (length ring / 2)) (padded ring) ≡ ring
   pub chain-same : take (2 * (length chain / 2)) (padded chain) ≡ chain
   pub rest : drop 1024 (written ring chain size number out) ≡ drop 1024 out

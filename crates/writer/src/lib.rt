@@ -1,4 +1,5 @@
-// Writer: a ring and its chain saved as the two blocks that the divider takes.
+// Writer: a ring and its chain saved as the two blocks that the divider takes. It stands beside the way of a ring, at its
+// start: what it writes, `blocks` reads to the same ring and chain.
 //
 // It tests what it is given as the divider does, 1 and 2, and then its destination, 12. Nothing is asked of a caller. A
 // refusal leaves the destination as found; else its first 1,024 bytes are the pair, and those after it stay.
@@ -38,7 +39,8 @@ fn refusal(ring: &[i32], chain: &[i32], size: u32, number: u32, places: usize) -
 
 // Saves the ring and the chain as blocks `number` and `number + 1`, and answers 0; or answers the refusal.
 pub fn blocks_write(ring: &[i32], chain: &[i32], size: u32, number: u32, out: &mut [u8]) -> u64
-    ensures { λ r. ⌜ (r ≡ Write.refusal (now (ring .entry)) (now (chain .entry)) size number (length (now (out .entry)))) × (now (out .exit) ≡ Write.written (now (ring .entry)) (now (chain .entry)) size number (now (out .entry))) ⌝ }
+    ensures { λ r. ⌜ (r ≡ Write.refusal (now (ring .entry)) (now (chain .entry)) size number (length (now (out .entry))))
+        × (now (out .exit) ≡ Write.written (now (ring .entry)) (now (chain .entry)) size number (now (out .entry))) ⌝ }
 {
     let code = refusal(ring, chain, size, number, out.len());
     if code > 0 {

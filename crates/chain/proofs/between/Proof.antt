@@ -1,4 +1,4 @@
--- `between` meets its contract: each return is one case of the definition. Assumes nothing.
+-- `between`: each return is one case of the definition.
 use mathlib.Core.Path.{_∙_}
 use lib.Ieee.{ofBits, ofInt}
 use borrow.Author.Needs.{needs}

@@ -1,4 +1,4 @@
--- `cosine` meets its contract: each return is one case of the definition. Assumes nothing.
+-- `cosine`: each return is one case of the definition.
 use mathlib.Core.Path.{_≡_, _∙_, ap, sym}
 use native.Mathlib.Omega.{arith}
 use lib.Dec.{lit<}
@@ -47,7 +47,8 @@ returns-3 c =
     let e = c .before .square-mm .ensures ∙ ap Units.mm² (signed.back (d .result) (omega (arith, d .ensures .1)) ∙ d .ensures .0) in
     let p = s .pre .2 in
     let q = s .pre .3 in
-    let f : c .clamp .result ≡ clamp (nat 0 -f nat 1) (nat 1) (Units.mm² (Grid.dot (s .args .a) (s .args .b)) /f (gridNorm (s .args .a) *f gridNorm (s .args .b))) =
+    let f : c .clamp .result
+    ≡ clamp (nat 0 -f nat 1) (nat 1) (Units.mm² (Grid.dot (s .args .a) (s .args .b)) /f (gridNorm (s .args .a) *f gridNorm (s .args .b))) =
     c .clamp .ensures ∙ (λ i. clamp (nat 0 -f nat 1) (nat 1) (e i /f (p i *f q i))) in
     let z = sym (c .before .before .before .before .before .before .is-zero .ensures) ∙ c .before .before .before .before .before .if1 .left in
     let y = sym (c .before .before .before .before .is-zero2 .ensures) ∙ c .before .before .before .if2 .left in

@@ -1,5 +1,5 @@
--- `measure` meets its contract, for every count from 1 to 60. The loop's invariant: the places before i hold the lengths of
--- the steps to those points, and of the chain up to them. Assumes nothing.
+-- `measure`, for every count from 1 to 60. The loop's invariant: the places before i hold the lengths of
+-- the steps to those points, and of the chain up to them.
 use Prim.Native.Nat.{_-_, _≤_}
 use native.Mathlib.Omega.{arith}
 use mathlib.Core.Path.{_≡_, refl, _∙_}
@@ -18,7 +18,8 @@ use Rattle.chain.proofs.measure.Tie as tie
 
 abbrev Inv-loop : tie.InvT-loop
 Inv-loop n chain step₀ arc₀ i₀ step arc i =
-    (1 ≤ i) × (i ≤ n) × (n ≤ 60) × AllOnSheet chain × (length step ≡ 60) × (length arc ≡ 60) × (take i step ≡ tab (stepTo (take n chain)) i) × (take i arc ≡ tab (Chain.arc (take n chain)) i)
+    (1 ≤ i) × (i ≤ n) × (n ≤ 60) × AllOnSheet chain × (length step ≡ 60) × (length arc ≡ 60) × (take i step ≡ tab (stepTo (take n chain)) i)
+    × (take i arc ≡ tab (Chain.arc (take n chain)) i)
 
 abbrev μ-loop : tie.MeasureT-loop
 μ-loop n chain step₀ arc₀ i₀ step arc i = n - i
@@ -88,7 +89,8 @@ loop-again c =
       simp length-set (l .inv .5),
       more (stepTo (take n ps)) (l .step) (l .i) _ (omega arith) (l .inv .6) (walk.step-more ps n (l .i) (omega arith) (omega arith) _ d),
       more f (l .arc) (l .i) _ (omega arith) (l .inv .7)
-          (walk.arc-more ps n (l .i) (omega arith) (omega arith) _ _ (read-tab (l .arc) f (l .i) (l .i - 1) nan (l .inv .7) (omega arith)) (d ∙ gridDist-comm _ _)),
+          (walk.arc-more ps n (l .i) (omega arith) (omega arith) _ _ (read-tab (l .arc) f (l .i) (l .i - 1) nan (l .inv .7) (omega arith))
+          (d ∙ gridDist-comm _ _)),
     )
 
 returns : tie.Need-returns Inv-loop μ-loop

@@ -1,4 +1,4 @@
--- `point_at_arclength` meets its contract: the step found, and the point on it. Assumes nothing.
+-- `point_at_arclength`: the step found, and the point on it.
 use Prim.Native.Nat.{_≤_}
 use native.Mathlib.Omega.{arith}
 use lib.ListN.{length}
@@ -48,7 +48,8 @@ returns c =
     let r = c .before .before .before .before .before .step-at in
     let s = c .before .before .before .before .before .before in
     let h : s .args .n ≤ length (s .args .t1) = omega (arith, s .good .0 .1 .0 .1) in
-    walk.at-length (s .args .t1) (s .args .arc .now) (s .args .n) h (s .pre .0) (s .pre .2) (s .args .s) (r .result) (r .ensures .1) (r .ensures .0) _ (c .between .ensures)
+    walk.at-length (s .args .t1) (s .args .arc .now) (s .args .n) h (s .pre .0) (s .pre .2) (s .args .s) (r .result) (r .ensures .1)
+    (r .ensures .0) _ (c .between .ensures)
 
 pub point-at-arclength-spec : {M : Type 1} → statement M
 point-at-arclength-spec =

@@ -1,5 +1,5 @@
--- `simplify_chain` meets its contract, for every count from 0 to 60. The loop's invariant: what is collected before the
--- point i is what the definition has (`Collected`). Assumes nothing.
+-- `simplify_chain`, for every count from 0 to 60. The loop's invariant: what is collected before the
+-- point i is what the definition has (`Collected`).
 use Prim.Native.Nat.{_+_, _-_, _≤_}
 use native.Mathlib.Omega.{arith}
 use mathlib.Core.Path.{_≡_, sym, _∙_}
@@ -37,7 +37,8 @@ staying c =
     let l = c .before .before .before .before .before .before in
     let s = l .before .before .before .before .before .before in
     let h : s .args .n ≤ length (s .args .t1) = omega (arith, s .good .0 .1 .0 .1) in
-    walk.stays-in (s .args .t1) (s .args .n) h (l .loop .i) (omega arith) (omega arith) _ (c .before .before .before .before .next .ensures .0) _ (c .stays .ensures)
+    walk.stays-in (s .args .t1) (s .args .n) h (l .loop .i) (omega arith)
+    (omega arith) _ (c .before .before .before .before .next .ensures .0) _ (c .stays .ensures)
 
 -- what is collected after the turn, by whether the point stayed
 joined : (c : tie.Joined2 Inv-loop μ-loop) →

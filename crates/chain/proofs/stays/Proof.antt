@@ -1,4 +1,4 @@
--- `stays` meets its contract: each return is one case of the definition. Assumes nothing.
+-- `stays`: each return is one case of the definition.
 use mathlib.Core.Path.{_≡_, sym, ap, _∙_}
 use lib.Ieee.{Float, round, ofBits}
 use borrow.Author.Needs.{needs}
@@ -10,10 +10,13 @@ use Rattle.chain.specs.Cosine as Cosine
 use Rattle.chain.proofs.stays.Statement.{statement}
 use Rattle.chain.proofs.stays.Tie as tie
 
-in-zero : (c : tie.After-is-zero) → c .is-zero .result ≡ Grid.same (Grid.sub (c .before .before .before .before .args .b) (c .before .before .before .before .args .a)) Grid.origin
+in-zero : (c : tie.After-is-zero)
+    → c .is-zero .result ≡ Grid.same (Grid.sub (c .before .before .before .before .args .b) (c .before .before .before .before .args .a)) Grid.origin
 in-zero c = c .is-zero .ensures ∙ ap (λ (v : GridPoint). Grid.same v Grid.origin) (c .before .before .before .sub .ensures .0)
 
-out-zero : (c : tie.After-is-zero2) → c .is-zero2 .result ≡ Grid.same (Grid.sub (c .before .before .before .before .before .before .args .c) (c .before .before .before .before .before .before .args .b)) Grid.origin
+out-zero : (c : tie.After-is-zero2)
+    → c .is-zero2 .result ≡ Grid.same
+    (Grid.sub (c .before .before .before .before .before .before .args .c) (c .before .before .before .before .before .before .args .b)) Grid.origin
 out-zero c = c .is-zero2 .ensures ∙ ap (λ (v : GridPoint). Grid.same v Grid.origin) (c .before .before .before .before .sub2 .ensures .0)
 
 sub-requires : tie.Need-sub-requires

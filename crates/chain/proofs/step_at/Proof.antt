@@ -1,4 +1,4 @@
--- `step_at` meets its contract. The loop's invariant: what is left of the search is the whole search. Assumes nothing.
+-- `step_at`, the loop's invariant: what is left of the search is the whole search.
 use Prim.Native.Nat.{suc, _-_, _≤_}
 use native.Mathlib.Omega.{arith}
 use native.Mathlib.Numerals.{add-one}
@@ -14,7 +14,8 @@ use Rattle.chain.proofs.step_at.Tie as tie
 
 abbrev Inv-loop : tie.InvT-loop
 Inv-loop arc n s i₀ i-end i =
-    (2 ≤ n) × (n ≤ 60) × (i-end ≡ n - 2) × (i ≤ n - 2) × (first (λ k. s ≤f getD arc (suc k) nan) (n - 2 - i) i ≡ first (λ k. s ≤f getD arc (suc k) nan) (n - 2) 0)
+    (2 ≤ n) × (n ≤ 60) × (i-end ≡ n - 2) × (i ≤ n - 2)
+    × (first (λ k. s ≤f getD arc (suc k) nan) (n - 2 - i) i ≡ first (λ k. s ≤f getD arc (suc k) nan) (n - 2) 0)
 
 abbrev μ-loop : tie.MeasureT-loop
 μ-loop arc n s i₀ i-end i = n - i

@@ -1,4 +1,4 @@
--- `all` meets its contract. The loop's invariant: the first i places are in order. Assumes nothing.
+-- `all`, the loop's invariant: the first i places are in order.
 use Prim.Native.Nat.{ℕ, _-_, _≤_}
 use native.Mathlib.Omega.{arith}
 use mathlib.Core.Path.{_≡_, refl, sym, ap, _∙_}

@@ -1,4 +1,4 @@
--- `corner_at` meets its contract: the measure of the two steps. Assumes nothing.
+-- `corner_at`: the measure of the two steps.
 use mathlib.Core.Path.{_∙_}
 use borrow.Author.Needs.{needs}
 use Rattle.corner.specs.Corner as Corners

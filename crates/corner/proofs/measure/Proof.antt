@@ -1,4 +1,4 @@
--- `measure` meets its contract: each return is one case of the definition. Assumes nothing.
+-- `measure`: each return is one case of the definition.
 use mathlib.Core.Path.{_≡_, sym, _∙_}
 use mathlib.Core.Bool.{false}
 use native.Mathlib.Omega.{arith}

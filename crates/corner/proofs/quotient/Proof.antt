@@ -1,4 +1,4 @@
--- `quotient` meets its contract: each number that is made a double is exact. Assumes nothing.
+-- `quotient`: each number that is made a double is exact.
 use mathlib.Core.Path.{_∙_, ap}
 use native.Mathlib.Omega.{arith}
 use lib.Dec.{lit<}

@@ -1,4 +1,4 @@
--- `size` meets its contract: the magnitude is below 2^53, so the cast is exact. Assumes nothing.
+-- `size`: the magnitude is below 2^53, so the cast is exact.
 use mathlib.Core.Path.{_≡_, ap, _∙_}
 use native.Mathlib.Omega.{arith}
 use lib.Dec.{lit<}

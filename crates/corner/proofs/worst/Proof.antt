@@ -1,5 +1,5 @@
--- `worst` meets its contract, for every count from 1 to 60. The loop's invariant: `at` is the worst of the corners before i,
--- the last of equal ones, and `most` its measure. Assumes nothing.
+-- `worst`, for every count from 1 to 60. The loop's invariant: `at` is the worst of the corners before i,
+-- the last of equal ones, and `most` its measure.
 use Prim.Native.Nat.{_+_, _-_, _≤_, _<_}
 use mathlib.Core.Logic.{⊎-elim}
 use mathlib.Core.List.{List}

@@ -1,4 +1,4 @@
--- `columns` meets its contract.
+-- `columns`: the whole part's digits, the point, four decimals and the minus.
 use Prim.Native.Nat.{_+_}
 use mathlib.Core.Path.{_≡_}
 use mathlib.Core.Bool.{true, false}
@@ -19,7 +19,8 @@ add-result c = omega (arith, c .before .width .ensures .1)
 returns : tie.Need-returns
 returns c =
     let s = c .before .before in
-    let e : c .before .width .result + 6 ≡ length (decimals (s .args .m) (s .args .n)) = rw (c .if1 .taken) (omega (arith, c .before .width .ensures .0, decimals-long true (s .args .n))) in
+    let e : c .before .width .result + 6 ≡ length (decimals (s .args .m) (s .args .n)) =
+    rw (c .if1 .taken) (omega (arith, c .before .width .ensures .0, decimals-long true (s .args .n))) in
     (e, omega (arith, c .before .width .ensures .1))
 
 add-result-2 : tie.Need-add-result-2
@@ -28,7 +29,8 @@ add-result-2 c = omega (arith, c .before .width .ensures .1)
 returns-2 : tie.Need-returns-2
 returns-2 c =
     let s = c .before .before in
-    let e : c .before .width .result + 5 ≡ length (decimals (s .args .m) (s .args .n)) = rw (c .if1 .left) (omega (arith, c .before .width .ensures .0, decimals-long false (s .args .n))) in
+    let e : c .before .width .result + 5 ≡ length (decimals (s .args .m) (s .args .n)) =
+    rw (c .if1 .left) (omega (arith, c .before .width .ensures .0, decimals-long false (s .args .n))) in
     (e, omega (arith, c .before .width .ensures .1))
 
 pub columns-spec : {M : Type 1} → statement M

@@ -1,4 +1,4 @@
--- `half_even` meets its contract.
+-- `half_even`: the remainder doubled, against the divisor: below, above or equal.
 use Prim.Native.Nat.{ℕ, _*_, _%_, _^_, _≤_, _<_}
 use mathlib.Core.Path.{_≡_, sym, ap, _∙_, subst}
 use native.Mathlib.Nat.{mod-lt, div-le-self, one-mul}
@@ -50,7 +50,8 @@ add-result-2 : tie.Need-add-result-2
 add-result-2 c = let s = c .before .before in omega (arith, div-le-self (s .args .p) (shifted (s .args .s)), s .pre .0)
 
 returns-3 : tie.Need-returns-3
-returns-3 c = let s = c .before .before in half-tie (s .args .p) (shifted (s .args .s)) (c .before .if1 .left) (c .if2 .left) ∙ same (s .args .p) (s .args .s) (s .pre .1)
+returns-3 c =
+    let s = c .before .before in half-tie (s .args .p) (shifted (s .args .s)) (c .before .if1 .left) (c .if2 .left) ∙ same (s .args .p) (s .args .s) (s .pre .1)
 
 pub half-even-spec : {M : Type 1} → statement M
 half-even-spec =

@@ -1,4 +1,3 @@
--- `minus` meets its contract.
 use Rattle.listing.proofs.Value.{no-minus, the-minus}
 use Rattle.listing.proofs.minus.Statement.{statement}
 use Rattle.listing.proofs.minus.Tie as tie

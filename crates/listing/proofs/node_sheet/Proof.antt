@@ -1,4 +1,4 @@
--- `node_sheet` meets its contract.
+-- `node_sheet`: each return is one line of Card 9's table: 3, 17 or the lines.
 use mathlib.Core.Path.{sym, _∙_}
 use native.Mathlib.Omega.{arith}
 use borrow.Author.Needs.{needs}
@@ -27,17 +27,27 @@ returns-2 c =
 
 put-lines-requires : tie.Need-put-lines-requires
 put-lines-requires c κs =
-    let s = c .before .before .before .before .before .before .args in
-    (usable (s .nodes .now) (s .node-count) (sym (c .before .before .before .nodes-out .ensures) ∙ c .before .before .if1 .left), c .before .if2 .left)
+    let c₂ = c .before .before in
+    let c₃ = c₂ .before in
+    let c₆ = c₃ .before .before .before in
+    let s = c₆ .args in
+    (usable (s .nodes .now) (s .node-count) (sym (c₃ .nodes-out .ensures) ∙ c₂ .if1 .left), c .before .if2 .left)
 
 same-length : tie.Need-same-length
 same-length c = c .before .before .put-lines .kept .0
 
 returns-3 : tie.Need-returns-3
 returns-3 c =
-    let s = c .before .before .before .before .before .before .before .before .before .args in
-    let p = c .before .before .put-lines in
-    written (s .nodes .now) (s .node-count) (s .out .now) (sym (c .before .before .before .before .before .before .nodes-out .ensures) ∙ c .before .before .before .before .before .if1 .left) (c .before .before .before .before .if2 .left) (p .result) (p .last .0) (p .ensures)
+    let c₂ = c .before .before in
+    let c₄ = c₂ .before .before in
+    let c₅ = c₄ .before in
+    let c₆ = c₅ .before in
+    let c₉ = c₆ .before .before .before in
+    let s = c₉ .args in
+    let p = c₂ .put-lines in
+    written (s .nodes .now) (s .node-count) (s .out .now)
+    (sym (c₆ .nodes-out .ensures) ∙ c₅ .if1 .left)
+    (c₄ .if2 .left) (p .result) (p .last .0) (p .ensures)
 
 pub node-sheet-spec : {M : Type 1} → statement M
 node-sheet-spec =

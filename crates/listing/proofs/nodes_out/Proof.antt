@@ -1,4 +1,4 @@
--- `nodes_out` meets its contract.
+-- `nodes_out`: each return is one of the three tests of 3.
 use mathlib.Core.Path.{ap}
 use mathlib.Core.Bool.{not}
 use borrow.Author.Tests.{lt-ltb, le-ltb}

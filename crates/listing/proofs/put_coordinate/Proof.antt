@@ -1,4 +1,4 @@
--- `put_coordinate` meets its contract.
+-- `put_coordinate`: spaces up to the text's length, then the text, fill 28 columns.
 use Prim.Native.Nat.{ℕ, _≤_}
 use mathlib.Core.Path.{_≡_, _∙_, subst}
 use mathlib.Core.Bool.{Bool}
@@ -39,26 +39,40 @@ put-spaces-requires c κs = let s = c .before .before .before .before .before in
 
 put-decimals-requires : tie.Need-put-decimals-requires
 put-decimals-requires c κs =
-    let s = c .before .before .before .before .before .before .before .before .before in
-    let m = c .before .before .before .before .before .before .minus .result in
-    let n = c .before .before .before .before .before .before .before .ten-thousandths .result in
-    let w = c .before .before .before .before .columns in
-    let p = c .before .before .before .put-spaces in
+    let c₃ = c .before .before .before in
+    let c₄ = c₃ .before in
+    let c₆ = c₄ .before .before in
+    let c₇ = c₆ .before in
+    let s = c₇ .before .before in
+    let m = c₆ .minus .result in
+    let n = c₇ .ten-thousandths .result in
+    let w = c₄ .columns in
+    let p = c₃ .put-spaces in
     right-room (s .args .out .now) (s .args .at) 28 (w .result) (decimals m n) (w .ensures .0) (fit m n) (s .pre .1) (p .result) (p .last .0) (p .ensures)
 
 same-length : tie.Need-same-length
-same-length c = c .before .before .put-decimals .kept .0 ∙ c .before .before .before .before .before .before .put-spaces .kept .0
+same-length c =
+    let c₂ = c .before .before in
+    let c₆ = c₂ .before .before .before .before in
+    c₂ .put-decimals .kept .0 ∙ c₆ .put-spaces .kept .0
 
 returns : tie.Need-returns
 returns c =
-    let s = c .before .before .before .before .before .before .before .before .before .before .before .before in
-    let m = c .before .before .before .before .before .before .before .before .before .minus in
-    let n = c .before .before .before .before .before .before .before .before .before .before .ten-thousandths in
-    let w = c .before .before .before .before .before .before .before .columns in
-    let p = c .before .before .before .before .before .before .put-spaces in
-    let q = c .before .before .put-decimals in
-    subst (λ (t : List ℕ). Written (s .args .out .now) (s .args .at) (right 28 t) (q .result) (q .last .0)) (same (s .args .x) (m .result) (n .result) (m .ensures) (n .ensures))
-    (right-written (s .args .out .now) (s .args .at) 28 (w .result) (decimals (m .result) (n .result)) (w .ensures .0) (fit (m .result) (n .result)) (s .pre .1) (p .result) (p .last .0) (p .ensures) (q .result) (q .last .0) (q .ensures))
+    let c₂ = c .before .before in
+    let c₆ = c₂ .before .before .before .before in
+    let c₇ = c₆ .before in
+    let c₉ = c₇ .before .before in
+    let c₁₀ = c₉ .before in
+    let s = c₁₀ .before .before in
+    let m = c₉ .minus in
+    let n = c₁₀ .ten-thousandths in
+    let w = c₇ .columns in
+    let p = c₆ .put-spaces in
+    let q = c₂ .put-decimals in
+    subst (λ (t : List ℕ). Written (s .args .out .now) (s .args .at) (right 28 t) (q .result) (q .last .0))
+    (same (s .args .x) (m .result) (n .result) (m .ensures) (n .ensures))
+    (right-written (s .args .out .now) (s .args .at) 28 (w .result) (decimals (m .result) (n .result)) (w .ensures .0) (fit (m .result) (n .result))
+    (s .pre .1) (p .result) (p .last .0) (p .ensures) (q .result) (q .last .0) (q .ensures))
 
 pub put-coordinate-spec : {M : Type 1} → statement M
 put-coordinate-spec =

@@ -1,4 +1,4 @@
--- `put_decimals` meets its contract.
+-- `put_decimals`: the form with the minus or without it, filled with the digits.
 use Prim.Native.Nat.{_+_, _≤_}
 use mathlib.Core.Path.{sym, subst}
 use mathlib.Core.Bool.{Bool}
@@ -27,9 +27,12 @@ same-length c = search needs
 returns : tie.Need-returns
 unfolding decimals bytes
 returns c =
-    let s = c .before .before .before .before .before .before .before .before in
-    let p = c .before .before .put-filled in
-    subst (λ (b : Bool). Written (s .args .out .now) (s .args .at) (decimals b (s .args .n)) (p .result) (p .last .0)) (sym (c .before .before .before .before .before .before .if1 .taken)) (p .ensures)
+    let c₂ = c .before .before in
+    let c₆ = c₂ .before .before .before .before in
+    let s = c₆ .before .before in
+    let p = c₂ .put-filled in
+    subst (λ (b : Bool). Written (s .args .out .now) (s .args .at) (decimals b (s .args .n)) (p .result) (p .last .0))
+    (sym (c₆ .if1 .taken)) (p .ensures)
 
 slice-aggregate-put-filled-3 : tie.Need-slice-aggregate-put-filled-3
 slice-aggregate-put-filled-3 c = search needs
@@ -49,9 +52,12 @@ same-length-2 c = search needs
 returns-2 : tie.Need-returns-2
 unfolding decimals bytes
 returns-2 c =
-    let s = c .before .before .before .before .before .before .before .before in
-    let p = c .before .before .put-filled2 in
-    subst (λ (b : Bool). Written (s .args .out .now) (s .args .at) (decimals b (s .args .n)) (p .result) (p .last .0)) (sym (c .before .before .before .before .before .before .if1 .left)) (p .ensures)
+    let c₂ = c .before .before in
+    let c₆ = c₂ .before .before .before .before in
+    let s = c₆ .before .before in
+    let p = c₂ .put-filled2 in
+    subst (λ (b : Bool). Written (s .args .out .now) (s .args .at) (decimals b (s .args .n)) (p .result) (p .last .0))
+    (sym (c₆ .if1 .left)) (p .ensures)
 
 pub put-decimals-spec : {M : Type 1} → statement M
 put-decimals-spec =

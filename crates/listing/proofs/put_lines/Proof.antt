@@ -1,4 +1,4 @@
--- `put_lines` meets its contract. The loop's invariant: the lines of the first i nodes are written.
+-- `put_lines`, the loop's invariant: the lines of the first i nodes are written.
 use Prim.Native.Nat.{ℕ, _+_, _-_, _≤_, _<_}
 use mathlib.Core.Path.{_≡_, refl, _∙_, subst}
 use lib.ListN.{length}
@@ -13,7 +13,8 @@ use Rattle.listing.proofs.put_lines.Statement.{statement}
 use Rattle.listing.proofs.put_lines.Tie as tie
 
 abbrev Inv-loop : tie.InvT-loop
-Inv-loop out₀ nodes count next₀ i₀ out next i = (i ≤ count) × Usable nodes count × (0 + length (lines nodes count) ≤ length out₀) × (length out ≡ length out₀) × Written out₀ 0 (lines nodes i) next out
+Inv-loop out₀ nodes count next₀ i₀ out next i =
+    (i ≤ count) × Usable nodes count × (0 + length (lines nodes count) ≤ length out₀) × (length out ≡ length out₀) × Written out₀ 0 (lines nodes i) next out
 
 abbrev μ-loop : tie.MeasureT-loop
 μ-loop out₀ nodes count next₀ i₀ out next i = count - i
@@ -21,8 +22,13 @@ abbrev μ-loop : tie.MeasureT-loop
 loop-holds : tie.Need-loop-holds Inv-loop μ-loop
 unfolding lines
 loop-holds c =
-    let s = c .before .before in
-    (search needs, s .pre .0, omega (arith, s .pre .1, lines-long (s .args .nodes .now) (s .args .count) (omega (arith, s .pre .0 .few))), search needs, nothing (s .args .out .now) 0 (omega arith))
+    let s = c .before .before in (
+      search needs,
+      s .pre .0,
+      omega (arith, s .pre .1, lines-long (s .args .nodes .now) (s .args .count) (omega (arith, s .pre .0 .few))),
+      search needs,
+      nothing (s .args .out .now) 0 (omega arith),
+    )
 
 put-line-requires : tie.Need-put-line-requires Inv-loop μ-loop
 unfolding lines
@@ -31,8 +37,17 @@ put-line-requires c κs =
     let l = c .before .before .loop in
     let u = l .inv .1 in
     let k : l .i < s .count = omega arith in
-    let few : l .i < 1000000 = omega (arith, u .few) in
-    (few, omega (arith, u .room), u .ranged (l .i) k .0, u .ranged (l .i) k .1, omega (arith, turn-room (lines (s .nodes .now)) (line (s .nodes .now)) (λ i. refl) (s .out .now) 0 (l .i) (s .count) (l .inv .2) k (l .next) (l .out) (l .inv .4), line-long (s .nodes .now) (l .i) few))
+    let few : l .i < 1000000 = omega (arith, u .few) in (
+      few,
+      omega (arith, u .room),
+      u .ranged (l .i) k .0,
+      u .ranged (l .i) k .1,
+      omega (
+        arith,
+        turn-room (lines (s .nodes .now)) (line (s .nodes .now)) (λ i. refl) (s .out .now) 0 (l .i) (s .count) (l .inv .2) k (l .next) (l .out) (l .inv .4),
+        line-long (s .nodes .now) (l .i) few,
+      ),
+    )
 
 add-i : tie.Need-add-i Inv-loop μ-loop
 add-i c = search needs
@@ -43,14 +58,18 @@ loop-less c = search needs
 loop-again : tie.Need-loop-again Inv-loop μ-loop
 unfolding lines
 loop-again c =
-    let s = c .before .before .before .before .before .before .before .before .args in
-    let l = c .before .before .before .before .before .loop in
-    let p = c .before .before .put-line in (
+    let c₂ = c .before .before in
+    let c₅ = c₂ .before .before .before in
+    let c₈ = c₅ .before .before .before in
+    let s = c₈ .args in
+    let l = c₅ .loop in
+    let p = c₂ .put-line in (
       search needs,
       l .inv .1,
       l .inv .2,
       p .kept .0 ∙ l .inv .3,
-      turn-written (lines (s .nodes .now)) (line (s .nodes .now)) (λ i. refl) (s .out .now) 0 (l .i) (s .count) (l .inv .2) (omega arith) (l .next) (l .out) (l .inv .4) (p .result) (p .last .0) (p .ensures),
+      turn-written (lines (s .nodes .now)) (line (s .nodes .now)) (λ i. refl) (s .out .now) 0 (l .i) (s .count) (l .inv .2) (omega arith) (l .next) (l .out)
+          (l .inv .4) (p .result) (p .last .0) (p .ensures),
     )
 
 same-length : tie.Need-same-length Inv-loop μ-loop

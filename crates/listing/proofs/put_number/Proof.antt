@@ -1,4 +1,4 @@
--- `put_number` meets its contract.
+-- `put_number`: spaces up to the number's length, then the number, fill 8 columns.
 use mathlib.Core.Path.{_∙_}
 use Rattle.report.specs.Text.{decimal}
 use Rattle.listing.proofs.Texts.{number-most}
@@ -19,21 +19,31 @@ put-spaces-requires c κs = let s = c .before .before .before in omega (arith, s
 
 put-decimal-requires : tie.Need-put-decimal-requires
 put-decimal-requires c κs =
-    let s = c .before .before .before .before .before .before .before in
-    let w = c .before .before .before .before .width in
-    let p = c .before .before .before .put-spaces in
-    right-room (s .args .out .now) (s .args .at) 8 (w .result) (decimal (s .args .i)) (w .ensures .0) (number-most (s .args .i) (s .pre .0)) (s .pre .1) (p .result) (p .last .0) (p .ensures)
+    let c₃ = c .before .before .before in
+    let c₄ = c₃ .before in
+    let s = c₄ .before .before .before in
+    let w = c₄ .width in
+    let p = c₃ .put-spaces in
+    right-room (s .args .out .now) (s .args .at) 8 (w .result) (decimal (s .args .i)) (w .ensures .0) (number-most (s .args .i) (s .pre .0)) (s .pre .1)
+    (p .result) (p .last .0) (p .ensures)
 
 same-length : tie.Need-same-length
-same-length c = c .before .before .put-decimal .kept .0 ∙ c .before .before .before .before .before .before .put-spaces .kept .0
+same-length c =
+    let c₂ = c .before .before in
+    let c₆ = c₂ .before .before .before .before in
+    c₂ .put-decimal .kept .0 ∙ c₆ .put-spaces .kept .0
 
 returns : tie.Need-returns
 returns c =
-    let s = c .before .before .before .before .before .before .before .before .before .before in
-    let w = c .before .before .before .before .before .before .before .width in
-    let p = c .before .before .before .before .before .before .put-spaces in
-    let q = c .before .before .put-decimal in
-    right-written (s .args .out .now) (s .args .at) 8 (w .result) (decimal (s .args .i)) (w .ensures .0) (number-most (s .args .i) (s .pre .0)) (s .pre .1) (p .result) (p .last .0) (p .ensures) (q .result) (q .last .0) (q .ensures)
+    let c₂ = c .before .before in
+    let c₆ = c₂ .before .before .before .before in
+    let c₇ = c₆ .before in
+    let s = c₇ .before .before .before in
+    let w = c₇ .width in
+    let p = c₆ .put-spaces in
+    let q = c₂ .put-decimal in
+    right-written (s .args .out .now) (s .args .at) 8 (w .result) (decimal (s .args .i)) (w .ensures .0) (number-most (s .args .i) (s .pre .0)) (s .pre .1)
+    (p .result) (p .last .0) (p .ensures) (q .result) (q .last .0) (q .ensures)
 
 pub put-number-spec : {M : Type 1} → statement M
 put-number-spec =

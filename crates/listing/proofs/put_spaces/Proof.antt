@@ -1,4 +1,4 @@
--- `put_spaces` meets its contract. The loop's invariant: i spaces are written.
+-- `put_spaces`, the loop's invariant: i spaces are written.
 use Prim.Native.Nat.{ℕ, _+_, _-_, _≤_}
 use mathlib.Core.Path.{_≡_, _∙_, subst}
 use mathlib.Core.List.{List, [], _∷_}
@@ -29,7 +29,8 @@ put-byte-requires : tie.Need-put-byte-requires Inv-loop μ-loop
 put-byte-requires c κs =
     let s = c .before .before .before .before .args in
     let l = c .before .before .loop in
-    let h = turn-room spaces (λ i. 32 ∷ []) more-spaces (s .out .now) (s .at) (l .i) (s .n) (all (s .out .now) (s .at) (s .n) (l .inv .1)) (omega arith) (l .next) (l .out) (l .inv .3) in
+    let h = turn-room spaces (λ i. 32 ∷ []) more-spaces (s .out .now) (s .at) (l .i) (s .n) (all (s .out .now) (s .at) (s .n) (l .inv .1)) (omega arith)
+    (l .next) (l .out) (l .inv .3) in
     omega arith
 
 add-i : tie.Need-add-i Inv-loop μ-loop
@@ -40,13 +41,17 @@ loop-less c = search needs
 
 loop-again : tie.Need-loop-again Inv-loop μ-loop
 loop-again c =
-    let s = c .before .before .before .before .before .before .before .args in
-    let l = c .before .before .before .before .before .loop in
-    let p = c .before .before .put-byte in (
+    let c₂ = c .before .before in
+    let c₅ = c₂ .before .before .before in
+    let c₇ = c₅ .before .before in
+    let s = c₇ .args in
+    let l = c₅ .loop in
+    let p = c₂ .put-byte in (
       search needs,
       l .inv .1,
       p .kept .0 ∙ l .inv .2,
-      turn-written spaces (λ i. 32 ∷ []) more-spaces (s .out .now) (s .at) (l .i) (s .n) (all (s .out .now) (s .at) (s .n) (l .inv .1)) (omega arith) (l .next) (l .out) (l .inv .3) (p .result) (p .last .0) (p .ensures),
+      turn-written spaces (λ i. 32 ∷ []) more-spaces (s .out .now) (s .at) (l .i) (s .n) (all (s .out .now) (s .at) (s .n) (l .inv .1)) (omega arith) (l .next)
+          (l .out) (l .inv .3) (p .result) (p .last .0) (p .ensures),
     )
 
 same-length : tie.Need-same-length Inv-loop μ-loop

@@ -1,4 +1,4 @@
--- `ten_thousandths` meets its contract. The fields of the double are those of proofs/Value.
+-- `ten_thousandths`: the fields of the double are those of proofs/Value.
 use Prim.Native.Nat.{ℕ, suc, _+_, _-_, _*_, _^_, _≤_}
 use mathlib.Core.Path.{_≡_, sym, ap, _∙_, subst}
 use native.Mathlib.Omega.{arith}

@@ -1,4 +1,4 @@
--- `width` meets its contract. The loop's invariant: w and the digits left are one more than the digits of n.
+-- `width`, the loop's invariant: w and the digits left are one more than the digits of n.
 use Prim.Native.Nat.{_+_, _^_, _<_}
 use mathlib.Core.Path.{_≡_}
 use lib.ListN.{length}

@@ -1,4 +1,4 @@
--- `joins` meets its contract: each return is one case of the definition. Assumes nothing.
+-- `joins`: each return is one case of the definition.
 use borrow.Author.Needs.{needs}
 use Rattle.marks.specs.Marks as Marks
 use Rattle.marks.proofs.joins.Statement.{statement}

@@ -1,4 +1,4 @@
--- `mark_count` meets its contract. The loop's invariant: the total counts the marks before i. Assumes nothing.
+-- `mark_count`, the loop's invariant: the total counts the marks before i.
 use Prim.Native.Nat.{_+_, _-_, _≤_, _<_}
 use native.Mathlib.Omega.{arith}
 use mathlib.Core.Path.{_≡_, refl, sym, ap, _∙_}

@@ -1,5 +1,5 @@
--- `mark_edges` meets its contract, for every count from 0 to 60. The outer invariant: the edges before i have their marks; the inner: what is
--- left of the search is the whole search. Assumes nothing.
+-- `mark_edges`, for every count from 0 to 60. The outer invariant: the edges before i have their marks; the inner: what is
+-- left of the search is the whole search.
 use Prim.Native.Nat.{_+_, _-_, _≤_, _<_}
 use native.Mathlib.Omega.{arith}
 use native.Mathlib.Numerals.{add-one}
@@ -22,7 +22,8 @@ use Rattle.marks.proofs.mark_edges.Tie as tie
 abbrev Inv-search : tie.InvT-search
 Inv-search n ring chain edges₀ count i a b j₀ edges j =
     (i < n) × (n ≤ 60) × (chain .count ≤ 59) × (j ≤ chain .count) × Marked (stretchesIn chain) (take n ring) i edges
-    × (first (λ k. joins a b (stretchIn (chain .points) (chain .snaps) k)) (chain .count - j) j ≡ first (λ k. joins a b (stretchIn (chain .points) (chain .snaps) k)) (chain .count) 0)
+    × (first (λ k. joins a b (stretchIn (chain .points) (chain .snaps) k)) (chain .count - j) j
+    ≡ first (λ k. joins a b (stretchIn (chain .points) (chain .snaps) k)) (chain .count) 0)
 
 abbrev μ-search : tie.MeasureT-search
 μ-search n ring chain edges₀ count i a b j₀ edges j = count - j
@@ -39,7 +40,8 @@ judged : (k : tie.After-joins Inv-search μ-search Inv-loop μ-loop) →
     let q = k .before .before .before .before in
     let s = q .before .before .before .before .before .before in
     let i = q .before .before .before .before .before .loop .i in
-    k .joins .result ≡ joins (getD (s .args .t1) i origin) (getD (s .args .t1) (q .before .before .next .result) origin) (stretchIn (s .args .t3 .points) (s .args .t3 .snaps) (q .search .j))
+    k .joins .result ≡ joins (getD (s .args .t1) i origin) (getD (s .args .t1) (q .before .before .next .result) origin)
+    (stretchIn (s .args .t3 .points) (s .args .t3 .snaps) (q .search .j))
 judged k =
     let q = k .before .before .before .before in
     let s = q .before .before .before .before .before .before in
@@ -70,7 +72,11 @@ joined c =
     (marked-straight ss (take n ps) i (o .edges) (o .inv .4) (omega arith)
     ((λ j. mark ss (a j) (b j)) ∙ mark-straight chain _ _ (chain .count) f (omega arith))))
     (λ w.
-    let f = sym (laws.first-hit _ (chain .count) (o .j) (w .0 .taken) (sym (judged (record { before = record { before = record { before = record { before = q; search-test = w .0 }; joins-arg = w .1 }; joins-arg2 = w .2 }; joins = w .3 })) ∙ w .4 .taken)) ∙ o .inv .5 in
+    let j = judged (record {
+      before = record { before = record { before = record { before = q; search-test = w .0 }; joins-arg = w .1 }; joins-arg2 = w .2 };
+      joins = w .3;
+    }) in
+    let f = sym (laws.first-hit _ (chain .count) (o .j) (w .0 .taken) (sym j ∙ w .4 .taken)) ∙ o .inv .5 in
     rw (w .6)
     (marked-snap ss (take n ps) i (o .edges) (o .inv .4) (omega arith) _
     (sym ((λ j. mark ss (a j) (b j)) ∙ mark-snap chain _ _ (o .j) f (w .0 .taken)))))

@@ -1,4 +1,4 @@
--- `runs` meets its contract: each return is one case of the definition. Assumes nothing.
+-- `runs`: each return is one case of the definition.
 use borrow.Author.Needs.{needs}
 use Rattle.marks.proofs.runs.Statement.{statement}
 use Rattle.marks.proofs.runs.Tie as tie

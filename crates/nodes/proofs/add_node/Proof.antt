@@ -1,4 +1,4 @@
--- `nodes::add_node` meets its contract.
+-- `add_node`: the place found is listed already, or the point is written after the used ones; laws in proofs/Adding.
 use Prim.Native.Nat.{_+_, _*_, _≤_}
 use native.Mathlib.Omega.{arith}
 use borrow.Author.Needs.{needs}
@@ -11,7 +11,11 @@ use Rattle.nodes.proofs.add_node.Tie as tie
 room : (c : tie.Else1) → let a = c .before .before .before .before .before .before .args in a .used * 2 + 2 ≤ length (a .nodes .now)
 room c =
     let s = c .before .before .before .before .before .before in
-    omega (arith, s .pre .2, adding.longer (s .args .nodes .now) (s .args .used) (c .before .find-nearby .result) (s .args .p) (c .before .find-nearby .ensures) (c .if1 .left))
+    omega (
+      arith,
+      s .pre .2,
+      adding.longer (s .args .nodes .now) (s .args .used) (c .before .find-nearby .result) (s .args .p) (c .before .find-nearby .ensures) (c .if1 .left),
+    )
 
 find-nearby-requires : tie.Need-find-nearby-requires
 find-nearby-requires c κs = search needs
@@ -25,7 +29,8 @@ same-length c = search needs
 returns : tie.Need-returns
 returns c =
     let s = c .before .before .before .before .before .before in
-    adding.old (s .args .nodes .now) (s .args .used) (c .before .find-nearby .result) (s .args .p) (c .before .find-nearby .ensures) (omega arith) (c .if1 .taken)
+    adding.old (s .args .nodes .now) (s .args .used) (c .before .find-nearby .result) (s .args .p) (c .before .find-nearby .ensures) (omega arith)
+    (c .if1 .taken)
 
 mul-nodes : tie.Need-mul-nodes
 mul-nodes c = search needs

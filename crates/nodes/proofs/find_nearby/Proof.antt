@@ -1,4 +1,4 @@
--- `nodes::find_nearby` meets its contract: what the collected nodes decide is what the whole scan finds.
+-- `find_nearby`: what the collected nodes decide is what the whole scan finds.
 use Prim.Native.Nat.{_<_}
 use native.Mathlib.Omega.{arith}
 use mathlib.Core.Path.{sym, _∙_}
@@ -35,7 +35,8 @@ find-listed-requires c κs =
     let m = c .before .before in
     let n = m .before in
     let s = n .before .before .before .before in
-    let r = collection.searchable _ _ _ _ _ (s .args .p) _ _ (s .pre .2) (s .pre .0) (n .new .ensures .0) (m .new2 .ensures .0) (n .new .ensures .1) (m .new2 .ensures .1) (sym (c .before .decides .ensures) ∙ is-true _ (c .if1 .left)) in
+    let r = collection.searchable _ _ _ _ _ (s .args .p) _ _ (s .pre .2) (s .pre .0) (n .new .ensures .0) (m .new2 .ensures .0) (n .new .ensures .1)
+    (m .new2 .ensures .1) (sym (c .before .decides .ensures) ∙ is-true _ (c .if1 .left)) in
     (r .0, r .1, n .new .ensures .1, m .new2 .ensures .1)
 
 -- a place among the collected
@@ -51,7 +52,8 @@ low c =
     let m = d .before .before in
     let n = m .before in
     let s = n .before .before .before .before in
-    collection.room-at _ _ _ _ _ (s .args .p) _ _ (s .pre .2) (s .pre .0) (n .new .ensures .0) (m .new2 .ensures .0) (n .new .ensures .1) (m .new2 .ensures .1) (sym (d .before .decides .ensures) ∙ is-true _ (d .if1 .left)) _ (c .if2 .taken)
+    collection.room-at _ _ _ _ _ (s .args .p) _ _ (s .pre .2) (s .pre .0) (n .new .ensures .0) (m .new2 .ensures .0) (n .new .ensures .1) (m .new2 .ensures .1)
+    (sym (d .before .decides .ensures) ∙ is-true _ (d .if1 .left)) _ (c .if2 .taken)
 
 mul-result : tie.Need-mul-result
 mul-result c = omega (arith, low c .1)
@@ -70,13 +72,15 @@ returns-2 c =
     let m = d .before .before in
     let n = m .before in
     let s = n .before .before .before .before in
-    collection.found _ _ _ _ _ (s .args .p) _ _ (s .pre .2) (s .pre .0) (n .new .ensures .0) (m .new2 .ensures .0) (n .new .ensures .1) (m .new2 .ensures .1) (sym (d .before .decides .ensures) ∙ is-true _ (d .if1 .left)) _ (f .find-listed .ensures) (t .if2 .taken)
+    collection.found _ _ _ _ _ (s .args .p) _ _ (s .pre .2) (s .pre .0) (n .new .ensures .0) (m .new2 .ensures .0) (n .new .ensures .1) (m .new2 .ensures .1)
+    (sym (d .before .decides .ensures) ∙ is-true _ (d .if1 .left)) _ (f .find-listed .ensures) (t .if2 .taken)
 
 find-from-requires-2 : tie.Need-find-from-requires-2
 find-from-requires-2 c κs =
-    let n = c .before .before .before .before .before .before in
+    let c₅ = c .before .before .before .before .before in
+    let n = c₅ .before in
     let s = n .before .before .before .before in
-    (s .pre .0, s .pre .2 .old, n .new .ensures .1, c .before .before .before .before .before .new2 .ensures .1)
+    (s .pre .0, s .pre .2 .old, n .new .ensures .1, c₅ .new2 .ensures .1)
 
 returns-3 : tie.Need-returns-3
 returns-3 c =
@@ -86,7 +90,8 @@ returns-3 c =
     let m = d .before .before in
     let n = m .before in
     let s = n .before .before .before .before in
-    collection.not-found _ _ _ _ _ (s .args .p) _ _ (s .pre .2) (s .pre .0) (n .new .ensures .0) (m .new2 .ensures .0) (n .new .ensures .1) (m .new2 .ensures .1) (sym (d .before .decides .ensures) ∙ is-true _ (d .if1 .left)) _ (f .find-listed .ensures) _ (t .if2 .left) (c .find-from2 .ensures)
+    collection.not-found _ _ _ _ _ (s .args .p) _ _ (s .pre .2) (s .pre .0) (n .new .ensures .0) (m .new2 .ensures .0) (n .new .ensures .1)
+    (m .new2 .ensures .1) (sym (d .before .decides .ensures) ∙ is-true _ (d .if1 .left)) _ (f .find-listed .ensures) _ (t .if2 .left) (c .find-from2 .ensures)
 
 pub find-nearby-spec : {M : Type 1} → statement M
 find-nearby-spec =

@@ -1,4 +1,4 @@
--- `cell_places` meets its contract: by the sheet where the cuts are 32, and worked out otherwise.
+-- `cell_places`: by the sheet where the cuts are 32, and worked out otherwise.
 use mathlib.Core.Path.{sym, ap, _∙_}
 use borrow.Author.Needs.{needs}
 use Rattle.reserve.specs.Reserve.{cellPlaces}

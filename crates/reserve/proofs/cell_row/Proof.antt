@@ -1,4 +1,4 @@
--- `cell_row` meets its contract: the array of the code is the sheet of the definition.
+-- `cell_row`: the array of the code is the sheet of the definition.
 use borrow.Author.Needs.{needs}
 use Rattle.reserve.specs.Sheet.{cellSheet, cellsAt}
 use Rattle.reserve.proofs.cell_row.Statement.{statement}

@@ -1,4 +1,4 @@
--- `node_places` meets its contract: by the sheet where the cuts are 32, and worked out otherwise.
+-- `node_places`: by the sheet where the cuts are 32, and worked out otherwise.
 use mathlib.Core.Path.{sym, ap, _∙_}
 use borrow.Author.Needs.{needs}
 use Rattle.reserve.specs.Reserve.{nodePlaces}

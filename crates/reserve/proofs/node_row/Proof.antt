@@ -1,4 +1,4 @@
--- `node_row` meets its contract: the array of the code is the sheet of the definition.
+-- `node_row`: the array of the code is the sheet of the definition.
 use borrow.Author.Needs.{needs}
 use Rattle.reserve.specs.Sheet.{nodeSheet, nodesAt}
 use Rattle.reserve.proofs.node_row.Statement.{statement}

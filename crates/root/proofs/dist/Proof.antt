@@ -1,4 +1,3 @@
--- `root::dist` meets its contract.
 use mathlib.Core.Path.{ap, _∙_}
 use borrow.Author.Needs.{needs}
 use Rattle.root.specs.Norm as Norm

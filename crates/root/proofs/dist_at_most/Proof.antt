@@ -1,4 +1,3 @@
--- `root::dist_at_most` meets its contract.
 use mathlib.Core.Path.{ap, _∙_}
 use lib.Ieee.{Float}
 use borrow.Author.Needs.{needs}
@@ -21,7 +20,9 @@ root-at-most-requires c κs = search needs
 
 returns : tie.Need-returns
 unfolding Norm.dist Norm.norm
-returns c = c .root-at-most .ensures ∙ (λ i. rootOf ((c .before .dot .ensures ∙ ap (λ (v : Point). Plane.dot v v) (c .before .before .sub .ensures)) i) ≤f c .before .before .before .args .t)
+returns c =
+    c .root-at-most .ensures
+    ∙ (λ i. rootOf ((c .before .dot .ensures ∙ ap (λ (v : Point). Plane.dot v v) (c .before .before .sub .ensures)) i) ≤f c .before .before .before .args .t)
 
 pub dist-at-most-spec : {M : Type 1} → statement M
 dist-at-most-spec = tie.close (tie.spec sub-requires dot-requires root-at-most-requires returns)

@@ -1,4 +1,4 @@
--- `root::grid_dist_at_most` meets its contract.
+-- `grid_dist_at_most`: the step of two points of the sheet, and its squares as a double.
 use mathlib.Core.Path.{ap, _∙_}
 use native.Mathlib.Omega.{arith}
 use lib.Ieee.{Float}
@@ -30,7 +30,8 @@ returns : tie.Need-returns
 unfolding Norm.gridDist Norm.gridNorm
 returns c =
     let d = c .before .before .dot in
-    let e = back (d .result) (omega (arith, d .ensures .1)) ∙ d .ensures .0 ∙ ap (λ (v : GridPoint). Grid.dot v v) (c .before .before .before .sub .ensures .0) in
+    let e = back (d .result) (omega (arith, d .ensures .1)) ∙ d .ensures .0
+    ∙ ap (λ (v : GridPoint). Grid.dot v v) (c .before .before .before .sub .ensures .0) in
     c .root-at-most .ensures ∙ (λ i. rootOf ((c .before .square-mm .ensures ∙ ap mm² e) i) ≤f c .before .before .before .before .args .t)
 
 pub grid-dist-at-most-spec : {M : Type 1} → statement M

@@ -1,4 +1,4 @@
--- `root::grid_norm` meets its contract.
+-- `grid_norm`: the squares of a step fit 64 bits and are exact as a double.
 use mathlib.Core.Path.{ap, _∙_}
 use native.Mathlib.Omega.{arith}
 use borrow.Author.Needs.{needs}

@@ -1,4 +1,3 @@
--- `root::norm` meets its contract.
 use mathlib.Core.Path.{ap, _∙_}
 use borrow.Author.Needs.{needs}
 use Rattle.root.specs.Root.{rootOf}

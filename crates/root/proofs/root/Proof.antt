@@ -1,4 +1,4 @@
--- `root::root` meets its contract.
+-- `root`: each return is one case of the definition; laws in proofs/Cases.
 use mathlib.Core.Path.{sym, ap, _∙_, subst}
 use lib.Dec.{T}
 use lib.Ieee.{binary64, fits}

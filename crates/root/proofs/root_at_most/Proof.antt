@@ -1,4 +1,4 @@
--- `root_at_most` meets its contract: by `root-above` where no root is taken.
+-- `root_at_most`: by `root-above` where no root is taken.
 use mathlib.Core.Path.{sym, ap, subst}
 use lib.Dec.{T}
 use lib.Ieee.{Float, binary64, fits, ofBits}

@@ -1,4 +1,4 @@
--- `root::root_bits` meets its contract. The laws of its four cases are in `Cases.antt`.
+-- `root_bits`: the laws of its four cases are in `Cases.antt`.
 use borrow.Author.Needs.{needs}
 use Rattle.root.proofs.Cases.{zero-bits, positive-bits, infinite-bits, nan-bits}
 use Rattle.root.proofs.root_bits.Statement.{statement}

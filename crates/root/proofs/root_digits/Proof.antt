@@ -1,4 +1,4 @@
--- `root::root_digits` meets its contract. What it computes is in `Halves.antt`.
+-- `root_digits`: what it computes is in `Halves.antt`.
 use native.Mathlib.Omega.{arith}
 use Rattle.root.proofs.Halves.{Known, known, quot, left, exact, over, square-few}
 use borrow.Author.Needs.{needs}

@@ -1,4 +1,4 @@
--- `root::root_head` meets its contract. The invariant of its loop: a is the whole part of n's root, or above it. The measure is a.
+-- `root_head`, the loop's invariant: a is the whole part of n's root, or above it. The measure is a.
 use Prim.Native.Nat.{_^_}
 use native.Mathlib.Omega.{arith}
 use Rattle.root.proofs.Heron.{guess, step, rise, Guess, first, second, Above, third, positive, down, square-fits}

@@ -1,4 +1,4 @@
--- `root::root_positive` meets its contract. What its numbers are is in `Pattern.antt` and `Scaled.antt`.
+-- `root_positive`: what its numbers are is in `Pattern.antt` and `Scaled.antt`.
 use mathlib.Core.Path.{_≡_, sym, subst}
 use mathlib.Core.Logic.{⊎-elim}
 use Prim.Native.Nat.{ℕ, _+_, _-_, _*_, _/_, _%_, _^_, _≤_, _<_}
@@ -37,7 +37,9 @@ kept : (n : ℕ) → Radicand n → n % 2 ^ 64 ≡ n
 kept n r = mod-eq-of-lt (omega (arith, r .to))
 
 -- the root's 54 digits
-got : (c : tie.After-root-digits) → IsRoot (c .before .before .before .if1 .m * 2 ^ shift (c .before .before .before .if1 .k) (leadingZeros 64 (c .before .before .before .if1 .m)) * 2 ^ 54) (c .root-digits .result)
+got : (c : tie.After-root-digits)
+    → IsRoot (c .before .before .before .if1 .m * 2 ^ shift (c .before .before .before .if1 .k) (leadingZeros 64 (c .before .before .before .if1 .m)) * 2 ^ 54)
+    (c .root-digits .result)
 got c =
     let j = c .before .before .before in
     let n = j .if1 .m * 2 ^ shift (j .if1 .k) (leadingZeros 64 (j .if1 .m)) in
@@ -75,7 +77,8 @@ shl-n c = omega (arith, leads (c .before .before) .high)
 root-digits-requires : tie.Need-root-digits-requires
 root-digits-requires c κs =
     let j = c .before .before in
-    subst (λ (x : ℕ). (2 ^ 52 ≤ x) × (x < 2 ^ 54)) (sym (kept (j .if1 .m * 2 ^ shift (j .if1 .k) (leadingZeros 64 (j .if1 .m))) (handed j))) (handed j .from, omega (arith, handed j .to))
+    subst (λ (x : ℕ). (2 ^ 52 ≤ x) × (x < 2 ^ 54)) (sym (kept (j .if1 .m * 2 ^ shift (j .if1 .k) (leadingZeros 64 (j .if1 .m))) (handed j)))
+    (handed j .from, omega (arith, handed j .to))
 
 add-result : tie.Need-add-result
 add-result c = search needs

@@ -1,4 +1,3 @@
--- `between` meets its contract. Assumes nothing.
 use Rattle.sets.specs.Sets as Sets
 use Rattle.sets.proofs.between.Statement.{statement}
 use Rattle.sets.proofs.between.Tie as tie

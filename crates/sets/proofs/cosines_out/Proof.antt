@@ -1,4 +1,4 @@
--- `cosines_out` meets its contract: the code's constants are those of the definition, and each return is one of its cases. Assumes nothing.
+-- `cosines_out`: the code's constants are those of the definition, and each return is one of its cases.
 use lib.Ieee.{ofBits, ofInt, round, sub, add, neg, sum}
 use borrow.Author.Needs.{needs}
 use Rattle.sets.specs.Sets as Sets

@@ -1,4 +1,4 @@
--- `limits_out` meets its contract: the code's constants are those of the definition, and each return is one of its cases. Assumes nothing.
+-- `limits_out`: the code's constants are those of the definition, and each return is one of its cases.
 use lib.Ieee.{ofBits, ofInt, round, sub, add, neg, sum}
 use borrow.Author.Needs.{needs}
 use borrow.Author.Tests.{lt-ltb, le-ltb}
@@ -22,7 +22,14 @@ cosines-out-requires c κs = search needs
 
 returns-3 : tie.Need-returns-3
 unfolding Sets.limitsOut ofBits ofInt round
-returns-3 c = rw (le-ltb _ _ (c .before .before .before .before .if1 .left), ← c .before .before .before .between .ensures, c .before .before .if2 .left, ← c .before .cosines-out .ensures, c .if3 .taken)
+returns-3 c =
+    rw (
+      le-ltb _ _ (c .before .before .before .before .if1 .left),
+      ← c .before .before .before .between .ensures,
+      c .before .before .if2 .left,
+      ← c .before .cosines-out .ensures,
+      c .if3 .taken,
+    )
 
 between-requires-2 : tie.Need-between-requires-2
 between-requires-2 c κs = search needs

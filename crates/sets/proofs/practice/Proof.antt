@@ -1,4 +1,3 @@
--- `practice` meets its contract. Assumes nothing.
 use mathlib.Core.Path.{_≡_, ap}
 use borrow.Author.Needs.{needs}
 use Rattle.sets.specs.Sets.{withCuts}

@@ -1,4 +1,4 @@
--- `Corner::is_bad` meets its contract: by its definition. Assumes nothing.
+-- `Corner::is_bad`: by its definition.
 use borrow.Author.Needs.{needs}
 use Rattle.corner.specs.Corner as Corners
 use Rattle.corner.proofs.Corner.is_bad.Statement.{statement}

@@ -1,4 +1,3 @@
--- `Limits::new` meets its contract. Assumes nothing.
 use Rattle.corner.proofs.Delivered.{code-is}
 use Rattle.corner.proofs.Limits.new.Statement.{statement}
 use Rattle.corner.proofs.Limits.new.Tie as tie

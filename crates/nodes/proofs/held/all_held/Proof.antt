@@ -1,4 +1,4 @@
--- `nodes::held::all_held` meets its contract. The loop keeps that all numbers passed are held.
+-- `all_held`: its loop keeps that all numbers passed are held.
 use Prim.Native.Nat.{_-_, _≤_}
 use native.Mathlib.Omega.{arith}
 use mathlib.Core.Path.{_≡_, refl, sym, _∙_}
@@ -47,8 +47,11 @@ loop-less c = search needs
 loop-again : tie.Need-loop-again Inv-loop μ-loop
 loop-again c =
     let b = c .before .before in
-    let e = b .block-end .ensures in
-    (e .1, go-on (b .before .before .before .before .before .args .l .now) 64 (b .before .before .loop .i) (b .block-end .result) (full b) (e .2) (b .before .before .loop .inv .1) (sym (c .before .any-out .ensures) ∙ c .if2 .left))
+    let e = b .block-end .ensures in (
+      e .1,
+      go-on (b .before .before .before .before .before .args .l .now) 64 (b .before .before .loop .i) (b .block-end .result) (full b) (e .2)
+          (b .before .before .loop .inv .1) (sym (c .before .any-out .ensures) ∙ c .if2 .left),
+    )
 
 returns-3 : tie.Need-returns-3 Inv-loop μ-loop
 returns-3 c =

@@ -1,4 +1,4 @@
--- `nodes::held::any_out` meets its contract.
+-- `any_out`, the loop's invariant: `found` says whether one of the numbers passed is not held.
 use Prim.Native.Nat.{_+_, _-_, _≤_}
 use native.Mathlib.Omega.{arith}
 use mathlib.Core.Path.{_≡_, refl, ap}

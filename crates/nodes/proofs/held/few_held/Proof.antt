@@ -1,4 +1,4 @@
--- `nodes::held::few_held` meets its contract. The loop keeps that all numbers passed are held.
+-- `few_held`: its loop keeps that all numbers passed are held.
 use Prim.Native.Nat.{_-_, _≤_}
 use native.Mathlib.Omega.{arith}
 use mathlib.Core.Path.{_≡_, refl, sym, ap, _∙_}

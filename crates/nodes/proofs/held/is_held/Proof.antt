@@ -1,4 +1,3 @@
--- `nodes::held::is_held` meets its contract.
 use lib.Ieee.{ofBits, neg}
 use Rattle.nodes.proofs.Ranged.{held-is}
 use Rattle.nodes.proofs.held.is_held.Statement.{statement}

@@ -1,4 +1,3 @@
--- `nodes::keys::has_key` meets its contract.
 use mathlib.Core.Path.{sym, _∙_}
 use borrow.Author.Needs.{needs}
 use Rattle.nodes.proofs.keys.has_key.Statement.{statement}

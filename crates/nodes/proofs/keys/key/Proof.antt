@@ -1,4 +1,4 @@
--- `nodes::keys::key` meets its contract.
+-- `key`: what truncation leaves is exact, and its two comparisons with a half round it; laws in proofs/KeySteps.
 use mathlib.Core.Path.{_≡_, sym, ap, _∙_, subst}
 use Prim.Native.Nat.{_≤_}
 use native.Mathlib.Nat.{le-trans}

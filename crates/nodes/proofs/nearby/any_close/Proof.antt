@@ -1,4 +1,4 @@
--- `nodes::nearby::any_close` meets its contract.
+-- `any_close`, the loop's invariant: `found` says whether one of the nodes passed is near.
 use Prim.Native.Nat.{_+_, _-_, _≤_}
 use native.Mathlib.Omega.{arith}
 use mathlib.Core.Path.{_≡_, refl}

@@ -1,4 +1,4 @@
--- `nodes::nearby::any_in` meets its contract.
+-- `any_in`, the loop's invariant: `found` says whether one of the coordinates passed is in the span.
 use Prim.Native.Nat.{_+_, _-_, _*_, _≤_}
 use native.Mathlib.Omega.{arith}
 use mathlib.Core.Path.{_≡_, refl}

@@ -1,4 +1,3 @@
--- `nodes::nearby::collect` meets its contract.
 use borrow.Author.Needs.{needs}
 use Rattle.nodes.proofs.nearby.collect.Statement.{statement}
 use Rattle.nodes.proofs.nearby.collect.Tie as tie

@@ -1,4 +1,4 @@
--- `nodes::nearby::collect_all` meets its contract.
+-- `collect_all`: fewer than 64 nodes one by one, else by blocks.
 use borrow.Author.Needs.{needs}
 use Rattle.nodes.proofs.Gathering as gathering
 use Rattle.nodes.proofs.nearby.collect_all.Statement.{statement}

@@ -1,4 +1,4 @@
--- `nodes::nearby::collect_block` meets its contract: where no x is in the window, or no y, no node is.
+-- `collect_block`: where no x is in the window, or no y, no node is.
 use mathlib.Core.Path.{sym, _∙_, subst}
 use borrow.Author.Needs.{needs}
 use lib.Dec.{T}
@@ -22,7 +22,8 @@ returns c =
     let x = s .args in
     λ a b p q g.
     gathering.past-all (x .nodes .now) (x .w) a b (x .from) (x .to) (x .n) _ _ (s .pre .1)
-    (gathering.none-across (x .nodes .now) (x .w) 64 (x .from) (x .to) (s .pre .2) (s .pre .3) (sym (c .before .any-in .ensures) ∙ is-false _ (subst T (sym (c .if1 .taken)) tt))) g
+    (gathering.none-across (x .nodes .now) (x .w) 64 (x .from) (x .to) (s .pre .2) (s .pre .3)
+    (sym (c .before .any-in .ensures) ∙ is-false _ (subst T (sym (c .if1 .taken)) tt))) g
 
 add-any-in : tie.Need-add-any-in
 add-any-in c = search needs
@@ -36,7 +37,8 @@ returns-2 c =
     let x = s .args in
     λ a b p q g.
     gathering.past-all (x .nodes .now) (x .w) a b (x .from) (x .to) (x .n) _ _ (s .pre .1)
-    (gathering.none-along (x .nodes .now) (x .w) 64 (x .from) (x .to) (s .pre .2) (s .pre .3) (sym (c .before .any-in2 .ensures) ∙ is-false _ (subst T (sym (c .if2 .taken)) tt))) g
+    (gathering.none-along (x .nodes .now) (x .w) 64 (x .from) (x .to) (s .pre .2) (s .pre .3)
+    (sym (c .before .any-in2 .ensures) ∙ is-false _ (subst T (sym (c .if2 .taken)) tt))) g
 
 collect-in-requires : tie.Need-collect-in-requires
 collect-in-requires c κs = search needs

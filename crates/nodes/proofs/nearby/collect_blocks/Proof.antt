@@ -1,4 +1,4 @@
--- `nodes::nearby::collect_blocks` meets its contract. The loop keeps that what is collected is all of the places passed.
+-- `collect_blocks`: its loop keeps that what is collected is all of the places passed.
 use Prim.Native.Nat.{_-_, _≤_}
 use native.Mathlib.Nat.{le-of-lt}
 use native.Mathlib.Omega.{arith}
@@ -12,7 +12,8 @@ use Rattle.nodes.proofs.nearby.collect_blocks.Statement.{statement}
 use Rattle.nodes.proofs.nearby.collect_blocks.Tie as tie
 
 abbrev Inv-loop : tie.InvT-loop
-Inv-loop nodes old w numbers₀ xs₀ i₀ n₀ numbers xs i n = (i ≤ old) × (n ≤ mostNearby) × (length numbers ≡ mostNearby) × (length xs ≡ mostNearby) × Gathered nodes w i numbers₀ xs₀ numbers xs n
+Inv-loop nodes old w numbers₀ xs₀ i₀ n₀ numbers xs i n =
+    (i ≤ old) × (n ≤ mostNearby) × (length numbers ≡ mostNearby) × (length xs ≡ mostNearby) × Gathered nodes w i numbers₀ xs₀ numbers xs n
 
 abbrev μ-loop : tie.MeasureT-loop
 μ-loop nodes old w numbers₀ xs₀ i₀ n₀ numbers xs i n = old - i
@@ -34,8 +35,11 @@ collect-block-requires c κs =
     (fewer _ _ (s .args .old) (e .1) (s .pre .0), le-of-lt (e .0), e .2, e .3 (s .pre .1), o .loop .inv .2, o .loop .inv .3, o .loop .inv .1)
 
 -- the block is collected
-long : (c : tie.After-collect-block Inv-loop μ-loop) → (length (c .collect-block .last .1 .1 .1 .1 .0) ≡ mostNearby) × (length (c .collect-block .last .1 .1 .1 .1 .1 .0) ≡ mostNearby)
-long c = let q = c .before .before .before .before .before .loop in (c .collect-block .kept .1 .1 .1 .1 .0 ∙ q .inv .2, c .collect-block .kept .1 .1 .1 .1 .1 .0 ∙ q .inv .3)
+long : (c : tie.After-collect-block Inv-loop μ-loop)
+    → (length (c .collect-block .last .1 .1 .1 .1 .0) ≡ mostNearby) × (length (c .collect-block .last .1 .1 .1 .1 .1 .0) ≡ mostNearby)
+long c =
+    let q = c .before .before .before .before .before .loop in
+    (c .collect-block .kept .1 .1 .1 .1 .0 ∙ q .inv .2, c .collect-block .kept .1 .1 .1 .1 .1 .0 ∙ q .inv .3)
 
 same-length : tie.Need-same-length Inv-loop μ-loop
 same-length c = let b = c .before .before .before .before .before in long b .0 ∙ sym (begin (b .before .before .before .before .before) .pre .2)

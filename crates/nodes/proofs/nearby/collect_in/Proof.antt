@@ -1,4 +1,4 @@
--- `nodes::nearby::collect_in` meets its contract. The loop keeps that what is collected is all of the places passed.
+-- `collect_in`: its loop keeps that what is collected is all of the places passed.
 use Prim.Native.Nat.{ℕ, _+_, _-_, _≤_}
 use native.Mathlib.Omega.{arith}
 use mathlib.Core.Logic.{⊎-elim}
@@ -14,7 +14,8 @@ use Rattle.nodes.proofs.nearby.collect_in.Statement.{statement}
 use Rattle.nodes.proofs.nearby.collect_in.Tie as tie
 
 abbrev State : List Float → Window → ℕ → List ℕ → List Float → ℕ → ℕ → List ℕ → List Float → ℕ → Type 0
-State nodes w from numbers₀ xs₀ n i numbers xs k = (k ≤ mostNearby) × (length numbers ≡ mostNearby) × (length xs ≡ mostNearby) × GoesOn nodes w from numbers₀ xs₀ n i numbers xs k
+State nodes w from numbers₀ xs₀ n i numbers xs k =
+    (k ≤ mostNearby) × (length numbers ≡ mostNearby) × (length xs ≡ mostNearby) × GoesOn nodes w from numbers₀ xs₀ n i numbers xs k
 
 abbrev Inv-loop : tie.InvT-loop
 Inv-loop nodes from to w numbers₀ xs₀ n k₀ i₀ numbers xs k i = (i ≤ to) × State nodes w from numbers₀ xs₀ n i numbers xs k
@@ -65,7 +66,8 @@ returns c =
     let i = h .before .before .before in
     let q = i .before .loop in
     λ a b p r g.
-    gathering.full _ _ a b (q .i) _ (q .k) _ _ _ (sym (h .holds .ensures) ∙ c .before .if1 .taken) (i .loop-test .taken) (c .if2 .taken) (q .inv .1 .0) refl (q .inv .1 .3 a b p r g)
+    gathering.full _ _ a b (q .i) _ (q .k) _ _ _ (sym (h .holds .ensures) ∙ c .before .if1 .taken) (i .loop-test .taken) (c .if2 .taken) (q .inv .1 .0) refl
+    (q .inv .1 .3 a b p r g)
 
 cast-numbers : tie.Need-cast-numbers Inv-loop μ-loop
 cast-numbers c = search needs
@@ -107,7 +109,8 @@ joined c =
       omega (arith, t .1 .left),
       length-set (q .numbers) (q .k) (q .i) ∙ q .inv .1 .1,
       length-set (q .xs) (q .k) _ ∙ q .inv .1 .2,
-      λ u v p r g. gathering.put _ _ u v (q .i) (q .k) (q .numbers) (q .xs) (sym (c .before .holds .ensures) ∙ t .0 .taken) (q .inv .1 .3 u v p r g) (t .1 .left) p r,
+      λ u v p r g. gathering.put _ _ u v (q .i) (q .k) (q .numbers) (q .xs) (sym (c .before .holds .ensures) ∙ t .0 .taken) (q .inv .1 .3 u v p r g)
+          (t .1 .left) p r,
     ))
     (λ t. gathering.carried P _ _ _ _ _ _ (t .1) (t .2) (t .3) (
       q .inv .1 .0,

@@ -1,4 +1,4 @@
--- `nodes::nearby::find_listed` meets its contract. The loop keeps that what is left of the search is the whole of it.
+-- `find_listed`: its loop keeps that what is left of the search is the whole of it.
 use Prim.Native.Nat.{_-_, _%_, _≤_, _<_}
 use native.Mathlib.Nat.{le-of-lt}
 use native.Mathlib.Omega.{arith}
@@ -15,7 +15,8 @@ use Rattle.nodes.proofs.nearby.find_listed.Tie as tie
 
 abbrev Inv-loop : tie.InvT-loop
 Inv-loop nodes old numbers xs count kx ky i₀ i =
-    (i ≤ count) × (i < count → i % 16 ≡ 0) × (first (hasListed nodes numbers (keyOf kx) (keyOf ky)) (count - i) i ≡ first (hasListed nodes numbers (keyOf kx) (keyOf ky)) count 0)
+    (i ≤ count) × (i < count → i % 16 ≡ 0)
+    × (first (hasListed nodes numbers (keyOf kx) (keyOf ky)) (count - i) i ≡ first (hasListed nodes numbers (keyOf kx) (keyOf ky)) count 0)
 
 abbrev μ-loop : tie.MeasureT-loop
 μ-loop nodes old numbers xs count kx ky i₀ i = count - i
@@ -36,8 +37,15 @@ find-listed-block-requires : tie.Need-find-listed-block-requires Inv-loop μ-loo
 find-listed-block-requires c κs =
     let e = c .block-end .ensures in
     let i = c .before in
-    let s = i .before .before .before .before .before .before in
-    (s .pre .0, lists-fewer _ _ _ _ _ _ (e .1) (s .pre .1), le-of-lt (e .0), e .2, omega (arith, i .loop-test .taken, i .before .loop .inv .1 (i .loop-test .taken), s .pre .1 .few), s .pre .2, s .pre .3)
+    let s = i .before .before .before .before .before .before in (
+      s .pre .0,
+      lists-fewer _ _ _ _ _ _ (e .1) (s .pre .1),
+      le-of-lt (e .0),
+      e .2,
+      omega (arith, i .loop-test .taken, i .before .loop .inv .1 (i .loop-test .taken), s .pre .1 .few),
+      s .pre .2,
+      s .pre .3,
+    )
 
 returns-2 : tie.Need-returns-2 Inv-loop μ-loop
 returns-2 c =
@@ -53,8 +61,11 @@ loop-again : tie.Need-loop-again Inv-loop μ-loop
 loop-again c =
     let b = c .before in
     let e = b .before .block-end .ensures in
-    let i = b .before .before in
-    (e .1, (λ h. omega (arith, e .4 h, i .before .loop .inv .1 (i .loop-test .taken))), part-pass _ _ _ _ _ (le-of-lt (e .0)) (e .1) (b .find-listed-block .ensures) (c .if2 .left) ∙ i .before .loop .inv .2)
+    let i = b .before .before in (
+      e .1,
+      (λ h. omega (arith, e .4 h, i .before .loop .inv .1 (i .loop-test .taken))),
+      part-pass _ _ _ _ _ (le-of-lt (e .0)) (e .1) (b .find-listed-block .ensures) (c .if2 .left) ∙ i .before .loop .inv .2,
+    )
 
 returns-3 : tie.Need-returns-3 Inv-loop μ-loop
 returns-3 c =

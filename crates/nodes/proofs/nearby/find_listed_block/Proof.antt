@@ -1,4 +1,4 @@
--- `nodes::nearby::find_listed_block` meets its contract: where none is near the first key, none has both keys.
+-- `find_listed_block`: where none is near the first key, none has both keys.
 use Prim.Native.Nat.{_+_, _-_}
 use native.Mathlib.Omega.{arith}
 use mathlib.Core.Path.{_≡_, sym, _∙_}
@@ -21,7 +21,8 @@ returns-2 : tie.Need-returns-2
 returns-2 c =
     let s = c .before .before .before .before .before in
     let e : s .args .from + (s .args .to - s .args .from) ≡ s .args .to = omega (arith, s .pre .2) in
-    sym (none-close _ _ _ _ _ (s .args .kx) (keyOf (s .args .ky)) (s .args .from) (s .args .to - s .args .from) 16 (s .pre .1) (s .pre .5) (s .pre .0) (omega (arith, s .pre .3)) (omega (arith, s .pre .2)) (sym (c .before .any-close .ensures) ∙ c .if1 .left) ∙ e)
+    sym (none-close _ _ _ _ _ (s .args .kx) (keyOf (s .args .ky)) (s .args .from) (s .args .to - s .args .from) 16 (s .pre .1) (s .pre .5) (s .pre .0)
+    (omega (arith, s .pre .3)) (omega (arith, s .pre .2)) (sym (c .before .any-close .ensures) ∙ c .if1 .left) ∙ e)
 
 pub find-listed-block-spec : {M : Type 1} → statement M
 find-listed-block-spec =

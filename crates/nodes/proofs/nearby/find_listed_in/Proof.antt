@@ -1,4 +1,4 @@
--- `nodes::nearby::find_listed_in` meets its contract. The loop keeps that what is left of the search is the whole of it.
+-- `find_listed_in`: its loop keeps that what is left of the search is the whole of it.
 use Prim.Native.Nat.{_+_, _-_, _*_, _≤_, _<_}
 use native.Mathlib.Omega.{arith}
 use mathlib.Core.Logic.{⊎-elim}
@@ -18,7 +18,8 @@ use Rattle.nodes.proofs.nearby.find_listed_in.Statement.{statement}
 use Rattle.nodes.proofs.nearby.find_listed_in.Tie as tie
 
 abbrev Inv-loop : tie.InvT-loop
-Inv-loop nodes old numbers xs from to kx ky j₀ j = (j ≤ to) × (first (hasListed nodes numbers (keyOf kx) (keyOf ky)) (to - j) j ≡ first (hasListed nodes numbers (keyOf kx) (keyOf ky)) (to - from) from)
+Inv-loop nodes old numbers xs from to kx ky j₀ j =
+    (j ≤ to) × (first (hasListed nodes numbers (keyOf kx) (keyOf ky)) (to - j) j ≡ first (hasListed nodes numbers (keyOf kx) (keyOf ky)) (to - from) from)
 
 abbrev μ-loop : tie.MeasureT-loop
 μ-loop nodes old numbers xs from to kx ky j₀ j = to - j
@@ -31,10 +32,15 @@ low : (c : tie.In-loop Inv-loop μ-loop) → getD (begin c .args .numbers .now) 
 low c = begin c .pre .1 .low (c .before .loop .j) (c .loop-test .taken)
 
 room : (c : tie.In-loop Inv-loop μ-loop)
-    → (getD (begin c .args .numbers .now) (c .before .loop .j) 0 * 2 + 2 ≤ length (begin c .args .nodes .now)) × (begin c .args .old ≤ mostPlaces) × (c .before .loop .j < length (begin c .args .numbers .now)) × (c .before .loop .j < length (begin c .args .xs .now))
+    → (getD (begin c .args .numbers .now) (c .before .loop .j) 0 * 2 + 2 ≤ length (begin c .args .nodes .now)) × (begin c .args .old ≤ mostPlaces)
+    × (c .before .loop .j < length (begin c .args .numbers .now)) × (c .before .loop .j < length (begin c .args .xs .now))
 room c =
-    let p = begin c .pre in
-    (omega (arith, low c, p .0 .room), p .0 .few, omega (arith, p .1 .places, p .1 .few, c .loop-test .taken), omega (arith, p .1 .places-x, p .1 .few, c .loop-test .taken))
+    let p = begin c .pre in (
+      omega (arith, low c, p .0 .room),
+      p .0 .few,
+      omega (arith, p .1 .places, p .1 .few, c .loop-test .taken),
+      omega (arith, p .1 .places-x, p .1 .few, c .loop-test .taken),
+    )
 
 loop-holds : tie.Need-loop-holds Inv-loop μ-loop
 loop-holds c = (search needs, refl)
@@ -79,7 +85,8 @@ has-key-requires c κs =
 returns : tie.Need-returns Inv-loop μ-loop
 returns c =
     let i = c .before .before .before .before .before .before .before in
-    sym (first-hit _ _ _ (i .loop-test .taken) (listed-is _ _ _ _ _ _ _ _ (begin i .pre .1) (i .loop-test .taken) ∙ sym (c .before .has-key .ensures) ∙ c .if2 .taken)) ∙ i .before .loop .inv .1
+    sym (first-hit _ _ _ (i .loop-test .taken)
+    (listed-is _ _ _ _ _ _ _ _ (begin i .pre .1) (i .loop-test .taken) ∙ sym (c .before .has-key .ensures) ∙ c .if2 .taken)) ∙ i .before .loop .inv .1
 
 -- the node of this turn has not both keys
 other : (c : tie.Joined1 Inv-loop μ-loop)

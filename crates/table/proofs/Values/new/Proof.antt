@@ -1,4 +1,4 @@
--- `Values::new` meets its contract: a row for each case of the answer. Assumes nothing.
+-- `Values::new`: a row for each case of the answer.
 use mathlib.Core.Path.{sym, ap, _∙_}
 use Rattle.table.specs.Answers.{values}
 use borrow.Author.Needs.{needs}

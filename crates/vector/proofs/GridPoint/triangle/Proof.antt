@@ -1,4 +1,4 @@
--- `GridPoint::triangle` meets its contract: the two steps from the first corner, and their cross.
+-- `GridPoint::triangle`: the two steps from the first corner, and their cross.
 use mathlib.Core.Path.{_≡_, _∙_}
 use native.Mathlib.Omega.{arith}
 use borrow.Author.Needs.{needs}

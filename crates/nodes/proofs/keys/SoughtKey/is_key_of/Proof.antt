@@ -1,4 +1,4 @@
--- `nodes::keys::SoughtKey::is_key_of` meets its contract.
+-- `SoughtKey::is_key_of`: equal coordinates have one key, and one that is not near has another.
 use mathlib.Core.Path.{_≡_, sym, ap, _∙_, subst}
 use borrow.Author.Needs.{needs}
 use lib.Dec.{T}

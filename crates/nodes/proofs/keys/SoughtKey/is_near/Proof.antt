@@ -1,4 +1,4 @@
--- `nodes::keys::SoughtKey::is_near` meets its contract: by its definition.
+-- `SoughtKey::is_near`: by its definition.
 use mathlib.Core.Path.{refl}
 use lib.Ieee.{ofBits, ofInt}
 use Rattle.nodes.specs.Flat.{near}

@@ -1,4 +1,3 @@
--- `nodes::keys::SoughtKey::new` meets its contract.
 use mathlib.Core.Path.{_≡_, refl}
 use lib.Ieee.{ofBits, ofInt, round, binary64, mul}
 use Rattle.nodes.specs.declared.keys.SoughtKey.{SoughtKey}

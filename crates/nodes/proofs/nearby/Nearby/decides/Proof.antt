@@ -1,4 +1,3 @@
--- `nodes::nearby::Nearby::decides` meets its contract.
 use mathlib.Core.Path.{sym, _∙_}
 use borrow.Author.Needs.{needs}
 use borrow.Author.Tests.{le-leb, lt-leb}

@@ -1,4 +1,4 @@
--- `nodes::nearby::Span::new` meets its contract.
+-- `Span::new`: the least and the greatest scaled coordinate are whole, and a double holds both.
 use borrow.Author.Needs.{needs}
 use Rattle.nodes.proofs.Windows.{made, above-fits, below-fits, above-cast, below-cast}
 use Rattle.nodes.proofs.nearby.Span.new.Statement.{statement}

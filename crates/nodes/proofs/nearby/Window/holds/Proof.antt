@@ -1,4 +1,3 @@
--- `nodes::nearby::Window::holds` meets its contract.
 use mathlib.Core.Bool.{_&&_}
 use borrow.Author.Needs.{needs}
 use Rattle.nodes.proofs.nearby.Window.holds.Statement.{statement}

@@ -1,4 +1,3 @@
--- `nodes::nearby::Window::new` meets its contract.
 use borrow.Author.Needs.{needs}
 use Rattle.nodes.proofs.nearby.Window.new.Statement.{statement}
 use Rattle.nodes.proofs.nearby.Window.new.Tie as tie

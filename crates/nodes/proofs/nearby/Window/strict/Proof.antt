@@ -1,4 +1,3 @@
--- `nodes::nearby::Window::strict` meets its contract.
 use mathlib.Core.Path.{sym, _∙_}
 use borrow.Author.Needs.{needs}
 use Rattle.nodes.proofs.nearby.Window.strict.Statement.{statement}
