@@ -19,7 +19,8 @@ use Rattle.nodes.specs.Nearby.{Held}
 use Rattle.nodes.proofs.Collection.{held-over}
 use Rattle.nodes.proofs.Growth.{addNode-grown, addNodes-grown, addNodes-number, grown-each}
 use Rattle.nodes.proofs.Flat.{length-in, node-in, at-over, in-over, length-over, over-over, over-in}
-use Rattle.cells.specs.Flat.{CanAdd, Adds, ListedTo}
+use Rattle.cells.specs.Flat.{CanAdd, Adds}
+use Rattle.quads.specs.Flat.{ListedTo}
 
 -- the listed nodes of a usable list are in range, and so are those of a list that is written over it
 pub nodes-ranged : {l : List Float} {u : ℕ} → Usable l u → EachNode InRange (nodesIn l u)

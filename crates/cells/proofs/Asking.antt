@@ -25,7 +25,8 @@ use Rattle.nodes.specs.Nodes.{number, addNode, Added, addNodes}
 use Rattle.nodes.specs.Growth.{Anything}
 use Rattle.nodes.proofs.Numbers.{number-le}
 use Rattle.nodes.proofs.Growth.{addNode-old, addNode-new, addNodes-grown, addNodes-length, addNodes-number}
-use Rattle.cells.specs.Cells.{edgeMiddle, mean, Attempt, attempt, subdivide}
+use Rattle.quads.specs.Quads.{edgeMiddle, mean}
+use Rattle.cells.specs.Cells.{Attempt, attempt, subdivide}
 use Rattle.cells.specs.Pieces.{Outcome, done, failed, onward, piecesTo}
 use Rattle.cells.specs.Stages.{corners, end, middles, centre, marksOf, straight, nodesOf}
 use Rattle.cells.specs.Asks.{Role, asCorner, asCentre, asMiddle, Ask, ask, ofRing, asksFor, attemptAsks, subdivideAsks, onwardAsks, asksTo}

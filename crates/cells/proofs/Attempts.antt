@@ -21,8 +21,9 @@ use Rattle.marks.specs.Part.{Part, noPart}
 use Rattle.nodes.specs.Growth.{Grown, Anything, Numbered, nodeFor}
 use Rattle.nodes.proofs.Numbers.{numbered-later, numbered-node}
 use Rattle.nodes.proofs.Growth.{grown-refl, grown-trans, addNodes-grown, addNodes-number}
-use Rattle.cells.specs.declared.Cell.{Cell}
-use Rattle.cells.specs.Cells.{edgeMiddle, mean, Attempt, attempt, subdivide}
+use Rattle.quads.specs.declared.Cell.{Cell}
+use Rattle.quads.specs.Quads.{edgeMiddle, mean}
+use Rattle.cells.specs.Cells.{Attempt, attempt, subdivide}
 use Rattle.cells.specs.Pieces.{Outcome, done, failed, onward, piecesTo}
 use Rattle.cells.specs.Stages.{corners, end, middles, centre, marksOf, straight, firstNodes, secondNodes, nodesOf}
 

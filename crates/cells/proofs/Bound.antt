@@ -27,8 +27,9 @@ use Rattle.nodes.specs.Growth.{Grown, Anything, HasKeyOf, nodeFor}
 use Rattle.nodes.proofs.SameKey.{≈-of}
 use Rattle.nodes.proofs.Growth.{grown-trans}
 use Rattle.nodes.proofs.Counting.{added-most, has-left, has-right, has-tab}
-use Rattle.cells.specs.declared.Cell.{Cell}
-use Rattle.cells.specs.Cells.{middle, mean, attempt, subdivide}
+use Rattle.quads.specs.declared.Cell.{Cell}
+use Rattle.quads.specs.Quads.{middle, mean}
+use Rattle.cells.specs.Cells.{attempt, subdivide}
 use Rattle.cells.specs.Pieces.{Outcome, done, onward, piecesTo}
 use Rattle.cells.specs.Stages.{corners, end, marksOf, straight, firstNodes, secondNodes, nodesOf}
 use Rattle.cells.specs.Cover.{Ends, Diagonal, noDiagonal, EdgeFrom, side, across, PieceFrom, CutFrom}

@@ -6,9 +6,6 @@ pub mod NewCells
 pub mod PieceByPiece
 pub mod Bound
 pub mod Adding
-pub mod Turns
-pub mod EdgeMiddles
-pub mod CellList
 pub mod OneAttempt
 pub mod TwoAttempts
 pub mod Rims

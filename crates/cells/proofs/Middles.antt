@@ -13,7 +13,7 @@ use Rattle.vector.specs.declared.Point.{Point}
 use Rattle.marks.specs.Part.{Part}
 use Rattle.nodes.specs.Growth.{Grown, Anything}
 use Rattle.nodes.proofs.Growth.{grown-refl, grown-trans, addNodes-grown}
-use Rattle.cells.specs.Cells.{middle, mean}
+use Rattle.quads.specs.Quads.{middle, mean}
 use Rattle.cells.specs.Stages.{corners, end, marksOf, firstNodes}
 use Rattle.cells.specs.Claims.{SameStart}
 use Rattle.cells.proofs.Attempts.{middles-grown, ends-later}

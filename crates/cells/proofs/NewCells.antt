@@ -19,11 +19,13 @@ use Rattle.marks.specs.declared.EdgeMark.{EdgeMark}
 use Rattle.marks.specs.Part.{Part, noPart}
 use Rattle.nodes.specs.Growth.{Grown, Anything}
 use Rattle.nodes.proofs.Growth.{addNodes-grown, addNodes-length, addNodes-number}
-use Rattle.cells.specs.declared.Cell.{Cell}
-use Rattle.cells.specs.Cells.{edgeMiddle, mean, cellsTo, Attempt, attempt, subdivide}
+use Rattle.quads.specs.declared.Cell.{Cell}
+use Rattle.quads.specs.Quads.{edgeMiddle, mean, cellsTo}
+use Rattle.cells.specs.Cells.{Attempt, attempt, subdivide}
 use Rattle.cells.specs.Pieces.{Outcome, done, failed, onward, piecesTo}
 use Rattle.cells.specs.Stages.{corners, end, middles, centre, marksOf, straight, nodesOf}
-use Rattle.cells.specs.Claims.{Listed, Celled, cornersTo, CellsOf}
+use Rattle.quads.specs.Flat.{Listed}
+use Rattle.cells.specs.Claims.{Celled, cornersTo, CellsOf}
 use Rattle.cells.proofs.Attempts.{onward-done, pieces-next}
 
 pub listed-later : (m n : ℕ) → m ≤ n → (l : List Cell) → All (Listed m) l → All (Listed n) l

@@ -25,15 +25,17 @@ use Rattle.nodes.specs.Flat.{pointAt, nodesIn, over, Usable, placed}
 use Rattle.nodes.proofs.Growth.{addNode-grown, addNode-number, addNodes-grown}
 use Rattle.nodes.proofs.Flat.{length-in, node-in, in-over, length-over, over-over}
 use Rattle.cells.specs.declared.Tried.{Tried}
-use Rattle.cells.specs.Cells.{tooFar, edgeMiddle, total, mean, holds, cellsTo, noCell, Attempt, attempt}
+use Rattle.quads.specs.Quads.{tooFar, edgeMiddle, total, mean, holds, cellsTo, noCell}
+use Rattle.cells.specs.Cells.{Attempt, attempt}
 use Rattle.cells.specs.Stages.{marksOf}
 use Rattle.marks.specs.Edges.{marksIn}
 use Rattle.cells.specs.Asks.{Ask, asksFor, attemptAsks}
 use Rattle.cells.specs.Rims.{rimsBy}
-use Rattle.cells.specs.Flat.{partIn, cornerAt, CanAdd, Adds, ListedTo, endAt, middleAt, farAt, overCells, sideAt, attemptIn, attemptAsksIn, triedOf, CanTry}
+use Rattle.cells.specs.Flat.{partIn, cornerAt, CanAdd, Adds, endAt, middleAt, farAt, sideAt, attemptIn, attemptAsksIn, triedOf, CanTry}
+use Rattle.quads.specs.Flat.{ListedTo, overCells}
 use Rattle.cells.proofs.Ranges.{corner-ranged, middle-ranged, mean-ranged, edge-by}
 use Rattle.cells.proofs.Adding as adding
-use Rattle.cells.proofs.Turns as turns
+use Rattle.quads.proofs.Turns as turns
 
 -- ---- a mean goes by its points
 total-ext : (f g : ℕ → Float) (n : ℕ) → ((i : ℕ) → i < n → f i ≡ g i) → total f n ≡ total g n

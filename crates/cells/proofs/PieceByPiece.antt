@@ -10,7 +10,7 @@ use lib.Dec.{T, eqb, eqb→eq}
 use lib.Ieee.{Float}
 use Rattle.vector.specs.declared.Point.{Point}
 use Rattle.marks.specs.Part.{Part, noPart}
-use Rattle.cells.specs.declared.Cell.{Cell}
+use Rattle.quads.specs.declared.Cell.{Cell}
 use Rattle.cells.specs.Cells.{Attempt, subdivide}
 use Rattle.cells.specs.Pieces.{Outcome, done, failed, onward, piecesTo, nodesOver, cellsOver}
 use Rattle.cells.specs.Claims.{Sliced, Over}

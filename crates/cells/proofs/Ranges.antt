@@ -28,7 +28,8 @@ use Rattle.marks.specs.declared.EdgeMark.the-variants.{Straight, Snap}
 use Rattle.marks.specs.Part.{Part, noPart}
 use Rattle.nodes.specs.Growth.{Grown, InRange, EachNode}
 use Rattle.nodes.proofs.Growth.{grown-refl, grown-trans, grown-each, addNodes-grown, addNodes-number}
-use Rattle.cells.specs.Cells.{middle, tooFar, edgeMiddle, total, mean, attempt, subdivide}
+use Rattle.quads.specs.Quads.{middle, tooFar, edgeMiddle, total, mean}
+use Rattle.cells.specs.Cells.{attempt, subdivide}
 use Rattle.cells.specs.Pieces.{Outcome, onward, piecesTo}
 use Rattle.cells.specs.Stages.{corners, end, marksOf, straight, firstNodes, nodesOf}
 use Rattle.cells.specs.Claims.{Fair}

@@ -25,12 +25,13 @@ use Rattle.cells.specs.Stages.{marksOf, straight}
 use Rattle.marks.specs.Edges.{marksIn}
 use Rattle.cells.specs.Asks.{Ask, attemptAsks, subdivideAsks}
 use Rattle.cells.specs.Rims.{rimsBy}
-use Rattle.cells.specs.Flat.{partIn, overCells, sideAt, attemptIn, attemptAsksIn, subdivideIn, subdivideAsksIn, triedOf, CanTry, CanDivide}
+use Rattle.cells.specs.Flat.{partIn, sideAt, attemptIn, attemptAsksIn, subdivideIn, subdivideAsksIn, triedOf, CanTry, CanDivide}
+use Rattle.quads.specs.Flat.{overCells}
 use Rattle.cells.proofs.Attempts.{attempt-any, subdivide-by}
 use Rattle.cells.proofs.Ranges.{attempt-ranged, straight≢snap}
 use Rattle.cells.proofs.NewCells.{attempt-cells}
 use Rattle.cells.proofs.Adding.{nodes-ranged, over-usable}
-use Rattle.cells.proofs.CellList as cell
+use Rattle.quads.proofs.CellList as cell
 use Rattle.cells.proofs.Rims.{rims-length, rims-then}
 use Rattle.cells.proofs.Asking.{attempt-listed}
 

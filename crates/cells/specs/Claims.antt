@@ -11,8 +11,9 @@ use Rattle.vector.specs.Size.{OnSheet}
 use Rattle.marks.specs.declared.EdgeMark.the-variants.{Snap}
 use Rattle.marks.specs.Part.{Part, noPart}
 use Rattle.nodes.specs.Growth.{InRange}
-use Rattle.cells.specs.declared.Cell.{Cell}
-use Rattle.cells.specs.Cells.{middle, mean, Attempt, subdivide}
+use Rattle.quads.specs.Quads.{middle, mean}
+use Rattle.quads.specs.Flat.{Listed}
+use Rattle.cells.specs.Cells.{Attempt, subdivide}
 use Rattle.cells.specs.Pieces.{Outcome, done, failed, nodesOver, cellsOver}
 use Rattle.cells.specs.Stages.{end, marksOf, firstNodes}
 
@@ -30,13 +31,6 @@ pub record SameStart (share : Float) (ns : List Point) (p : Part) : Type 0 where
   pub centre : mean (end (firstNodes share ns p) (p .points)) (length (p .points)) ≡ mean (end ns (p .points)) (length (p .points))
 
 -- ---- cells
--- the four numbers of a cell are those of listed nodes
-pub record Listed (count : ℕ) (q : Cell) : Type 0 where
-  pub a : q .a < count
-  pub b : q .b < count
-  pub c : q .c < count
-  pub d : q .d < count
-
 -- an attempt at n corners gives n cells, of listed nodes
 pub record Celled (n : ℕ) (t : Attempt) : Type 0 where
   pub many : length (t .cells) ≡ n

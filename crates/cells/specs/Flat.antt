@@ -2,27 +2,25 @@
 -- Flat, and a lent list that holds a cell as four numbers; what the functions ask of these, and what they answer.
 -- Definitions only.
 use Prim.Native.Nat.{ℕ, zero, suc, _+_, _*_, _%_, _≤_, _<_}
-use mathlib.Core.Bool.{Bool, false, _&&_, cond}
+use mathlib.Core.Bool.{Bool, false, cond}
 use mathlib.Core.Path.{_≡_}
-use mathlib.Core.List.{List, [], _∷_, _++_}
-use lib.ListN.{length, getD, set, take, drop}
+use mathlib.Core.List.{List}
+use lib.ListN.{length, getD, set, take}
 use lib.Ieee.{Float}
 use Rattle.vector.specs.declared.GridPoint.{GridPoint}
 use Rattle.vector.specs.declared.Point.{Point}
 use Rattle.vector.specs.Grid.{origin}
 use Rattle.vector.specs.Plane.{inMm}
 use Rattle.marks.specs.declared.Edge.{Edge}
-use Rattle.marks.specs.declared.EdgeMark.{EdgeMark}
 use Rattle.marks.specs.declared.EdgeMark.the-variants.{Straight}
 use Rattle.marks.specs.Part.{Part}
 use Rattle.marks.specs.Edges.{marksIn}
 use Rattle.nodes.specs.Nodes.{mostPlaces, nodeAt, addNodes}
 use Rattle.nodes.specs.Growth.{InRange}
 use Rattle.nodes.specs.Flat.{nodesIn, over, Usable}
-use Rattle.cells.specs.declared.Cell.{Cell}
-use Rattle.cells.specs.declared.Middle.{Middle}
 use Rattle.cells.specs.declared.Tried.{Tried}
-use Rattle.cells.specs.Cells.{tooFar, edgeMiddle, turnsLeft, Attempt, attempt, subdivide}
+use Rattle.quads.specs.Quads.{tooFar, edgeMiddle}
+use Rattle.cells.specs.Cells.{Attempt, attempt, subdivide}
 use Rattle.cells.specs.Stages.{marksOf}
 use Rattle.cells.specs.Claims.{Fair}
 use Rattle.cells.specs.Asks.{Ask, attemptAsks, subdivideAsks}
@@ -52,40 +50,16 @@ pub record Adds (l : List Float) (u : ℕ) (p : ℕ → Point) (n : ℕ) (m : Li
   pub used : v ≡ length (addNodes (nodesIn l u) p n .nodes)
   pub nodes : m ≡ over l (addNodes (nodesIn l u) p n .nodes)
 
--- the first n of ks are numbers of listed nodes
-abbrev pub ListedTo : ℕ → List ℕ → ℕ → Type 0
-ListedTo u ks n = (j : ℕ) → j < n → getD ks j 0 < u
-
 -- ---- edges, the corners' numbers being vs
 -- the listed node of corner i, counted on past the last to the first
 abbrev pub endAt : List Float → ℕ → List ℕ → ℕ → ℕ → Point
 endAt l u vs n i = nodeAt (nodesIn l u) (getD (take n vs) (i % n) 0)
-
-abbrev pub middleOf : Float → EdgeMark → Point → Point → Middle
-middleOf share m a b = record { at = edgeMiddle share m a b; far = tooFar share m a b }
 
 abbrev pub middleAt : Float → List Float → ℕ → List ℕ → List Edge → ℕ → ℕ → Point
 middleAt share l u vs es n i = edgeMiddle share (getD (marksIn es n) i Straight) (endAt l u vs n i) (endAt l u vs n (suc i))
 
 abbrev pub farAt : Float → List Float → ℕ → List ℕ → List Edge → ℕ → ℕ → Bool
 farAt share l u vs es n i = tooFar share (getD (marksIn es n) i Straight) (endAt l u vs n i) (endAt l u vs n (suc i))
-
--- ---- cells
--- quad_positive, of the four corners
-abbrev pub positive : Point → Point → Point → Point → Bool
-positive p q r s = turnsLeft p q r && turnsLeft q r s && turnsLeft r s p && turnsLeft s p q
-
--- a cell's four numbers, and those of cells in order
-abbrev pub four : Cell → List ℕ
-four c = c .a ∷ c .b ∷ c .c ∷ c .d ∷ []
-
-abbrev pub flatCells : List Cell → List ℕ
-flatCells [] = []
-flatCells (c ∷ cs) = four c ++ flatCells cs
-
--- l with the cells cs over its first places, all else as found
-unfoldable pub overCells : List ℕ → List Cell → List ℕ
-overCells l cs = flatCells cs ++ drop (length cs * 4) l
 
 -- ---- rim marks, one a node place
 -- those from place u on, d of them, cleared

@@ -7,7 +7,7 @@ use lib.Dec.{eqb}
 use lib.Ieee.{Float}
 use Rattle.vector.specs.declared.Point.{Point}
 use Rattle.marks.specs.Part.{Part, noPart}
-use Rattle.cells.specs.declared.Cell.{Cell}
+use Rattle.quads.specs.declared.Cell.{Cell}
 use Rattle.cells.specs.Cells.{subdivide}
 
 -- what pieces come to: their nodes and cells; or, where "a cell fails and no retry is left", the nodes, "corners of the piece, k"

@@ -1,5 +1,5 @@
 -- 02, Card 12: "Each listed node carries a rim mark, in a lent list beside the nodes", 1 set and 0 clear. "Meeting a listed node again may set the mark and never clears it." Definitions only.
-use Prim.Native.Nat.{ℕ, _<_}
+use Prim.Native.Nat.{ℕ}
 use mathlib.Core.Path.{_≡_}
 use mathlib.Core.Bool.{Bool, false, _&&_, _||_, not, cond}
 use mathlib.Core.List.{List, [], _∷_, List·Memᴰ}

@@ -11,7 +11,8 @@ use Rattle.marks.specs.declared.EdgeMark.{EdgeMark}
 use Rattle.marks.specs.declared.EdgeMark.the-variants.{Straight}
 use Rattle.marks.specs.Part.{Part}
 use Rattle.nodes.specs.Nodes.{nodeAt, Added, addNodes}
-use Rattle.cells.specs.Cells.{edgeMiddle, mean, attempt}
+use Rattle.quads.specs.Quads.{edgeMiddle, mean}
+use Rattle.cells.specs.Cells.{attempt}
 use Rattle.cells.specs.Pieces.{Outcome, done, failed}
 
 -- the nodes ns with the corners ps added, and the corners' numbers

@@ -8,7 +8,7 @@ use mathlib.Core.List.{List, []}
 use lib.ListN.{length}
 use lib.Dec.{eqb}
 use Rattle.corner.specs.Limits.{delivered}
-use Rattle.cells.specs.declared.Cell.{Cell}
+use Rattle.quads.specs.declared.Cell.{Cell}
 use Rattle.table.specs.Refusals.{firstOf}
 use Rattle.sets.proofs.Taken.{delivered-taken}
 use Rattle.demand.specs.Call.{Call, listsOf, countsOut, unitsOut, listsOut, roomOut, tests}

@@ -35,7 +35,7 @@ use Rattle.marks.specs.declared.EdgeMark.the-variants.{Straight, Snap}
 use Rattle.marks.proofs.SnapRange.{InSheetEdge, straight-in, snap-in}
 use Rattle.nodes.specs.Flat.{pointAt}
 use Rattle.nodes.specs.Growth.{InRange}
-use Rattle.cells.specs.Cells.{middle}
+use Rattle.quads.specs.Quads.{middle}
 use Rattle.table.specs.Refusals.{Passes}
 use Rattle.table.proofs.Refusals.{clear}
 use Rattle.sets.proofs.Taken.{most-cuts}

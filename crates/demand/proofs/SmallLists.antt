@@ -14,8 +14,8 @@ use Rattle.laws.specs.All.{All}
 use Rattle.marks.specs.Part.{Part}
 use Rattle.corner.specs.declared.Limits.{Limits}
 use Rattle.nodes.specs.Nodes.{mostPlaces}
-use Rattle.cells.specs.declared.Cell.{Cell}
-use Rattle.cells.specs.Claims.{Listed}
+use Rattle.quads.specs.declared.Cell.{Cell}
+use Rattle.quads.specs.Flat.{Listed}
 use Rattle.cells.proofs.NewCells.{listed-later}
 use Rattle.table.specs.Refusals.{Refusal, Tests, _when_}
 use Rattle.demand.specs.Call.{Lists, usedIn, Call, listsOf, usable, listsOver, made}

@@ -5,7 +5,7 @@ use mathlib.Core.Bool.{_||_}
 use mathlib.Core.List.{List, [], _∷_}
 use lib.ListN.{length}
 use Rattle.corner.specs.Limits.{delivered}
-use Rattle.cells.specs.declared.Cell.{Cell}
+use Rattle.quads.specs.declared.Cell.{Cell}
 use Rattle.table.specs.Refusals.{Refusal, _when_}
 use Rattle.demand.specs.Call.{Call, listsOf, countsOut, unitsOut, listsOut, roomOut}
 use Rattle.demand.specs.Divide.{Answer, refusedOr, core, startOf}

@@ -21,7 +21,7 @@ use Rattle.marks.specs.declared.EdgeMark.the-variants.{Straight, Snap}
 use Rattle.marks.specs.Part.{Part}
 use Rattle.corner.specs.declared.Limits.{Limits}
 use Rattle.nodes.specs.Flat.{pointAt, nodesIn}
-use Rattle.cells.specs.Cells.{middle}
+use Rattle.quads.specs.Quads.{middle}
 use Rattle.table.specs.Refusals.{Refusal, Tests, inOrder}
 use Rattle.sets.specs.Sets.{limitsOut}
 use Rattle.demand.specs.Call.{Lists, held, anyOutside, countsOut, unitsOut, listsOut, roomOut}

@@ -11,7 +11,7 @@ use Rattle.marks.specs.declared.MarkedRing.{MarkedRing}
 use Rattle.marks.specs.Part.{Part}
 use Rattle.corner.specs.declared.Limits.{Limits}
 use Rattle.corner.specs.Limits.{delivered}
-use Rattle.cells.specs.declared.Cell.{Cell}
+use Rattle.quads.specs.declared.Cell.{Cell}
 use Rattle.table.specs.declared.Values.{Values}
 use Rattle.table.specs.Answers.{refusedRow}
 use Rattle.table.specs.Refusals.{Passes, firstOf}

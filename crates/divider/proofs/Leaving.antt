@@ -12,9 +12,9 @@ use Rattle.marks.specs.Part.{Part, markCount}
 use Rattle.corner.specs.declared.Limits.{Limits}
 use Rattle.split.specs.Split.{Stack}
 use Rattle.nodes.specs.Flat.{over}
-use Rattle.cells.specs.declared.Cell.{Cell}
-use Rattle.cells.specs.Cells.{noCell}
-use Rattle.cells.specs.Flat.{overCells}
+use Rattle.quads.specs.declared.Cell.{Cell}
+use Rattle.quads.specs.Quads.{noCell}
+use Rattle.quads.specs.Flat.{overCells}
 use Rattle.cells.specs.Pieces.{done, failed}
 use Rattle.pieces.specs.Flat.{overFrom}
 use Rattle.table.specs.declared.Values.{Values}

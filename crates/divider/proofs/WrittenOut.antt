@@ -13,8 +13,8 @@ use Rattle.nodes.specs.Flat.{nodesIn, flat, over}
 use Rattle.nodes.proofs.Flat.{length-in, over-in}
 use Rattle.laws.specs.Table.{tab}
 use Rattle.laws.proofs.Table.{length-tab, take-tab}
-use Rattle.cells.specs.declared.Cell.{Cell}
-use Rattle.cells.specs.Flat.{four, flatCells, overCells}
+use Rattle.quads.specs.declared.Cell.{Cell}
+use Rattle.quads.specs.Flat.{four, flatCells, overCells}
 use Rattle.demand.specs.Divide.{put}
 use Rattle.demand.specs.Lent.{cellIn, cellsIn}
 

@@ -5,7 +5,7 @@ use mathlib.Core.List.{List}
 use lib.Ieee.{Float}
 use Rattle.corner.specs.declared.Limits.{Limits}
 use Rattle.nodes.specs.Flat.{over}
-use Rattle.cells.specs.Flat.{overCells}
+use Rattle.quads.specs.Flat.{overCells}
 use Rattle.table.specs.declared.Values.{Values}
 use Rattle.demand.specs.Call.{listsOf}
 use Rattle.demand.specs.Divide.{Answer, startOf}

@@ -12,7 +12,7 @@ ghost use lib.ListN.{length, take};
 ghost use Rattle.vector.specs.Size.{AllOnSheet};
 ghost use Rattle.corner.specs.Limits.{delivered};
 ghost use Rattle.split.specs.Split.{splitBadVertices};
-ghost use Rattle.cells.specs.declared.Cell.{Cell};
+ghost use Rattle.quads.specs.declared.Cell.{Cell};
 ghost use Rattle.table.specs.Answers as Answers;
 ghost use Rattle.table.specs.Refusals.{firstOf};
 ghost use Rattle.demand.specs.Divide.{ringTests, answered, core};

@@ -15,7 +15,7 @@ ghost use Rattle.laws.specs.Bounded.{any};
 ghost use Rattle.vector.specs.Grid.{origin};
 ghost use Rattle.vector.specs.Size.{AllOnSheet};
 ghost use Rattle.nodes.specs.Flat.{nodesIn};
-ghost use Rattle.cells.specs.declared.Cell.{Cell};
+ghost use Rattle.quads.specs.declared.Cell.{Cell};
 ghost use Rattle.demand.specs.Call as Call;
 ghost use Rattle.demand.specs.Lent.{pointsIn};
 ghost use Rattle.entry.specs.Refusal as Refusal;

@@ -158,7 +158,7 @@ fn given_mark(kind: u8, p: Point, a: GridPoint, b: GridPoint, lead: LeadLine) ->
         return EdgeMark::Snap(p);
     }
     if kind == 2 {
-        let m = cells::halfway(Point::new(a), Point::new(b));
+        let m = quads::halfway(Point::new(a), Point::new(b));
         let points = lead.points;
         let loops = lead.loops;
         let q = outline::nearest_boundary_point(m, points, loops, lead.count);

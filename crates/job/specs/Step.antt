@@ -9,7 +9,7 @@ use lib.IntN.{ℤ}
 use lib.Ieee.{Float}
 use Rattle.corner.specs.Limits.{delivered}
 use Rattle.nodes.specs.Flat.{over}
-use Rattle.cells.specs.Flat.{overCells}
+use Rattle.quads.specs.Flat.{overCells}
 use Rattle.demand.specs.Lent.{Lent, divideLent}
 use Rattle.demand.specs.Divide.{Answer}
 use Rattle.blocks.proofs.Counts.{points}

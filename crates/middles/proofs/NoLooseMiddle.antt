@@ -27,17 +27,17 @@ use Rattle.marks.specs.declared.EdgeMark.the-variants.{Straight}
 use Rattle.marks.specs.Part.{Part, noPart}
 use Rattle.corner.specs.declared.Limits.{Limits}
 use Rattle.split.specs.Split.{Cut}
-use Rattle.split.specs.Counts.{Sound}
-use Rattle.split.specs.Provenance as Provenance
-use Rattle.split.specs.Provenance.{Side, sides, Alike, same, turned, firstOf, secondOf, diagonal, Among, Beside, Carries}
-use Rattle.split.proofs.Counts.{counted}
-use Rattle.split.proofs.Sides.{side-count, side-at}
-use Rattle.split.proofs.Provenance.{followed}
+use Rattle.cuts.specs.Counts.{Sound}
+use Rattle.cuts.specs.Provenance as Provenance
+use Rattle.cuts.specs.Provenance.{Side, sides, Alike, same, turned, firstOf, secondOf, diagonal, Among, Beside, Carries}
+use Rattle.cuts.proofs.Counts.{counted}
+use Rattle.cuts.proofs.Sides.{side-count, side-at}
+use Rattle.cuts.proofs.Provenance.{followed}
 use Rattle.nodes.specs.Nodes.{noNode, nodeAt, number}
 use Rattle.nodes.specs.Growth.{_≈_, Numbered, nodeFor}
 use Rattle.nodes.proofs.Numbers.{number-at}
-use Rattle.cells.specs.declared.Cell.{Cell}
-use Rattle.cells.specs.Cells.{middle, noCell}
+use Rattle.quads.specs.declared.Cell.{Cell}
+use Rattle.quads.specs.Quads.{middle, noCell}
 use Rattle.cells.specs.Stages.{marksOf}
 use Rattle.cells.specs.Claims.{cornersTo}
 use Rattle.cells.specs.Cover.{Ends}

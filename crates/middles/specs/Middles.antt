@@ -12,11 +12,11 @@ use Rattle.marks.specs.declared.EdgeMark.the-variants.{Straight}
 use Rattle.marks.specs.Part.{Part, noPart}
 use Rattle.corner.specs.declared.Limits.{Limits}
 use Rattle.split.specs.Split.{Cut}
-use Rattle.split.specs.Provenance.{Side, firstOf, secondOf, diagonal, Under}
+use Rattle.cuts.specs.Provenance.{Side, firstOf, secondOf, diagonal, Under}
 use Rattle.nodes.specs.Nodes.{nodeAt, number}
 use Rattle.nodes.specs.Growth.{_≈_}
-use Rattle.cells.specs.declared.Cell.{Cell}
-use Rattle.cells.specs.Cells.{middle, noCell}
+use Rattle.quads.specs.declared.Cell.{Cell}
+use Rattle.quads.specs.Quads.{middle, noCell}
 use Rattle.cells.specs.Stages.{marksOf}
 use Rattle.cells.specs.Claims.{cornersTo}
 use Rattle.cells.specs.Cover.{Ends}

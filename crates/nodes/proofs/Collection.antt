@@ -17,10 +17,12 @@ use Rattle.laws.proofs.Booleans.{is-false, bool-ext}
 use Rattle.laws.proofs.SignedTests.{eqZ→}
 use Rattle.laws.proofs.Search.{any-none, first-none, first-within, first-beyond}
 use Rattle.vector.specs.declared.Point.{Point}
-use Rattle.nodes.specs.Nodes.{key, number}
+use Rattle.keys.specs.Keys.{key}
+use Rattle.nodes.specs.Nodes.{number}
 use Rattle.nodes.specs.Growth.{InRange, Grown}
-use Rattle.nodes.specs.declared.keys.SoughtKey.{SoughtKey}
-use Rattle.nodes.specs.Flat.{pointAt, nodesIn, over, Usable, soughtKey, keyOf, Sought, near, hasAt}
+use Rattle.keys.specs.declared.SoughtKey.{SoughtKey}
+use Rattle.nodes.specs.Flat.{pointAt, nodesIn, over, Usable, hasAt}
+use Rattle.keys.specs.Keys.{soughtKey, keyOf, Sought, near}
 use Rattle.nodes.proofs.Flat.{length-in, node-in, at-over}
 use Rattle.nodes.specs.declared.nearby.Span.{Span}
 use Rattle.nodes.specs.declared.nearby.Window.{Window}
@@ -28,9 +30,9 @@ use Rattle.nodes.specs.declared.nearby.Nearby.{Nearby}
 use Rattle.nodes.specs.Nearby.{mostNearby, Spans, Framed, insideAt, inside, xsOf, surrounds, Collected, Held, Lists, hasListed, strictly, inSpan, wellIn}
 use Rattle.nodes.specs.Nearby.{wellInside}
 use Rattle.nodes.proofs.Scan.{has-is, not-near, fewer, found-is}
-use Rattle.nodes.proofs.Rounding.{wider}
-use Rattle.nodes.proofs.Monotone.{in-span, well-in}
-use Rattle.nodes.proofs.Skip.{scaled-of}
+use Rattle.keys.proofs.Rounding.{wider}
+use Rattle.nodes.proofs.Spans.{in-span, well-in}
+use Rattle.keys.proofs.Skip.{scaled-of}
 use Rattle.nodes.proofs.Chosen.{chosen-ext, below, listed, unlisted}
 
 T→true : (b : Bool) → T b → b ≡ true

@@ -9,11 +9,11 @@ use mir.Syntax.{w64}
 use mir.Val.{SFits}
 use Rattle.laws.specs.Within.{Within}
 use Rattle.laws.proofs.Signed.{r64, back, cast-asks}
-use Rattle.nodes.specs.Nodes.{key}
+use Rattle.keys.specs.Keys.{key}
 use Rattle.nodes.specs.declared.nearby.Span.{Span}
 use Rattle.nodes.specs.Nearby.{span, Spans}
-use Rattle.nodes.proofs.Rounding.{one-above, one-below}
-use Rattle.nodes.proofs.KeySteps.{step-asks}
+use Rattle.keys.proofs.Rounding.{one-above, one-below}
+use Rattle.keys.proofs.KeySteps.{step-asks}
 
 read-key : (k : ℤ) → natAbs k ≤ 102500000001 → r64 k ≡ k
 read-key k h = back k (lt-of-le-of-lt h (lit< tt))

@@ -11,7 +11,7 @@ use lib.Dec.{leb}
 use lib.Ieee.{Float, nan}
 use Rattle.laws.specs.Double.{int, _≤f_}
 use Rattle.laws.specs.Within.{Within}
-use Rattle.nodes.specs.Nodes.{key}
+use Rattle.keys.specs.Keys.{key}
 use Rattle.nodes.specs.Flat.{pointAt, hasAt}
 use Rattle.nodes.specs.declared.nearby.Span.{Span}
 use Rattle.nodes.specs.declared.nearby.Window.{Window}

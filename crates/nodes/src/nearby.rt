@@ -11,12 +11,12 @@ ghost use lib.Dec.{leb};
 ghost use lib.Ieee.{nan};
 ghost use Rattle.laws.specs.Within.{Within};
 ghost use Rattle.laws.specs.Bounded.{any, first};
-ghost use Rattle.nodes.specs.Flat.{Usable, keyOf, Sought, near};
+ghost use Rattle.nodes.specs.Flat.{Usable};
+ghost use Rattle.keys.specs.Keys.{keyOf, Sought, near};
 ghost use Rattle.nodes.specs.Nearby.{mostNearby, span, Spans, inSpan, Framed, inWindow, wellIn, wellInside, inside};
 ghost use Rattle.nodes.specs.Nearby.{xsOf, laid, nearby, Gathered, GoesOn, Lists, hasListed};
 use super::NodeNumber;
-use super::keys;
-use super::keys::SoughtKey;
+use keys::SoughtKey;
 
 // So many nodes are collected at most.
 pub const MOST_NEARBY: usize = 256;

@@ -5,7 +5,7 @@ use Prim.Native.Nat.{ℕ}
 use native.Mathlib.Omega.{arith}
 use lib.ListN.{length}
 use Rattle.vector.specs.declared.Point.{Point}
-use Rattle.cells.specs.declared.Cell.{Cell}
+use Rattle.quads.specs.declared.Cell.{Cell}
 use Rattle.cells.specs.Pieces.{Outcome, done, failed}
 use Rattle.pieces.specs.declared.Subdivision.the-variants.{Done, Failed}
 use Rattle.pieces.specs.Flat.{Row, row, rowOf}

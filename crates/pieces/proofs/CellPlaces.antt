@@ -7,10 +7,10 @@ use native.Mathlib.Omega.{arith}
 use lib.ListN.{length, take, drop, replicate, length-append, length-drop, length-replicate, take-append-drop, drop-of-length-le}
 use lib.Seq.{take-all, take-at, drop-at, drop-drop, length-take-le}
 use borrow.Rule.Slice.PartMut.{putMid}
-use Rattle.cells.specs.declared.Cell.{Cell}
-use Rattle.cells.specs.Cells.{noCell}
-use Rattle.cells.specs.Flat.{four, flatCells, overCells}
-use Rattle.cells.proofs.CellList.{length-cells, cells-append, length-over, over-over, over-none}
+use Rattle.quads.specs.declared.Cell.{Cell}
+use Rattle.quads.specs.Quads.{noCell}
+use Rattle.quads.specs.Flat.{four, flatCells, overCells}
+use Rattle.quads.proofs.CellList.{length-cells, cells-append, length-over, over-over, over-none}
 use Rattle.pieces.specs.Flat.{overFrom}
 
 -- ---- written out

@@ -25,15 +25,17 @@ use Rattle.nodes.specs.declared.nearby.Nearby.{Nearby}
 use Rattle.nodes.specs.Nearby.{Held}
 use Rattle.nodes.proofs.Collection.{held-over}
 use Rattle.nodes.proofs.Flat.{length-in, in-over, length-over, over-over, over-in}
-use Rattle.cells.specs.declared.Cell.{Cell}
+use Rattle.quads.specs.declared.Cell.{Cell}
 use Rattle.cells.specs.declared.Tried.{Tried}
-use Rattle.cells.specs.Cells.{noCell, Attempt, subdivide}
+use Rattle.quads.specs.Quads.{noCell}
+use Rattle.cells.specs.Cells.{Attempt, subdivide}
 use Rattle.cells.specs.Pieces.{Outcome, done, failed, onward, piecesTo}
 use Rattle.cells.specs.Stages.{nodesOf}
 use Rattle.cells.specs.Claims.{Fair, cornersTo, CellsOf}
 use Rattle.cells.specs.Asks.{Ask, ofRing, subdivideAsks, onwardAsks, asksTo}
 use Rattle.cells.specs.Rims.{rimsBy}
-use Rattle.cells.specs.Flat.{partIn, overCells, subdivideIn, subdivideAsksIn, triedOf, CanDivide}
+use Rattle.cells.specs.Flat.{partIn, subdivideIn, subdivideAsksIn, triedOf, CanDivide}
+use Rattle.quads.specs.Flat.{overCells}
 use Rattle.cells.proofs.Attempts.{onward-done, pieces-any, pieces-later, subdivide-any}
 use Rattle.cells.proofs.Ranges.{pieces-in-range}
 use Rattle.cells.proofs.NewCells.{subdivide-cells, pieces-cells}

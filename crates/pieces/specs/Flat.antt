@@ -13,13 +13,13 @@ use Rattle.split.specs.Layout.{Kept, listOf}
 use Rattle.split.specs.State.{pieceIn, marksOf}
 use Rattle.nodes.specs.Nodes.{mostPlaces}
 use Rattle.nodes.specs.Flat.{nodesIn, Usable}
-use Rattle.cells.specs.declared.Cell.{Cell}
-use Rattle.cells.specs.Cells.{noCell}
+use Rattle.quads.specs.declared.Cell.{Cell}
+use Rattle.quads.specs.Quads.{noCell}
 use Rattle.cells.specs.Pieces.{Outcome, done, failed, piecesTo}
 use Rattle.cells.specs.Stages.{nodesOf}
 use Rattle.cells.specs.Claims.{Fair, cornersTo}
 use Rattle.cells.specs.Asks.{Ask, label, asksTo}
-use Rattle.cells.specs.Flat.{overCells}
+use Rattle.quads.specs.Flat.{overCells}
 use Rattle.pieces.specs.declared.Subdivision.{Subdivision}
 use Rattle.pieces.specs.declared.Subdivision.the-variants.{Done, Failed}
 

@@ -20,9 +20,9 @@ use Rattle.corner.specs.declared.Limits.{Limits}
 use Rattle.corner.specs.Limits.{delivered}
 use Rattle.split.specs.Split.{Stack, splitBadVertices}
 use Rattle.nodes.specs.Flat.{over}
-use Rattle.cells.specs.declared.Cell.{Cell}
-use Rattle.cells.specs.Cells.{noCell}
-use Rattle.cells.specs.Flat.{overCells}
+use Rattle.quads.specs.declared.Cell.{Cell}
+use Rattle.quads.specs.Quads.{noCell}
+use Rattle.quads.specs.Flat.{overCells}
 use Rattle.cells.specs.Pieces.{Outcome, done, failed, piecesTo}
 use Rattle.cells.specs.Asks.{Ask, allMarked, asksTo}
 use Rattle.cells.specs.Rims.{rimsBy}

@@ -20,7 +20,7 @@ use Rattle.corner.specs.Corner.{bad, measureAt, worst}
 use Rattle.diagonal.specs.Diagonal.{inRange, meetsRule, better, bestTo}
 use Rattle.split.specs.Cut.{rotate}
 use Rattle.split.specs.Split.{Stack, splitPolygonAt, cutAt, pop, pops, start, splitBadVertices}
-use Rattle.split.proofs.Machine.{emptied}
+use Rattle.cuts.proofs.Machine.{emptied}
 use Rattle.sets.specs.Sets.{withCuts}
 
 -- ---- the best diagonal does not look at the number of cuts

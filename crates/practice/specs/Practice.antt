@@ -6,8 +6,8 @@ use lib.ListN.{length, getD, replicate}
 use lib.Ieee.{Float}
 use Rattle.corner.specs.declared.Limits.{Limits}
 use Rattle.corner.specs.Limits.{delivered}
-use Rattle.cells.specs.declared.Cell.{Cell}
-use Rattle.cells.specs.Cells.{noCell}
+use Rattle.quads.specs.declared.Cell.{Cell}
+use Rattle.quads.specs.Quads.{noCell}
 use Rattle.table.specs.declared.Values.{Values}
 use Rattle.table.specs.Refusals.{Passes}
 use Rattle.sets.specs.Sets.{practiceSet}

@@ -13,8 +13,8 @@ use Rattle.vector.specs.Grid.{polygonArea}
 use Rattle.marks.specs.Part.{Part, markCount}
 use Rattle.corner.specs.declared.Limits.{Limits}
 use Rattle.split.specs.Split.{Stack, splitBadVertices}
-use Rattle.cells.specs.declared.Cell.{Cell}
-use Rattle.cells.specs.Cells.{noCell}
+use Rattle.quads.specs.declared.Cell.{Cell}
+use Rattle.quads.specs.Quads.{noCell}
 use Rattle.cells.specs.Pieces.{Outcome, done, failed}
 use Rattle.cells.specs.Claims.{CellsOf, cornersTo}
 use Rattle.cells.proofs.NewCells.{pieces-cells}

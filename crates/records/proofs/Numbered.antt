@@ -10,8 +10,8 @@ use lib.Ieee.{Float}
 use Rattle.laws.proofs.Table.{length-tab}
 use Rattle.corner.specs.declared.Limits.{Limits}
 use Rattle.nodes.specs.Flat.{over}
-use Rattle.cells.specs.declared.Cell.{Cell}
-use Rattle.cells.specs.Flat.{overCells}
+use Rattle.quads.specs.declared.Cell.{Cell}
+use Rattle.quads.specs.Flat.{overCells}
 use Rattle.table.specs.declared.Values.{Values}
 use Rattle.table.specs.Answers.{withCells}
 use Rattle.table.specs.Refusals.{Passes, firstOf}

@@ -11,9 +11,9 @@ use lib.Ieee.{Float}
 use Rattle.laws.specs.Table.{tab}
 use Rattle.laws.proofs.Table.{length-tab, is-tab}
 use Rattle.corner.specs.declared.Limits.{Limits}
-use Rattle.cells.specs.declared.Cell.{Cell}
-use Rattle.cells.specs.Cells.{noCell}
-use Rattle.cells.specs.Flat.{flatCells, overCells}
+use Rattle.quads.specs.declared.Cell.{Cell}
+use Rattle.quads.specs.Quads.{noCell}
+use Rattle.quads.specs.Flat.{flatCells, overCells}
 use Rattle.table.specs.declared.Values.{Values}
 use Rattle.demand.specs.Divide.{put}
 use Rattle.demand.specs.Lent.{cellIn, cellsIn, LentRecords}

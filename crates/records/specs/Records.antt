@@ -8,7 +8,7 @@ use lib.Dec.{eqb}
 use lib.Ieee.{Float}
 use Rattle.corner.specs.declared.Limits.{Limits}
 use Rattle.nodes.specs.Flat.{over}
-use Rattle.cells.specs.declared.Cell.{Cell}
+use Rattle.quads.specs.declared.Cell.{Cell}
 use Rattle.table.specs.declared.Values.{Values}
 use Rattle.table.specs.Answers.{withCells}
 use Rattle.demand.specs.Call.{listsOf}

@@ -8,15 +8,15 @@ ghost use mathlib.Core.List.{List};
 ghost use Prim.Native.Nat.{_+_, _^_, _≤_, _<_};
 ghost use lib.ListN.{length};
 ghost use Rattle.corner.specs.Limits.{delivered};
-ghost use Rattle.cells.specs.declared.Cell.{Cell};
+ghost use Rattle.quads.specs.declared.Cell.{Cell};
 ghost use Rattle.table.specs.Answers as Answers;
 ghost use Rattle.demand.specs.Call.{cellReserve};
 ghost use Rattle.demand.specs.Lent.{cellIn};
 ghost use Rattle.records.specs.Records.{Numbers, Promise, written, laidOf};
-use cells::Cell;
 use corner::Limits;
 use divider::CellRoom;
 use nodes::NodeNumber;
+use quads::Cell;
 use table::Answer;
 use table::Values;
 

@@ -14,8 +14,8 @@ use Rattle.marks.specs.declared.EdgeMark.the-variants.{Straight}
 use Rattle.marks.specs.Part.{Part, noPart}
 use Rattle.corner.specs.declared.Limits.{Limits}
 use Rattle.split.specs.Split.{Cut, splitBadVertices}
-use Rattle.split.specs.Counts.{Sound}
-use Rattle.split.specs.Provenance.{Side, diagonal}
+use Rattle.cuts.specs.Counts.{Sound}
+use Rattle.cuts.specs.Provenance.{Side, diagonal}
 use Rattle.cells.specs.Stages.{marksOf}
 use Rattle.cells.specs.Cover.{Ends, Diagonal, noDiagonal, EdgeFrom, side, across}
 use Rattle.demand.proofs.PiecesFrom.{diagonalsOf, cut-from}

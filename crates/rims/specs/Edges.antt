@@ -12,7 +12,7 @@ use Rattle.marks.specs.declared.EdgeMark.the-variants.{Straight}
 use Rattle.marks.specs.Part.{Part, noPart}
 use Rattle.corner.specs.declared.Limits.{Limits}
 use Rattle.split.specs.Split.{Cut, splitBadVertices}
-use Rattle.split.specs.Provenance.{diagonal}
+use Rattle.cuts.specs.Provenance.{diagonal}
 use Rattle.cells.specs.Stages.{marksOf}
 use Rattle.cells.specs.Cover.{Ends}
 use Rattle.cells.specs.Asks.{allMarked, ofRing}

@@ -17,7 +17,9 @@ use Rattle.corner.specs.Corner as Corner
 use Rattle.diagonal.specs.Diagonal as Diagonal
 use Rattle.split.specs.Cut as Cut
 use Rattle.split.specs.Split as Split
+use Rattle.keys.specs.Keys as Keys
 use Rattle.nodes.specs.Nodes as Nodes
+use Rattle.quads.specs.Quads as Quads
 use Rattle.cells.specs.Cells as Cells
 use Rattle.cells.specs.Pieces as Pieces
 use Rattle.cells.specs.Asks as Asks
@@ -27,7 +29,7 @@ use Rattle.demand.specs.Call as Call
 use Rattle.demand.specs.Divide as Divide
 use Rattle.demand.specs.Lent as Lent
 use Rattle.laws.specs.Table as Table
-use Rattle.cells.specs.Flat as CellsFlat
+use Rattle.quads.specs.Flat as QuadsFlat
 use Rattle.nodes.specs.Flat as NodesFlat
 use Rattle.blocks.specs.Fields as Fields
 use Rattle.blocks.specs.Blocks as Blocks
@@ -78,7 +80,7 @@ unfolding Cut.oriented Cut.makeSubPolygon Cut.turnedArea Cut.firstPart Cut.secon
 in-split = tt
 
 unfoldable pub in-cells : Unit {0}
-unfolding Nodes.rounded Nodes.key Nodes.hasKey Nodes.number Nodes.addNode Nodes.addNodes Cells.middle Cells.tooFar Cells.edgeMiddle Cells.total Cells.mean Cells.turnsLeft Cells.quadPositive Cells.allDistinct Cells.holds Cells.cellsTo Cells.attempt Cells.subdivide Pieces.onward Pieces.piecesTo Asks.allMarked Asks.asksFor Asks.attemptAsks Asks.subdivideAsks Asks.onwardAsks Asks.asksTo Rims.onRimAt Rims.rimAt Rims.rimsBy
+unfolding Keys.rounded Keys.key Nodes.hasKey Nodes.number Nodes.addNode Nodes.addNodes Quads.middle Quads.tooFar Quads.edgeMiddle Quads.total Quads.mean Quads.turnsLeft Quads.quadPositive Quads.allDistinct Quads.holds Quads.cellsTo Cells.attempt Cells.subdivide Pieces.onward Pieces.piecesTo Asks.allMarked Asks.asksFor Asks.attemptAsks Asks.subdivideAsks Asks.onwardAsks Asks.asksTo Rims.onRimAt Rims.rimAt Rims.rimsBy
 in-cells = tt
 
 unfoldable pub in-divider : Unit {0}
@@ -87,7 +89,7 @@ in-divider = tt
 
 -- the program: blocks, the call over lent lists, the printed lines, and the run
 unfoldable pub in-program : Unit {0}
-unfolding Table.tab Fields.pair Fields.word Fields.signed Fields.coordinate Fields.checkTo Fields.anyUsed Blocks.headWrong Blocks.sizeWrong Blocks.unusedWrong Blocks.refusal Blocks.refusedBlock Blocks.acceptedBlock Blocks.readBlock NodesFlat.nodesIn CellsFlat.overCells Lent.divideLent Text.bytes Text.digits Text.decimal Text.marks Text.part Text.filledTo Text.filled Report.hundredths Report.ringLine Report.nodesLine Report.quadLine Report.quadLines Report.ringText Report.refusedRing Report.refusedBlock JobRow.rowText Step.ends Step.waits Step.divides Step.taken Step.stepOf Run.onward Run.ran Run.readTo Run.printed
+unfolding Table.tab Fields.pair Fields.word Fields.signed Fields.coordinate Fields.checkTo Fields.anyUsed Blocks.headWrong Blocks.sizeWrong Blocks.unusedWrong Blocks.refusal Blocks.refusedBlock Blocks.acceptedBlock Blocks.readBlock NodesFlat.nodesIn QuadsFlat.overCells Lent.divideLent Text.bytes Text.digits Text.decimal Text.marks Text.part Text.filledTo Text.filled Report.hundredths Report.ringLine Report.nodesLine Report.quadLine Report.quadLines Report.ringText Report.refusedRing Report.refusedBlock JobRow.rowText Step.ends Step.waits Step.divides Step.taken Step.stepOf Run.onward Run.ran Run.readTo Run.printed
 in-program = tt
 
 unfoldable pub computing : Unit {0}

@@ -12,7 +12,7 @@ use Rattle.corner.specs.Limits.{delivered}
 use Rattle.corner.specs.Corner.{measure, bad}
 use Rattle.nodes.specs.Nodes.{nodeAt}
 use Rattle.corner.specs.declared.Limits.{Limits}
-use Rattle.cells.specs.declared.Cell.{Cell}
+use Rattle.quads.specs.declared.Cell.{Cell}
 use Rattle.table.specs.Refusals.{turnsAway}
 use Rattle.demand.specs.Call.{Call, listsOf, entry}
 use Rattle.demand.specs.Divide.{Answer, refused, startOf, divide}

@@ -14,8 +14,8 @@ use Rattle.root.specs.Root.{rootBits}
 use Rattle.corner.specs.Limits.{delivered}
 use Rattle.corner.specs.Corner.{measure, bad}
 use Rattle.nodes.specs.Nodes.{noNode, nodeAt}
-use Rattle.cells.specs.declared.Cell.{Cell}
-use Rattle.cells.specs.Cells.{noCell}
+use Rattle.quads.specs.declared.Cell.{Cell}
+use Rattle.quads.specs.Quads.{noCell}
 use Rattle.demand.specs.Call.{Call, listsOf, entry}
 use Rattle.demand.specs.Divide.{Answer, refused, divide}
 use Rattle.report.specs.Text.{bytes}

@@ -9,11 +9,12 @@ use Rattle.marks.specs.declared.EdgeMark.the-variants.{Straight}
 use Rattle.nodes.specs.Nodes.{nodeAt}
 use Rattle.nodes.specs.Growth.{InRange}
 use Rattle.nodes.specs.Flat.{nodesIn}
-use Rattle.cells.specs.declared.Middle.{Middle}
+use Rattle.quads.specs.declared.Middle.{Middle}
 use Rattle.marks.specs.Edges.{marksIn}
-use Rattle.cells.specs.Flat.{Adds, endAt, middleOf, middleAt, farAt}
+use Rattle.cells.specs.Flat.{Adds, endAt, middleAt, farAt}
+use Rattle.quads.specs.Flat.{middleOf}
 use Rattle.cells.proofs.Adding as adding
-use Rattle.cells.proofs.Turns as turns
+use Rattle.quads.proofs.Turns as turns
 use borrow.Author.Needs.{needs}
 use native.Mathlib.Omega.{arith}
 use Rattle.cells.proofs.add_middles.Statement.{statement}

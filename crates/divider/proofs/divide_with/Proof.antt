@@ -4,8 +4,8 @@ use mathlib.Core.Path.{_≡_, refl}
 use mathlib.Core.List.{List}
 use lib.ListN.{length, replicate, length-replicate}
 use borrow.Author.Needs.{needs}
-use Rattle.cells.specs.declared.Cell.{Cell}
-use Rattle.cells.specs.Cells.{noCell}
+use Rattle.quads.specs.declared.Cell.{Cell}
+use Rattle.quads.specs.Quads.{noCell}
 use Rattle.demand.specs.Lent.{LentRecords}
 use Rattle.divider.proofs.Calling.{call-refused, ring-read, chain-read, can-divide, call-divided}
 use Rattle.divider.proofs.divide_with.Statement.{statement}

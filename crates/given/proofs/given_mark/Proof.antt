@@ -6,7 +6,7 @@ use mathlib.Core.Path.{_≡_, sym, ap, _∙_}
 use Rattle.demand.specs.Marked.{markOf, leadPoint}
 use Rattle.vector.specs.declared.Point.{Point}
 use Rattle.outline.specs.Outline.{nearestBoundaryPoint}
-use Rattle.cells.specs.Cells.{middle}
+use Rattle.quads.specs.Quads.{middle}
 use Rattle.marks.specs.declared.EdgeMark.the-variants.{Snap}
 use Rattle.given.specs.Steps.{sought}
 use Rattle.given.proofs.given_mark.Statement.{statement}

@@ -8,7 +8,7 @@ use mathlib.Core.List.{List, []}
 use lib.ListN.{length, replicate, length-replicate}
 use Rattle.nodes.specs.Flat.{nodesIn}
 use Rattle.nodes.proofs.Flat.{length-in}
-use Rattle.cells.specs.Cells.{noCell}
+use Rattle.quads.specs.Quads.{noCell}
 use Rattle.table.specs.Refusals.{firstOf}
 use Rattle.sets.specs.Sets.{limitsOut}
 use Rattle.demand.specs.Call.{Lists, countsOut, unitsOut, roomOut}

@@ -5,8 +5,8 @@ use mathlib.Core.List.{List}
 use lib.ListN.{length, replicate, length-replicate}
 use borrow.Author.Needs.{needs}
 use Rattle.corner.specs.Limits.{delivered}
-use Rattle.cells.specs.declared.Cell.{Cell}
-use Rattle.cells.specs.Cells.{noCell}
+use Rattle.quads.specs.declared.Cell.{Cell}
+use Rattle.quads.specs.Quads.{noCell}
 use Rattle.table.specs.Answers.{values}
 use Rattle.demand.specs.Lent.{LentRecords}
 use Rattle.divider.proofs.Calling.{most-cuts}

@@ -38,8 +38,8 @@ use denote.Triple.Table.{entered, cited}
 use denote.Triple.Walked.{says, Stays, stay-none, stay-dropped, gave-slice, walkOf, goes-none, goes-dropped, goes-gave-slice, Walks, ends-at, walked, walk-meets}
 use denote.Exit.{yes}
 use denote.Signature.{plain, shrSliceOf}
-use Rattle.cells.specs.declared.Cell.{Cell}
-use Rattle.cells.proofs.Cell as T
+use Rattle.quads.specs.declared.Cell.{Cell}
+use Rattle.quads.proofs.Cell as T
 use Rattle.table.proofs.Values as R
 use Rattle.table.proofs.Values.Laws as R′
 use Rattle.records.specs.declared.Laid.{Laid}

@@ -50,12 +50,12 @@ use denote.Triple.Clauses.{ensured, lasts}
 use denote.Triple.Table.{entered, cited}
 use denote.Triple.Walked.{says, needs, Stays, stay-slice, stay-none, walkOf, goes-slice, goes-none, Walks, ends-at, walked, walk-meets}
 use denote.Exit.{yes}
-use Rattle.cells.specs.declared.Cell.{Cell}
+use Rattle.quads.specs.declared.Cell.{Cell}
 use Rattle.records.specs.declared.Laid.{Laid}
 use Rattle.demand.specs.Lent.{cellIn}
 use Rattle.records.specs.Records.{written}
-use Rattle.cells.proofs.Cell as T
-use Rattle.cells.proofs.Cell.Laws as T′
+use Rattle.quads.proofs.Cell as T
+use Rattle.quads.proofs.Cell.Laws as T′
 use Rattle.records.proofs.Laid as F
 use Rattle.records.proofs.Laid.Laws as F′
 use Rattle.records.proofs.cell_at as g

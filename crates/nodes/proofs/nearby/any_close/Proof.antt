@@ -7,7 +7,7 @@ use lib.ListN.{getD}
 use lib.Ieee.{nan}
 use Rattle.laws.proofs.Search.{any-next}
 use Rattle.laws.specs.Bounded.{any}
-use Rattle.nodes.specs.Flat.{near}
+use Rattle.keys.specs.Keys.{near}
 use Rattle.nodes.proofs.nearby.any_close.Statement.{statement}
 use Rattle.nodes.proofs.nearby.any_close.Tie as tie
 

@@ -6,7 +6,7 @@ use mathlib.Core.Path.{_≡_, refl, sym, _∙_}
 use borrow.Author.Needs.{needs}
 use Rattle.laws.specs.Bounded.{first}
 use Rattle.laws.proofs.Search.{first-start, first-end}
-use Rattle.nodes.specs.Flat.{keyOf}
+use Rattle.keys.specs.Keys.{keyOf}
 use Rattle.nodes.specs.Nearby.{hasListed}
 use Rattle.nodes.proofs.Scan.{part-hit, part-pass}
 use Rattle.nodes.proofs.Collection.{lists-fewer}

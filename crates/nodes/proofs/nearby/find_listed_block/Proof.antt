@@ -3,7 +3,7 @@ use Prim.Native.Nat.{_+_, _-_}
 use native.Mathlib.Omega.{arith}
 use mathlib.Core.Path.{_≡_, sym, _∙_}
 use borrow.Author.Needs.{needs}
-use Rattle.nodes.specs.Flat.{keyOf}
+use Rattle.keys.specs.Keys.{keyOf}
 use Rattle.nodes.proofs.Collection.{none-close}
 use Rattle.nodes.proofs.nearby.find_listed_block.Statement.{statement}
 use Rattle.nodes.proofs.nearby.find_listed_block.Tie as tie

@@ -11,7 +11,7 @@ use Rattle.laws.specs.Bounded.{first}
 use Rattle.laws.specs.Within.{Within}
 use Rattle.laws.proofs.Search.{first-hit, first-pass, first-end}
 use Rattle.nodes.specs.Nodes.{mostPlaces}
-use Rattle.nodes.specs.Flat.{keyOf}
+use Rattle.keys.specs.Keys.{keyOf}
 use Rattle.nodes.specs.Nearby.{hasListed}
 use Rattle.nodes.proofs.Collection.{listed-is, not-close}
 use Rattle.nodes.proofs.nearby.find_listed_in.Statement.{statement}

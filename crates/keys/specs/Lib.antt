@@ -1,0 +1,2 @@
+-- The key of a coordinate.
+pub mod Keys

@@ -1,0 +1,2 @@
+-- What add_node does to the list.
+pub mod Adding
