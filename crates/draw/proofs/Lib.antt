@@ -1,0 +1,2 @@
+-- Laws of the loop.
+pub mod Reaching

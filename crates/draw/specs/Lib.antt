@@ -1,0 +1,2 @@
+-- What a run of `draw` has reached, writes and says.
+pub mod Reached

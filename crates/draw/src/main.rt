@@ -1,0 +1,216 @@
+// Draw: the program. A drawing as plain text on standard input, the job blocks that `divide` takes on standard output.
+//
+// The text is read byte by byte and stepped over by drawing, whose `drawn` says what comes out for every text. A pair of blocks
+// is written as soon as its ring is complete. Where a line is bad the run ends, and `line N: what is expected` stands on
+// standard error. The loop's invariant is that the state and the lists are those of the bytes read so far.
+
+ghost use mathlib.Core.Path.{_≡_};
+ghost use mathlib.Core.Bool.{true, false};
+ghost use Prim.Native.Nat.{_+_};
+ghost use lib.ListN.{length};
+ghost use lib.Dec.{eqb};
+ghost use Rattle.drawing.specs.Page as Page;
+ghost use Rattle.draw.specs.Reached.{Reached, Sendable, Ends, ending, written};
+use drawing::State;
+use libc::STDERR_FILENO;
+use libc::STDIN_FILENO;
+use libc::STDOUT_FILENO;
+
+// Why a run can be cut short.
+const READING: u32 = 1;
+
+const WRITING: u32 = 2;
+
+// How a run ended: cut short, and why; or what is wrong and in which line, 0 where nothing is, and how many bytes were written.
+struct Ended {
+    failed: bool,
+    wrong: u32,
+    line: u32,
+    sent: u64,
+}
+
+// How many bytes were written in all; and whether writing has failed.
+struct Sent {
+    bytes: u64,
+    failed: bool,
+}
+
+// The end of a run in this state. What the writer refuses is said of the line that its ring begins at.
+fn end_of(s: State, sent: u64) -> Ended
+    ensures { λ r. ⌜ r ≡ ending s sent ⌝ }
+{
+    let d = s.draft;
+    if d.wrong < 21 {
+        return Ended {
+            failed: false,
+            wrong: d.wrong,
+            line: d.began,
+            sent,
+        };
+    }
+    Ended {
+        failed: false,
+        wrong: d.wrong,
+        line: s.line,
+        sent,
+    }
+}
+
+fn cut_short(why: u32) -> Ended
+    ensures { λ r. ⌜ r .failed ≡ true ⌝ }
+{
+    Ended {
+        failed: true,
+        wrong: why,
+        line: 0,
+        sent: 0,
+    }
+}
+
+// Reads the next byte, and answers how many there are: none where the input has ended, 2 where it cannot be read, so that part
+// of a drawing is not taken for the whole.
+fn read_byte(byte: &mut [u8]) -> usize
+    requires { ⌜ length (now byte) ≡ 1 ⌝ }
+{
+    let got = libc::read(STDIN_FILENO, byte);
+    if got < 0 {
+        return 2;
+    }
+    io::count(got, byte)
+}
+
+// Writes the pair that the last step completed, if it did, after `sent` bytes.
+fn send(s: State, out: &[u8], sent: u64) -> Sent
+    requires { ⌜ Sendable s (now out) sent ⌝ }
+    ensures { λ r. ⌜ (r .failed ≡ false → r .bytes ≡ sent + length (written s (now (out .entry)))) ⌝ }
+{
+    let d = s.draft;
+    if !d.wrote {
+        return Sent {
+            bytes: sent,
+            failed: false,
+        };
+    }
+    if io::write_all(STDOUT_FILENO, out) {
+        return Sent {
+            bytes: sent + out.len() as u64,
+            failed: false,
+        };
+    }
+    Sent {
+        bytes: sent,
+        failed: true,
+    }
+}
+
+fn goes_on(s: State) -> bool
+    ensures { λ r. ⌜ r ≡ eqb (s .draft .wrong) 0 ⌝ }
+{
+    let d = s.draft;
+    d.wrong == 0
+}
+
+// All is read: the last line ends, and then the text.
+fn finish(
+    s: State,
+    text: &mut [u8],
+    ring: &mut [i32],
+    chain: &mut [i32],
+    out: &mut [u8],
+    sent: u64,
+) -> Ended
+    requires { ⌜ Reached s (now text) (now ring) (now chain) (now out) sent × (s .draft .wrong ≡ 0) ⌝ }
+    ensures { λ r. ⌜ (r .failed ≡ false → Ends r) ⌝ }
+{
+    let a = drawing::feed(s, b'\n', text, ring, chain, out);
+    let first = send(a, out, sent);
+    if first.failed {
+        return cut_short(WRITING);
+    }
+    if !goes_on(a) {
+        return end_of(a, first.bytes);
+    }
+    let b = drawing::finish(a, text, ring, chain, out);
+    let last = send(b, out, first.bytes);
+    if last.failed {
+        return cut_short(WRITING);
+    }
+    end_of(b, last.bytes)
+}
+
+// The whole run.
+fn draw() -> Ended
+    ensures { λ r. ⌜ (r .failed ≡ false → Ends r) ⌝ }
+{
+    let mut text = [0u8; 80];
+    let mut ring = [0i32; 120];
+    let mut chain = [0i32; 120];
+    let mut out = [0u8; 1024];
+    let mut byte = [0u8; 1];
+    let mut s = State::new();
+    let mut sent: u64 = 0;
+    while goes_on(s) {
+        let got = read_byte(&mut byte);
+        if got == 2 {
+            return cut_short(READING);
+        }
+        if got == 0 {
+            return finish(s, &mut text, &mut ring, &mut chain, &mut out, sent);
+        }
+        s = drawing::feed(s, byte[0], &mut text, &mut ring, &mut chain, &mut out);
+        let now = send(s, &out, sent);
+        if now.failed {
+            return cut_short(WRITING);
+        }
+        sent = now.bytes;
+    }
+    end_of(s, sent)
+}
+
+fn say(words: &[u8]) {
+    io::write_all(STDERR_FILENO, words);
+}
+
+// What is expected of a ring as a whole, and of a text.
+fn say_of_ring(code: u32) {
+    match code {
+        1 => say(b"expected 3 to 60 points in the ring that begins here\n"),
+        12 => say(b"expected no more than 32768 rings\n"),
+        24 => say(b"expected `ring SIZE` before the first point or `chain`\n"),
+        25 => say(b"expected no more than 60 points in a ring\n"),
+        26 => say(b"expected no more than 60 points in a chain\n"),
+        27 => say(b"expected no more than one `chain` in a ring\n"),
+        28 => say(b"expected no more than 80 characters beside a comment\n"),
+        _ => say(b"expected no more than 16777216 characters in a drawing\n"),
+    }
+}
+
+fn say_of_line(code: u32) {
+    match code {
+        21 => say(b"expected `ring SIZE`, `chain`, or a point `x y` in mm, such as 12.5 -3\n"),
+        22 => say(b"expected a sheet size after `ring`, a whole number from 1 to 2048\n"),
+        23 => say(b"expected coordinates from -1024 to 1024 mm\n"),
+        _ => say_of_ring(code),
+    }
+}
+
+fn say_failed(why: u32) {
+    match why {
+        READING => say(b"draw: standard input failed\n"),
+        _ => say(b"draw: standard output failed\n"),
+    }
+}
+
+fn main() {
+    let end = draw();
+    if end.failed {
+        say_failed(end.wrong);
+        return;
+    }
+    if end.wrong > 0 {
+        say(b"line ");
+        io::print_decimal(STDERR_FILENO, end.line as u64);
+        say(b": ");
+        say_of_line(end.wrong);
+    }
+}

@@ -1,0 +1,2 @@
+-- What a line of a drawing says.
+pub mod Line

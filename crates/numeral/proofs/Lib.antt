@@ -1,0 +1,4 @@
+-- Laws of numerals.
+pub mod Bounds
+pub mod NearestUnit
+pub mod Trials

@@ -1,0 +1,3 @@
+-- What a number in a drawing says, and the coordinate that it gives.
+pub mod Numeral
+pub mod Nearest
