@@ -18,12 +18,12 @@ use Rattle.vector.specs.Grid.{polygonArea}
 use Rattle.marks.specs.declared.EdgeMark.{EdgeMark}
 use Rattle.marks.specs.Part.{Part}
 use Rattle.corner.specs.declared.Limits.{Limits}
-use Rattle.split.specs.Cut.{rotate, oriented, makeSubPolygon, turnedArea, firstPoints, secondPoints, firstPart, secondPart, turnedIn}
+use Rattle.parts.specs.Cut.{rotate, oriented, makeSubPolygon, turnedArea, firstPoints, secondPoints, firstPart, secondPart, turnedIn}
 use Rattle.split.specs.Split.{Stack, splitBadVertices}
 use Rattle.cuts.specs.Counts.{Sound}
 use Rattle.cuts.specs.Areas.{areas, Upright, turnedBy, Weighed}
 use Rattle.cuts.proofs.Machine.{worstOf, emptied}
-use Rattle.split.proofs.Rotation.{length-rotate}
+use Rattle.parts.proofs.Rotation.{length-rotate}
 use Rattle.cuts.proofs.Parts.{keep}
 use Rattle.cuts.proofs.RingArea.{area-rotate, area-reverse, area-cut}
 

@@ -20,14 +20,14 @@ use Rattle.corner.specs.declared.Limits.{Limits}
 use Rattle.corner.specs.Corner.{measureAt, bad, Worst}
 use Rattle.corner.proofs.WorstCorner.{worst-is}
 use Rattle.corner.proofs.Measured.{measureAt-is}
-use Rattle.split.specs.Cut.{rotate}
+use Rattle.parts.specs.Cut.{rotate}
 use Rattle.split.specs.Split.{Stack, splitBadVertices}
 use Rattle.cuts.specs.Counts.{Sound}
 use Rattle.split.specs.Diagonals.{NoneMeets}
 use Rattle.cuts.specs.Choices.{Chosen, Excused}
 use Rattle.cuts.specs.Provenance.{Cornered}
 use Rattle.cuts.proofs.Machine.{worstOf, isBad, choice}
-use Rattle.split.proofs.Rotation.{length-rotate}
+use Rattle.parts.proofs.Rotation.{length-rotate}
 use Rattle.split.proofs.BestDiagonal.{no-diagonal}
 use Rattle.cuts.proofs.Parts.{keep}
 use Rattle.cuts.proofs.Corners.{corners-hold}

@@ -22,11 +22,11 @@ use Rattle.simple.specs.Meeting.{strictlyBetween}
 use Rattle.marks.specs.Part.{Part}
 use Rattle.corner.specs.declared.Limits.{Limits}
 use Rattle.diagonal.specs.Diagonal.{inRange, blocks, runsOver, cosineNext, cosinePrev, meetsRule}
-use Rattle.split.specs.Cut.{rotate}
+use Rattle.parts.specs.Cut.{rotate}
 use Rattle.split.specs.Split.{Cut, splitBadVertices}
 use Rattle.cuts.specs.Counts.{Sound}
 use Rattle.cuts.specs.Choices.{Chosen, Clear}
-use Rattle.split.proofs.Rotation.{at-place, length-rotate, rotate-at}
+use Rattle.parts.proofs.Rotation.{at-place, length-rotate, rotate-at}
 use Rattle.cuts.proofs.Choices.{chosen}
 
 -- ---- a diagonal that meets the rule

@@ -11,12 +11,12 @@ use Rattle.vector.specs.Grid.{polygonArea}
 use Rattle.marks.specs.declared.EdgeMark.{EdgeMark}
 use Rattle.marks.specs.Part.{Part}
 use Rattle.corner.specs.declared.Limits.{Limits}
-use Rattle.split.specs.Cut.{rotate, oriented, makeSubPolygon, firstPoints, secondPoints, firstPart, secondPart}
+use Rattle.parts.specs.Cut.{rotate, oriented, makeSubPolygon, firstPoints, secondPoints, firstPart, secondPart}
 use Rattle.split.specs.Split.{Stack, splitBadVertices}
 use Rattle.cuts.specs.Counts.{Sound}
 use Rattle.cuts.specs.Provenance.{Cornered}
 use Rattle.cuts.proofs.Machine.{worstOf}
-use Rattle.split.proofs.Rotation.{all-rotate}
+use Rattle.parts.proofs.Rotation.{all-rotate}
 use Rattle.cuts.proofs.Parts.{keep}
 
 module _ (P : GridPoint → Type 0) where

@@ -13,9 +13,9 @@ use Rattle.vector.specs.Grid.{polygonArea, at, origin}
 use Rattle.marks.specs.declared.EdgeMark.{EdgeMark}
 use Rattle.marks.specs.declared.EdgeMark.the-variants.{Straight}
 use Rattle.marks.specs.Part.{Part}
-use Rattle.split.specs.Cut.{rotate, oriented, makeSubPolygon, firstPoints, secondPoints, firstPart, secondPart}
+use Rattle.parts.specs.Cut.{rotate, oriented, makeSubPolygon, firstPoints, secondPoints, firstPart, secondPart}
 use Rattle.cuts.specs.Provenance.{Side, side, back, along, around, sides, diagonal, Alike, same, turned, Match, empty, each, chain, Dealt, Deals}
-use Rattle.split.proofs.Rotation.{length-rotate, rotate-at}
+use Rattle.parts.proofs.Rotation.{length-rotate, rotate-at}
 use Rattle.cuts.proofs.Match as M
 use Rattle.cuts.proofs.Match.{alike-self}
 use Rattle.cuts.proofs.Sides.{along-join, sides-rotate}

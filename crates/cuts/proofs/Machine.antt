@@ -12,7 +12,7 @@ use Rattle.marks.specs.Part.{Part}
 use Rattle.corner.specs.declared.Limits.{Limits}
 use Rattle.corner.specs.Corner.{bad, measureAt, worst}
 use Rattle.diagonal.specs.Diagonal.{bestTo}
-use Rattle.split.specs.Cut.{rotate, firstPart, secondPart, turnedIn}
+use Rattle.parts.specs.Cut.{rotate, firstPart, secondPart, turnedIn}
 use Rattle.split.specs.Split.{Cut, Stack, splitPolygonAt, cutAt, pop, pops, start, splitBadVertices}
 
 abbrev pub stack : List Part → List Part → ℕ → ℕ → List Cut → Stack

@@ -15,12 +15,12 @@ use Rattle.marks.specs.Part.{Part}
 use Rattle.corner.specs.declared.Limits.{Limits}
 use Rattle.corner.specs.Corner.{Worst}
 use Rattle.corner.proofs.WorstCorner.{worst-is}
-use Rattle.split.specs.Cut.{rotate, oriented, makeSubPolygon, firstPoints, secondPoints, firstPart, secondPart, turnedIn}
+use Rattle.parts.specs.Cut.{rotate, oriented, makeSubPolygon, firstPoints, secondPoints, firstPart, secondPart, turnedIn}
 use Rattle.split.specs.Split.{Cut, Stack, start, splitBadVertices}
 use Rattle.cuts.specs.Counts.{Sound}
 use Rattle.split.specs.Diagonals.{Best}
 use Rattle.cuts.proofs.Machine.{stack, worstOf, cut, GoesOut, IsCut, keep-all}
-use Rattle.split.proofs.Rotation.{length-rotate}
+use Rattle.parts.proofs.Rotation.{length-rotate}
 use Rattle.split.proofs.BestDiagonal.{best-diagonal}
 
 -- ---- make_sub_polygon gives the corners that it gets, and one edge more

@@ -9,8 +9,8 @@ use lib.Seq.{take-suc, drop-cons, take-length}
 use lib.IntN.{ℤ, pos, negℤ, _+ℤ_, _-ℤ_, _*ℤ_, +ℤ-assoc, +ℤ-comm, +ℤ-idl, +ℤ-idr, +ℤ-invr, negℤ-+ℤ, negℤ-negℤ}
 use Rattle.vector.specs.declared.GridPoint.{GridPoint}
 use Rattle.vector.specs.Grid.{term, areaTo, polygonArea, at, origin}
-use Rattle.split.specs.Cut.{rotate, firstPoints, secondPoints}
-use Rattle.split.proofs.Rotation.{at-place, at-end}
+use Rattle.parts.specs.Cut.{rotate, firstPoints, secondPoints}
+use Rattle.parts.proofs.Rotation.{at-place, at-end}
 
 neg-sub : (p q : ℤ) → negℤ (p -ℤ q) ≡ q -ℤ p
 neg-sub p q = negℤ-+ℤ p (negℤ q) ∙ ap (λ x. negℤ p +ℤ x) (negℤ-negℤ q) ∙ +ℤ-comm (negℤ p) q

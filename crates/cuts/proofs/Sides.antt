@@ -12,10 +12,10 @@ use Rattle.vector.specs.Grid.{at, origin}
 use Rattle.marks.specs.declared.EdgeMark.{EdgeMark}
 use Rattle.marks.specs.declared.EdgeMark.the-variants.{Straight}
 use Rattle.marks.specs.Part.{Part}
-use Rattle.split.specs.Cut.{rotate}
+use Rattle.parts.specs.Cut.{rotate}
 use Rattle.cuts.specs.Counts.{Sound}
 use Rattle.cuts.specs.Provenance.{Side, side, along, around, sides, Alike, Match, chain}
-use Rattle.split.proofs.Rotation.{at-place, at-end}
+use Rattle.parts.proofs.Rotation.{at-place, at-end}
 use Rattle.cuts.proofs.Match as M
 use Rattle.cuts.proofs.Match.{alike-self}
 

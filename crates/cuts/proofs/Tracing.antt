@@ -7,7 +7,7 @@ use Rattle.laws.specs.All.{All}
 use Rattle.laws.proofs.Lists.{all-left}
 use Rattle.marks.specs.Part.{Part}
 use Rattle.corner.specs.declared.Limits.{Limits}
-use Rattle.split.specs.Cut.{firstPart, secondPart}
+use Rattle.parts.specs.Cut.{firstPart, secondPart}
 use Rattle.split.specs.Split.{Stack, splitBadVertices}
 use Rattle.cuts.specs.Counts.{Sound}
 use Rattle.cuts.specs.Provenance.{Side, sides, allSides, diagonal, diagonals, made, spentParts, Alike, same, Match, each, swap, chain, Dealt, Deals, Among, Grown}

@@ -8,7 +8,7 @@ use lib.Signed.{nonNeg}
 use Rattle.laws.specs.All.{All}
 use Rattle.vector.specs.Grid.{polygonArea}
 use Rattle.marks.specs.Part.{Part}
-use Rattle.split.specs.Cut.{turnedIn}
+use Rattle.parts.specs.Cut.{turnedIn}
 use Rattle.split.specs.Split.{Cut, Stack}
 
 abbrev pub areas : List Part → ℤ

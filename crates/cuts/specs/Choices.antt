@@ -11,7 +11,7 @@ use Rattle.simple.specs.Meeting.{strictlyBetween}
 use Rattle.marks.specs.Part.{Part}
 use Rattle.corner.specs.declared.Limits.{Limits}
 use Rattle.corner.specs.Corner.{measureAt, bad, Worst}
-use Rattle.split.specs.Cut.{rotate}
+use Rattle.parts.specs.Cut.{rotate}
 use Rattle.split.specs.Diagonals.{Best, NoneMeets}
 use Rattle.split.specs.Split.{Cut}
 

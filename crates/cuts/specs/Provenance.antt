@@ -9,7 +9,7 @@ use Rattle.vector.specs.Grid.{at}
 use Rattle.marks.specs.declared.EdgeMark.{EdgeMark}
 use Rattle.marks.specs.declared.EdgeMark.the-variants.{Straight}
 use Rattle.marks.specs.Part.{Part, noPart}
-use Rattle.split.specs.Cut.{firstPart, secondPart}
+use Rattle.parts.specs.Cut.{firstPart, secondPart}
 use Rattle.split.specs.Split.{Cut, Stack}
 
 -- the two parts that a cut makes

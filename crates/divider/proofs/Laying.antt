@@ -18,9 +18,10 @@ use Rattle.marks.specs.Edges.{marksIn}
 use Rattle.corner.specs.declared.Limits.{Limits}
 use Rattle.split.specs.declared.Splitting.{Splitting}
 use Rattle.split.specs.Split.{splitBadVertices}
-use Rattle.split.specs.Layout.{nth}
-use Rattle.split.specs.State.{ringPart, Shows, Held, marksOf}
-use Rattle.split.proofs.Pieces.{marks-taken}
+use Rattle.parts.specs.Layout.{nth}
+use Rattle.split.specs.State.{ringPart, Shows, Held}
+use Rattle.parts.specs.Pieces.{marksOf}
+use Rattle.parts.proofs.Pieces.{marks-taken}
 use Rattle.nodes.specs.Growth.{InRange}
 use Rattle.nodes.specs.Nodes.{nodeAt}
 use Rattle.nodes.specs.Flat.{nodesIn, Usable}

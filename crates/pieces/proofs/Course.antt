@@ -17,8 +17,8 @@ use Rattle.vector.specs.declared.GridPoint.{GridPoint}
 use Rattle.vector.specs.declared.Point.{Point}
 use Rattle.marks.specs.declared.Edge.{Edge}
 use Rattle.marks.specs.Part.{Part, noPart}
-use Rattle.split.specs.declared.PartList.{PartList}
-use Rattle.split.specs.State.{pieceIn, marksOf}
+use Rattle.parts.specs.declared.PartList.{PartList}
+use Rattle.parts.specs.Pieces.{pieceIn, marksOf}
 use Rattle.nodes.specs.Growth.{Grown, Anything, InRange, EachNode}
 use Rattle.nodes.specs.Flat.{nodesIn, over, Usable}
 use Rattle.nodes.specs.declared.nearby.Nearby.{Nearby}

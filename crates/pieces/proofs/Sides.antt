@@ -15,11 +15,12 @@ use Rattle.vector.specs.declared.GridPoint.{GridPoint}
 use Rattle.marks.specs.declared.EdgeMark.{EdgeMark}
 use Rattle.marks.specs.declared.EdgeMark.the-variants.{Straight}
 use Rattle.marks.specs.Part.{Part}
-use Rattle.split.specs.declared.PartList.{PartList}
-use Rattle.split.specs.Vertices.{vertex, edgeAt}
-use Rattle.split.specs.Layout.{end, size, nth}
-use Rattle.split.specs.State.{ringPart, pieceIn}
-use Rattle.split.proofs.Pieces.{piece-nth}
+use Rattle.parts.specs.declared.PartList.{PartList}
+use Rattle.parts.specs.Vertices.{vertex, edgeAt}
+use Rattle.parts.specs.Layout.{end, size, nth}
+use Rattle.split.specs.State.{ringPart}
+use Rattle.parts.specs.Pieces.{pieceIn}
+use Rattle.parts.proofs.Pieces.{piece-nth}
 use Rattle.cells.specs.Asks.{label, allMarked, isMarked, ofRing}
 use Rattle.pieces.specs.Flat.{everyMark}
 

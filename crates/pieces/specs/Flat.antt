@@ -8,9 +8,9 @@ use Rattle.vector.specs.Size.{AllOnSheet}
 use Rattle.marks.specs.declared.Edge.{Edge}
 use Rattle.marks.specs.declared.EdgeMark.{EdgeMark}
 use Rattle.marks.specs.Part.{Part}
-use Rattle.split.specs.declared.PartList.{PartList}
-use Rattle.split.specs.Layout.{Kept, listOf}
-use Rattle.split.specs.State.{pieceIn, marksOf}
+use Rattle.parts.specs.declared.PartList.{PartList}
+use Rattle.parts.specs.Layout.{Kept, listOf}
+use Rattle.parts.specs.Pieces.{pieceIn, marksOf}
 use Rattle.nodes.specs.Nodes.{mostPlaces}
 use Rattle.nodes.specs.Flat.{nodesIn, Usable}
 use Rattle.quads.specs.declared.Cell.{Cell}

@@ -6,11 +6,11 @@
 
 ghost use Rattle.laws.specs.Within.{Within};
 ghost use Rattle.nodes.specs.Nearby.{Framed};
-ghost use Rattle.split.specs.Layout.{Kept};
+ghost use Rattle.parts.specs.Layout.{Kept};
 use marks::Edge;
 use marks::EdgeMark;
 use nodes::Window;
-use split::PartList;
+use parts::PartList;
 use vector::GridPoint;
 use vector::Point;
 

@@ -12,8 +12,8 @@ ghost use Prim.Native.Nat.{ℕ, _*_, _≤_, _<_};
 ghost use mathlib.Core.Bool.{false};
 ghost use lib.ListN.{length, getD, replicate};
 ghost use Rattle.vector.specs.declared.GridPoint.{GridPoint};
-ghost use Rattle.split.specs.Layout.{Kept};
-ghost use Rattle.split.specs.State.{pieceIn};
+ghost use Rattle.parts.specs.Layout.{Kept};
+ghost use Rattle.parts.specs.Pieces.{pieceIn};
 ghost use Rattle.nodes.specs.Flat.{over};
 ghost use Rattle.quads.specs.Quads.{noCell};
 ghost use Rattle.cells.specs.Stages.{nodesOf};
@@ -24,7 +24,7 @@ ghost use Rattle.pieces.specs.Flat.{outcomeIn, everyMark, asksIn, CanSub
 use marks::Edge;
 use nodes::MOST_NEARBY;
 use nodes::NodeNumber;
-use split::PartList;
+use parts::PartList;
 use vector::GridPoint;
 
 // The count of nodes, and of the cells that all pieces have; or the corners of the piece and its first cell that fails,
@@ -95,9 +95,9 @@ pub fn subdivide_all(
     let mut u = used;
     let mut at = first;
     for i in 0..pieces.count {
-        let n = split::piece_size(pieces, i);
-        let ps = split::piece_points(ring, pieces, i);
-        let es = split::piece_marks(marks, pieces, i);
+        let n = parts::piece_size(pieces, i);
+        let ps = parts::piece_points(ring, pieces, i);
+        let es = parts::piece_marks(marks, pieces, i);
         let sides = piece_sides(pieces, i);
         let start = at * 4;
         let t = cells::subdivide(

@@ -18,7 +18,7 @@ use Rattle.marks.specs.Part.{Part}
 use Rattle.corner.specs.declared.Limits.{Limits}
 use Rattle.corner.specs.Corner.{bad, measureAt, worst}
 use Rattle.diagonal.specs.Diagonal.{inRange, meetsRule, better, bestTo}
-use Rattle.split.specs.Cut.{rotate}
+use Rattle.parts.specs.Cut.{rotate}
 use Rattle.split.specs.Split.{Stack, splitPolygonAt, cutAt, pop, pops, start, splitBadVertices}
 use Rattle.cuts.proofs.Machine.{emptied}
 use Rattle.sets.specs.Sets.{withCuts}

@@ -8,12 +8,12 @@ mod text;
 ghost use Prim.Native.Nat.{_^_, _≤_};
 ghost use lib.IntN.{natAbs};
 ghost use Rattle.vector.specs.Size.{AllOnSheet};
-ghost use Rattle.split.specs.Layout.{Kept};
+ghost use Rattle.parts.specs.Layout.{Kept};
 use chain::Simplified;
 use corner::Limits;
 use libc::STDIN_FILENO;
 use marks::Edge;
-use split::PartList;
+use parts::PartList;
 use vector::GridPoint;
 
 fn wide(b: u8) -> u64
@@ -117,10 +117,10 @@ fn print_pieces(ring: [GridPoint; 60], edges: [Edge; 60], pieces: PartList)
 {
     let k = pieces.count;
     for i in 0..k {
-        let n = split::piece_size(pieces, i);
+        let n = parts::piece_size(pieces, i);
         print_piece(
-            split::piece_points(ring, pieces, i),
-            split::piece_marks(edges, pieces, i),
+            parts::piece_points(ring, pieces, i),
+            parts::piece_marks(edges, pieces, i),
             n,
         );
     }

@@ -15,7 +15,7 @@ use Rattle.simple.specs.Meeting as Meeting
 use Rattle.marks.specs.Marks as Marks
 use Rattle.corner.specs.Corner as Corner
 use Rattle.diagonal.specs.Diagonal as Diagonal
-use Rattle.split.specs.Cut as Cut
+use Rattle.parts.specs.Cut as Cut
 use Rattle.split.specs.Split as Split
 use Rattle.keys.specs.Keys as Keys
 use Rattle.nodes.specs.Nodes as Nodes

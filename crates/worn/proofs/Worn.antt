@@ -9,7 +9,7 @@ use lib.ListN.{length}
 use lib.Dec.{T}
 use Rattle.laws.specs.All.{All}
 use Rattle.corner.specs.declared.Limits.{Limits}
-use Rattle.cells.specs.declared.Cell.{Cell}
+use Rattle.quads.specs.declared.Cell.{Cell}
 use Rattle.table.specs.Refusals.{Refusal, firstOf, Passes, numbered}
 use Rattle.table.proofs.Refusals.{not-0}
 use Rattle.demand.specs.Call.{Lists, listsOf, noTest}

@@ -6,7 +6,7 @@ use lib.Seq.{length-take-le}
 use borrow.Author.Needs.{needs}
 use Rattle.laws.proofs.Signed.{small64}
 use Rattle.marks.specs.declared.MarkedRing.{MarkedRing}
-use Rattle.split.specs.State.{marksOf}
+use Rattle.parts.specs.Pieces.{marksOf}
 use Rattle.nodes.specs.Flat.{over}
 use Rattle.cells.specs.Pieces.{Outcome}
 use Rattle.cells.specs.Stages.{nodesOf}

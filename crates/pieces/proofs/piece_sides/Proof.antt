@@ -7,8 +7,8 @@ use lib.Seq.{getD-set-other}
 use Rattle.laws.specs.Table.{tab}
 use Rattle.laws.proofs.Lists.{all-same}
 use Rattle.laws.proofs.Table.{more, tab-none}
-use Rattle.split.specs.Layout.{end, size}
-use Rattle.split.proofs.Pieces as Pieces
+use Rattle.parts.specs.Layout.{end, size}
+use Rattle.parts.proofs.Pieces as Pieces
 use Rattle.pieces.proofs.Sides.{sideOf, sides-are}
 use borrow.Author.Needs.{needs}
 use native.Mathlib.Omega.{arith}

@@ -3,7 +3,7 @@ use mathlib.Core.Path.{_≡_, refl, ap, _∙_}
 use Prim.Native.Nat.{ℕ, _+_, _-_, _*_, _^_, _≤_, _<_}
 use lib.ListN.{length, take, length-take, length-drop}
 use borrow.Rule.Slice.PartMut.{putMid}
-use Rattle.split.specs.State.{marksOf}
+use Rattle.parts.specs.Pieces.{marksOf}
 use Rattle.nodes.proofs.Gathering as gathering
 use Rattle.pieces.proofs.Course as course
 use Rattle.pieces.proofs.Course.{Reached, Read}

@@ -1,4 +1,4 @@
--- `cells::edge_middle` meets its contract.
+-- `edge_middle` meets its contract.
 use Rattle.quads.proofs.EdgeMiddles as edge
 use borrow.Author.Needs.{needs}
 use Rattle.quads.proofs.edge_middle.Statement.{statement}

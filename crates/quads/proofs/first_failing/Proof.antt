@@ -1,4 +1,4 @@
--- `cells::first_failing` meets its contract.
+-- `first_failing` meets its contract.
 use mathlib.Core.Path.{_≡_, sym, ap, _∙_}
 use Prim.Native.Nat.{ℕ, _-_, _≤_}
 use mathlib.Core.List.{List}

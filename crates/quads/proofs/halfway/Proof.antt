@@ -1,4 +1,4 @@
--- `cells::halfway` meets its contract.
+-- `halfway` meets its contract.
 use mathlib.Core.Path.{refl}
 use lib.Ieee.{ofBits, round}
 use Rattle.laws.specs.Double.{lit}

@@ -1,4 +1,4 @@
--- `cells::holds` meets its contract.
+-- `holds` meets its contract.
 use mathlib.Core.Path.{_≡_, sym, _∙_}
 use Prim.Native.Nat.{ℕ, _<_}
 use mathlib.Core.Bool.{_&&_}

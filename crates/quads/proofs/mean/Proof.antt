@@ -1,4 +1,4 @@
--- `cells::mean` meets its contract.
+-- `mean` meets its contract.
 use mathlib.Core.Path.{_≡_, refl, ap, _∙_}
 use Prim.Native.Nat.{ℕ, _-_, _≤_}
 use native.Mathlib.Nat.{le-trans}

@@ -1,4 +1,4 @@
--- `cells::put_cell` meets its contract.
+-- `put_cell` meets its contract.
 use mathlib.Core.List.{[], _∷_}
 use lib.ListN.{length-set}
 use lib.Seq.{sets-eq}

@@ -1,4 +1,4 @@
--- `cells::put_cells` meets its contract.
+-- `put_cells` meets its contract.
 use mathlib.Core.Path.{_≡_, refl, ap, _∙_}
 use Prim.Native.Nat.{ℕ, _+_, _-_, _*_, _≤_}
 use lib.ListN.{length, take, length-take, length-drop}

@@ -1,4 +1,4 @@
--- `cells::quad_positive` meets its contract.
+-- `quad_positive` meets its contract.
 use mathlib.Core.Path.{sym, _∙_}
 use borrow.Author.Needs.{needs}
 use Rattle.quads.proofs.quad_positive.Statement.{statement}

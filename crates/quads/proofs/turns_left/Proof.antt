@@ -1,4 +1,4 @@
--- `cells::turns_left` meets its contract.
+-- `turns_left` meets its contract.
 use mathlib.Core.Path.{ap, _∙_}
 use mathlib.Core.Bool.{not}
 use lib.Ieee.{ofBits, round}

@@ -1,0 +1,98 @@
+-- `rotated_points` meets its contract. The loop's invariant: the places filled are the points of the corners from v on, counted round. Assumes nothing.
+use Prim.Native.Nat.{_+_, _-_, _%_, _≤_, _<_}
+use mathlib.Core.Path.{_≡_, refl, ap}
+use lib.ListN.{take, length, length-set}
+use Rattle.vector.specs.Grid.{origin}
+use Rattle.vector.specs.Size.{OnSheet, AllOnSheet}
+use Rattle.vector.proofs.Sheet.{origin-on}
+use Rattle.laws.specs.Table.{tab}
+use Rattle.laws.proofs.Table.{more, tab-none, start-mod, step-mod}
+use Rattle.laws.proofs.Lists.{all-same, all-set}
+use Rattle.parts.specs.Vertices.{pointAt, Below}
+use borrow.Author.Needs.{needs}
+use native.Mathlib.Omega.{arith}
+use Rattle.parts.proofs.sub_polygon.rotated_points.Statement.{statement}
+use Rattle.parts.proofs.sub_polygon.rotated_points.Tie as tie
+
+abbrev Inv-loop : tie.InvT-loop
+Inv-loop n v ring vs out₀ j₀ i₀ out j i = (i ≤ n) × (n ≤ 60) × (length out ≡ 60) × (j < n) × (j ≡ (v + i) % n) × (take i out ≡ tab (λ i. pointAt ring vs ((v + i) % n)) i) × AllOnSheet out × Below vs × AllOnSheet ring
+
+abbrev μ-loop : tie.MeasureT-loop
+μ-loop n v ring vs out₀ j₀ i₀ out j i = n - i
+
+loop-holds : tie.Need-loop-holds Inv-loop μ-loop
+loop-holds c = (search needs, search needs, refl, search needs, start-mod (c .args .v) (c .args .n) (omega arith), tab-none _, all-same OnSheet origin 60 _ origin-on origin-on, c .pre .2, c .pre .3)
+
+mul-c : tie.Need-mul-c Inv-loop μ-loop
+mul-c c = search needs
+
+array-copy-out-c : tie.Need-array-copy-out-c Inv-loop μ-loop
+array-copy-out-c c = search needs
+
+cast-k : tie.Need-cast-k Inv-loop μ-loop
+cast-k c = search needs
+
+mul-p : tie.Need-mul-p Inv-loop μ-loop
+mul-p c = let h = c .before .before .before .loop .inv .7 (c .before .before .before .loop .j) in omega (arith, h)
+
+array-copy-out-p : tie.Need-array-copy-out-p Inv-loop μ-loop
+array-copy-out-p c = c .before .before .before .loop .inv .7 _
+
+mul-out : tie.Need-mul-out Inv-loop μ-loop
+mul-out c = search needs
+
+array-set-from-out : tie.Need-array-set-from-out Inv-loop μ-loop
+array-set-from-out c = search needs
+
+next-requires : tie.Need-next-requires Inv-loop μ-loop
+next-requires c κs = search needs
+
+add-i : tie.Need-add-i Inv-loop μ-loop
+add-i c = search needs
+
+loop-less : tie.Need-loop-less Inv-loop μ-loop
+loop-less c = search needs
+
+loop-again : tie.Need-loop-again Inv-loop μ-loop
+loop-again c =
+    let l = c .before .before .before .before .before .loop in
+    let s = c .before .before .before .before .before .before in
+    let ring = s .args .t1 in
+    let vs = s .args .t2 in (
+      search needs,
+      search needs,
+      simp length-set (l .inv .2),
+      c .next .ensures .1,
+      step-mod (s .args .v) (l .i) (s .args .n) (l .j) (c .next .result) (l .inv .4) (c .next .ensures .0),
+      more (λ i. pointAt ring vs ((s .args .v + i) % s .args .n)) (l .out) (l .i) (pointAt ring vs (l .j)) (omega (arith, l .inv .2)) (l .inv .5) (ap (pointAt ring vs) (l .inv .4)),
+      all-set OnSheet origin (l .out) (l .i) (pointAt ring vs (l .j)) (l .inv .6) (l .inv .8 _),
+      l .inv .7,
+      l .inv .8,
+    )
+
+returns : tie.Need-returns Inv-loop μ-loop
+returns c =
+    let l = c .before .loop in
+    let s = c .before .before in
+    let e : l .i ≡ s .args .n = omega arith in
+    (rw e at (l .inv .5), l .inv .6)
+
+pub rotated-points-spec : {M : Type 1} → statement M
+rotated-points-spec =
+    tie.close
+    (tie.spec
+    Inv-loop
+    μ-loop
+    loop-holds
+    mul-c
+    array-copy-out-c
+    cast-k
+    mul-p
+    array-copy-out-p
+    mul-out
+    array-set-from-out
+    next-requires
+    add-i
+    loop-less
+    loop-again
+    returns)

@@ -1,0 +1,122 @@
+// Parts: a part of a ring as a list of numbers, the two parts that a diagonal makes of it, and parts one after the other.
+//
+// It stands under the split, whose stack and pieces are such lists. The ring's points and the marks of its edges are held
+// once, outside; a part has two bytes a corner, so that the whole state of the split is 600 bytes and goes by value.
+// specs/Vertices and specs/Layout say how numbers are read back as parts.
+
+mod sub_polygon;
+
+ghost use mathlib.Core.Path.{_≡_};
+ghost use mathlib.Core.List.{List};
+ghost use Prim.Native.Nat.{ℕ, _+_, _≤_, _<_};
+ghost use lib.ListN.{length, getD, take};
+ghost use Rattle.laws.specs.Table.{tab};
+ghost use Rattle.vector.specs.declared.GridPoint.{GridPoint};
+ghost use Rattle.vector.specs.Grid.{origin};
+ghost use Rattle.vector.specs.Size.{AllOnSheet};
+ghost use Rattle.marks.specs.declared.EdgeMark.{EdgeMark};
+ghost use Rattle.marks.specs.Edges.{straightEdge};
+ghost use Rattle.parts.specs.Vertices.{vertex, Below};
+ghost use Rattle.parts.specs.Layout as Layout;
+ghost use Rattle.parts.specs.Pieces.{pieceIn, marksOf};
+use marks::Edge;
+use marks::EdgeMark;
+pub use sub_polygon::first_part;
+pub use sub_polygon::rotated_points;
+pub use sub_polygon::second_part;
+use vector::GridPoint;
+
+// A corner of a part: the number of its point among the ring's, and that of the mark of the edge that starts there; 60 is
+// straight.
+pub struct Vertex {
+    pub at: u8,
+    pub edge: u8,
+}
+
+// Parts one after the other: part j has the corners from ends[j] to ends[j + 1]. No more than 33 parts and 124 corners are
+// ever held.
+pub struct PartList {
+    pub corners: [Vertex; 124],
+    pub ends: [u8; 34],
+    pub count: usize,
+}
+
+// The n corners from place a on.
+pub fn load(vs: [Vertex; 124], a: usize, n: usize) -> [Vertex; 60]
+    requires { ⌜ (n ≤ 60) × (a + n ≤ 124) × Below vs ⌝ }
+    ensures { λ r. ⌜ (take n r ≡ tab (λ i. vertex vs (a + i)) n) × Below r ⌝ }
+{
+    let mut out = [Vertex { at: 0, edge: 60 }; 60];
+    for i in 0..n {
+        let c = vs[a + i];
+        out[i] = c;
+    }
+    out
+}
+
+// One part more, of n corners.
+pub fn push(p: PartList, ps: [Vertex; 60], n: usize) -> PartList
+    requires { ⌜ Layout.Kept p × (p .count < 33) × (3 ≤ n) × (n ≤ 60) × (Layout.end p (p .count) + n ≤ 124) × Below ps ⌝ }
+    ensures { λ r. ⌜ Layout.Pushed p ps n r ⌝ }
+{
+    let mut out = p;
+    let t = out.count;
+    let a = out.ends[t] as usize;
+    out.ends[t + 1] = (a + n) as u8;
+    out.count = t + 1;
+    for i in 0..n {
+        let c = ps[i];
+        out.corners[a + i] = c;
+    }
+    out
+}
+
+// How many corners piece i has.
+pub fn piece_size(pieces: PartList, i: usize) -> usize
+    requires { ⌜ Layout.Kept pieces × (i < pieces .count) ⌝ }
+    ensures { λ r. ⌜ ((ring : List GridPoint) (es : List EdgeMark) → r ≡ length (pieceIn ring es pieces i .points)) × (r ≡ Layout.size pieces i) × (3 ≤ r) × (r ≤ 60) ⌝ }
+{
+    let a = pieces.ends[i] as usize;
+    pieces.ends[i + 1] as usize - a
+}
+
+// The points of piece i, and the marks of its edges, in the first places. The places after them are zero, and straight.
+pub fn piece_points(ring: [GridPoint; 60], pieces: PartList, i: usize) -> [GridPoint; 60]
+    requires { ⌜ Layout.Kept pieces × (i < pieces .count) × AllOnSheet ring ⌝ }
+    ensures { λ r. ⌜ ((es : List EdgeMark) → take (Layout.size pieces i) r ≡ pieceIn ring es pieces i .points) × AllOnSheet r
+        × ((j : ℕ) → Layout.size pieces i ≤ j → getD r j origin ≡ origin) ⌝ }
+{
+    let a = pieces.ends[i] as usize;
+    let n = pieces.ends[i + 1] as usize - a;
+    let mut out = [GridPoint::ORIGIN; 60];
+    for j in 0..n {
+        let c = pieces.corners[a + j];
+        let k = c.at as usize;
+        let p = ring[k];
+        out[j] = p;
+    }
+    out
+}
+
+pub fn piece_marks(marks: [Edge; 60], pieces: PartList, i: usize) -> [Edge; 60]
+    requires { ⌜ Layout.Kept pieces × (i < pieces .count) ⌝ }
+    ensures { λ r. ⌜ ((ring : List GridPoint) → marksOf (take (Layout.size pieces i) r) ≡ pieceIn ring (marksOf marks) pieces i .edges)
+        × ((j : ℕ) → Layout.size pieces i ≤ j → getD r j straightEdge ≡ straightEdge) ⌝ }
+{
+    let a = pieces.ends[i] as usize;
+    let n = pieces.ends[i + 1] as usize - a;
+    let straight = Edge {
+        mark: EdgeMark::Straight,
+    };
+    let mut out = [straight; 60];
+    for j in 0..n {
+        let c = pieces.corners[a + j];
+        let k = c.edge as usize;
+        let mut e = straight;
+        if k < 60 {
+            e = marks[k];
+        }
+        out[j] = e;
+    }
+    out
+}

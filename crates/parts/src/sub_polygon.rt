@@ -1,0 +1,127 @@
+// The two parts that a diagonal makes of a part, over the numbers of its corners.
+
+ghost use mathlib.Core.Path.{_≡_};
+ghost use mathlib.Core.List.{List};
+ghost use Prim.Native.Nat.{_+_, _-_, _%_, _^_, _≤_, _<_};
+ghost use lib.ListN.{length, take};
+ghost use Rattle.laws.specs.Table.{tab};
+ghost use Rattle.vector.specs.Size.{AllOnSheet};
+ghost use Rattle.marks.specs.declared.EdgeMark.{EdgeMark};
+ghost use Rattle.parts.specs.Cut as Cut;
+ghost use Rattle.parts.specs.Vertices.{vertex, pointAt, edgeAt, Below, closing, backward, partOf};
+use super::Vertex;
+use vector::GridPoint;
+
+// The points of n corners, counted from corner v.
+pub fn rotated_points(
+    ring: [GridPoint; 60],
+    vs: [Vertex; 60],
+    n: usize,
+    v: usize,
+) -> [GridPoint; 60]
+    requires { ⌜ (n ≤ 60) × (v < n) × Below vs × AllOnSheet ring ⌝ }
+    ensures { λ r. ⌜ (take n r ≡ tab (λ i. pointAt ring vs ((v + i) % n)) n) × AllOnSheet r ⌝ }
+{
+    let mut out = [GridPoint::ORIGIN; 60];
+    let mut j = v;
+    for i in 0..n {
+        let c = vs[j];
+        let k = c.at as usize;
+        let p = ring[k];
+        out[i] = p;
+        j = vector::next(j, n);
+    }
+    out
+}
+
+// m of n corners, counted from corner v. The last edge, the diagonal, is straight.
+pub fn segment(vs: [Vertex; 60], n: usize, v: usize, m: usize) -> [Vertex; 60]
+    requires { ⌜ (n ≤ 60) × (v < n) × (1 ≤ m) × (m ≤ n) × Below vs ⌝ }
+    ensures { λ r. ⌜ (take m r ≡ tab (closing vs n v m) m) × Below r ⌝ }
+{
+    let mut out = [Vertex { at: 0, edge: 60 }; 60];
+    let mut j = v;
+    for i in 0..m - 1 {
+        let c = vs[j];
+        out[i] = c;
+        j = vector::next(j, n);
+    }
+    let c = vs[j];
+    out[m - 1] = Vertex { at: c.at, edge: 60 };
+    out
+}
+
+// m corners the other way round. Each keeps the edge that now starts there; the last edge is straight.
+pub fn reversed(vs: [Vertex; 60], m: usize) -> [Vertex; 60]
+    requires { ⌜ (1 ≤ m) × (m ≤ 60) × Below vs ⌝ }
+    ensures { λ r. ⌜ (take m r ≡ tab (backward vs m) m) × Below r ⌝ }
+{
+    let mut out = [Vertex { at: 0, edge: 60 }; 60];
+    let mut a = vs[m - 1];
+    for i in 0..m - 1 {
+        let b = vs[m - 2 - i];
+        out[i] = Vertex {
+            at: a.at,
+            edge: b.edge,
+        };
+        a = b;
+    }
+    out[m - 1] = Vertex { at: a.at, edge: 60 };
+    out
+}
+
+// A part that a cut makes, and the doubled area that was turned round in making it.
+pub struct SubPolygon {
+    pub corners: [Vertex; 60],
+    pub turned: u64,
+}
+
+// m corners that end with the diagonal, turned round if their area is negative.
+pub fn make_sub_polygon(ring: [GridPoint; 60], vs: [Vertex; 60], m: usize) -> SubPolygon
+    requires { ⌜ (3 ≤ m) × (m ≤ 60) × Below vs × AllOnSheet ring × (vertex vs (m - 1) .edge ≡ 60) ⌝ }
+    ensures { λ r. ⌜ ((es : List EdgeMark) → length es ≡ 60 → partOf ring es (r .corners) m ≡ Cut.makeSubPolygon (tab (pointAt ring vs) m) (tab (edgeAt es vs) (m - 1)))
+        × (r .turned ≡ Cut.turnedArea (tab (pointAt ring vs) m)) × Below (r .corners) × (r .turned ≤ 2 ^ 53) ⌝ }
+{
+    let area = vector::polygon_area(rotated_points(ring, vs, m, 0), m);
+    if 0 <= area {
+        return SubPolygon {
+            corners: vs,
+            turned: 0,
+        };
+    }
+    SubPolygon {
+        corners: reversed(vs, m),
+        turned: vector::magnitude(area),
+    }
+}
+
+// The part of n corners from corner v to the place k after it.
+pub fn first_part(
+    ring: [GridPoint; 60],
+    vs: [Vertex; 60],
+    n: usize,
+    v: usize,
+    k: usize,
+) -> SubPolygon
+    requires { ⌜ (n ≤ 60) × (v < n) × (2 ≤ k) × (k + 2 ≤ n) × Below vs × AllOnSheet ring ⌝ }
+    ensures { λ r. ⌜ ((es : List EdgeMark) → length es ≡ 60 → partOf ring es (r .corners) (k + 1) ≡ Cut.firstPart (partOf ring es vs n) v k)
+        × (r .turned ≡ Cut.turnedArea (Cut.firstPoints (Cut.rotate v (tab (pointAt ring vs) n)) k)) × Below (r .corners) × (r .turned ≤ 2 ^ 53) ⌝ }
+{
+    make_sub_polygon(ring, segment(vs, n, v, k + 1), k + 1)
+}
+
+// The part from there on, back to corner v.
+pub fn second_part(
+    ring: [GridPoint; 60],
+    vs: [Vertex; 60],
+    n: usize,
+    v: usize,
+    k: usize,
+) -> SubPolygon
+    requires { ⌜ (n ≤ 60) × (v < n) × (2 ≤ k) × (k + 2 ≤ n) × Below vs × AllOnSheet ring ⌝ }
+    ensures { λ r. ⌜ ((es : List EdgeMark) → length es ≡ 60 → partOf ring es (r .corners) (n - k + 1) ≡ Cut.secondPart (partOf ring es vs n) v k)
+        × (r .turned ≡ Cut.turnedArea (Cut.secondPoints (Cut.rotate v (tab (pointAt ring vs) n)) k)) × Below (r .corners) × (r .turned ≤ 2 ^ 53) ⌝ }
+{
+    let start = (v + k) % n;
+    make_sub_polygon(ring, segment(vs, n, start, n - k + 1), n - k + 1)
+}
