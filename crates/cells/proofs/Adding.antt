@@ -13,9 +13,9 @@ use Rattle.vector.specs.declared.Point.{Point}
 use Rattle.nodes.specs.declared.Placed.{Placed}
 use Rattle.nodes.specs.Nodes.{mostPlaces, nodeAt, addNode, Added, addNodes}
 use Rattle.nodes.specs.Growth.{Grown, Anything, InRange, EachNode}
-use Rattle.nodes.specs.Flat.{pointAt, nodesIn, over, Usable, placed}
+use Rattle.nodes.specs.Flat.{nodeIn, nodesIn, over, Usable, placed}
 use Rattle.nodes.specs.declared.nearby.Nearby.{Nearby}
-use Rattle.nodes.specs.Nearby.{Held}
+use Rattle.nodes.specs.Nearby.{ValidNearby}
 use Rattle.nodes.proofs.Collection.{held-over}
 use Rattle.nodes.proofs.Growth.{addNode-grown, addNodes-grown, addNodes-number, grown-each}
 use Rattle.nodes.proofs.Flat.{length-in, node-in, at-over, in-over, length-over, over-over, over-in}
@@ -31,7 +31,7 @@ over-usable l ns e f h a b =
     record {
       room = omega (arith, f, b, ap length e ∙ length-over l ns b);
       few = omega (arith, f, a);
-      ranged = λ j k. let i : j < length ns = omega (arith, f, k) in subst InRange (sym (ap (λ (m : List Float). pointAt m j) e ∙ at-over l ns j i)) (h j i);
+      ranged = λ j k. let i : j < length ns = omega (arith, f, k) in subst InRange (sym (ap (λ (m : List Float). nodeIn m j) e ∙ at-over l ns j i)) (h j i);
     }
 
 module _ (l : List Float) (u : ℕ) (p : ℕ → Point) where
@@ -81,11 +81,11 @@ module _ {l : List Float} {u : ℕ} {p : ℕ → Point} where
       })
 
   -- a place that was used before is as it was
-  pub read : {i : ℕ} {m : List Float} {v : ℕ} {ks : List ℕ} → Adds l u p i m v ks → (j : ℕ) → j < u → pointAt m j ≡ nodeAt (nodesIn l u) j
-  read {i} s j h = ap (λ (m : List Float). pointAt m j) (s .nodes) ∙ at-over l (E l u p i .nodes) j (omega (arith, longer l u p i)) ∙ grown l u p i .same j (omega (arith, length-in l u))
+  pub read : {i : ℕ} {m : List Float} {v : ℕ} {ks : List ℕ} → Adds l u p i m v ks → (j : ℕ) → j < u → nodeIn m j ≡ nodeAt (nodesIn l u) j
+  read {i} s j h = ap (λ (m : List Float). nodeIn m j) (s .nodes) ∙ at-over l (E l u p i .nodes) j (omega (arith, longer l u p i)) ∙ grown l u p i .same j (omega (arith, length-in l u))
 
   -- what was collected of the list stays true of it
-  pub held : {c : Nearby} {numbers : List ℕ} {xs : List Float} {i : ℕ} {m : List Float} {v : ℕ} {ks : List ℕ} → Adds l u p i m v ks → Held l u c numbers xs → Held m v c numbers xs
+  pub held : {c : Nearby} {numbers : List ℕ} {xs : List Float} {i : ℕ} {m : List Float} {v : ℕ} {ks : List ℕ} → Adds l u p i m v ks → ValidNearby l u c numbers xs → ValidNearby m v c numbers xs
   held {c} {numbers} {xs} {i} {m} {v} s h = held-over l m u v (E l u p i .nodes) c numbers xs (s .nodes) (s .used) (grown l u p i) h
 
   -- the numbers are those of listed nodes

@@ -28,7 +28,7 @@ use Rattle.nodes.proofs.Growth.{addNode-old, addNode-new, addNodes-grown, addNo
 use Rattle.quads.specs.Quads.{edgeMiddle, mean}
 use Rattle.cells.specs.Cells.{Attempt, attempt, subdivide}
 use Rattle.cells.specs.Pieces.{Outcome, done, failed, onward, piecesTo}
-use Rattle.cells.specs.Stages.{corners, end, middles, centre, marksOf, straight, nodesOf}
+use Rattle.cells.specs.Stages.{corners, end, middles, centre, markAt, straight, nodesOf}
 use Rattle.cells.specs.Asks.{Role, asCorner, asCentre, asMiddle, Ask, ask, ofRing, asksFor, attemptAsks, subdivideAsks, onwardAsks, asksTo}
 use Rattle.cells.specs.Rims.{AskedFor}
 use Rattle.cells.proofs.Attempts.{attempt-nodes, attempt-any, onward-done, pieces-next}
@@ -161,13 +161,13 @@ module _ (share : Float) where
   -- ---- a piece
   module _ (ns : List Point) (p : Part) (o : ℕ → Bool) where
     abbrev t : Attempt
-    t = attempt share ns (p .points) (marksOf p)
+    t = attempt share ns (p .points) (markAt p)
 
     abbrev t' : Attempt
     t' = attempt share (t .nodes) (p .points) straight
 
     abbrev first : List Ask
-    first = attemptAsks share ns (p .points) (marksOf p) o
+    first = attemptAsks share ns (p .points) (markAt p) o
 
     abbrev second : List Ask
     second = attemptAsks share (t .nodes) (p .points) straight o
@@ -180,10 +180,10 @@ module _ (share : Float) where
     subdivide-listed = go (eqb (t .fails) (length (p .points)) || t .far)
       where
         go : (b : Bool) → All (Below (length (cond b t t' .nodes))) (first ++ cond b [] second)
-        go true = all-append (Below (length (t .nodes))) first [] (attempt-listed ns (p .points) (marksOf p) o) tt
+        go true = all-append (Below (length (t .nodes))) first [] (attempt-listed ns (p .points) (markAt p) o) tt
         go false =
             all-append (Below (length (t' .nodes))) first second
-            (all-weaken (Below (length (t .nodes))) (Below (length (t' .nodes))) (λ q l. omega (arith, l, up)) first (attempt-listed ns (p .points) (marksOf p) o))
+            (all-weaken (Below (length (t .nodes))) (Below (length (t' .nodes))) (λ q l. omega (arith, l, up)) first (attempt-listed ns (p .points) (markAt p) o))
             (attempt-listed (t .nodes) (p .points) straight o)
 
     pub subdivide-cover : (k : ℕ) → length ns ≤ k → k < length (subdivide share ns p .nodes) → AskedFor (subdivideAsks share ns p o) k
@@ -191,7 +191,7 @@ module _ (share : Float) where
     subdivide-cover k h l = go (eqb (t .fails) (length (p .points)) || t .far) l
       where
         by-first : (m : List Ask) → k < length (t .nodes) → AskedFor (first ++ m) k
-        by-first m l = later k (λ q. Memᴰ·append-left m) (attempt-cover ns (p .points) (marksOf p) o k h l)
+        by-first m l = later k (λ q. Memᴰ·append-left m) (attempt-cover ns (p .points) (markAt p) o k h l)
 
         go : (b : Bool) → k < length (cond b t t' .nodes) → AskedFor (first ++ cond b [] second) k
         go true l = by-first [] l

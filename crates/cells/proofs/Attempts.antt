@@ -25,7 +25,7 @@ use Rattle.quads.specs.declared.Cell.{Cell}
 use Rattle.quads.specs.Quads.{edgeMiddle, mean}
 use Rattle.cells.specs.Cells.{Attempt, attempt, subdivide}
 use Rattle.cells.specs.Pieces.{Outcome, done, failed, onward, piecesTo}
-use Rattle.cells.specs.Stages.{corners, end, middles, centre, marksOf, straight, firstNodes, secondNodes, nodesOf}
+use Rattle.cells.specs.Stages.{corners, end, middles, centre, markAt, straight, firstNodes, secondNodes, nodesOf}
 
 module _ (share : Float) where
   -- ---- an attempt
@@ -59,7 +59,7 @@ module _ (share : Float) where
   subdivide-by X ns p h k = go (eqb (t .fails) (length (p .points)) || t .far)
     where
       t : Attempt
-      t = attempt share ns (p .points) (marksOf p)
+      t = attempt share ns (p .points) (markAt p)
 
       go : (b : Bool) → X (cond b t (attempt share (t .nodes) (p .points) straight) .nodes)
       go true = h
@@ -69,7 +69,7 @@ module _ (share : Float) where
   subdivide-grown {P} ns p g h = subdivide-by (Grown P ns) ns p g (grown-trans g h)
 
   pub subdivide-any : (ns : List Point) (p : Part) → Grown Anything ns (subdivide share ns p .nodes)
-  subdivide-any ns p = subdivide-grown ns p (attempt-any ns (p .points) (marksOf p)) (attempt-any (firstNodes share ns p) (p .points) straight)
+  subdivide-any ns p = subdivide-grown ns p (attempt-any ns (p .points) (markAt p)) (attempt-any (firstNodes share ns p) (p .points) straight)
 
   -- ---- the pieces
   pub onward-done : (ns : List Point) (cs : List Cell) (p : Part) → nodesOf (onward share (done ns cs) p) ≡ subdivide share ns p .nodes

@@ -31,8 +31,8 @@ use Rattle.quads.specs.declared.Cell.{Cell}
 use Rattle.quads.specs.Quads.{middle, mean}
 use Rattle.cells.specs.Cells.{attempt, subdivide}
 use Rattle.cells.specs.Pieces.{Outcome, done, onward, piecesTo}
-use Rattle.cells.specs.Stages.{corners, end, marksOf, straight, firstNodes, secondNodes, nodesOf}
-use Rattle.cells.specs.Cover.{Ends, Diagonal, noDiagonal, EdgeFrom, side, across, PieceFrom, CutFrom}
+use Rattle.cells.specs.Stages.{corners, end, markAt, straight, firstNodes, secondNodes, nodesOf}
+use Rattle.cells.specs.Cover.{Ends, CutLine, noCutLine, EdgeFrom, side, across, PieceFrom, CutFrom}
 use Rattle.cells.proofs.Attempts.{Adds, middles-grown, attempt-grown, attempt-any, subdivide-by, onward-done, pieces-grown, pieces-later, ends-later}
 use Rattle.cells.proofs.Middles.{middle-comm}
 use Rattle.cells.proofs.Ranges.{edge-by, straight≢snap}
@@ -64,7 +64,7 @@ middle-ends ms a b c d (inl e) = ap₂ (middleIn ms) (e .0) (e .1)
 middle-ends ms a b c d (inr e) = ap₂ (middleIn ms) (e .0) (e .1) ∙ middle-comm (nodeFor ms (inMm d)) (nodeFor ms (inMm c))
 
 -- ---- the points that cover what the pieces add
-module _ (share : Float) (ring : Part) (ds : List Diagonal) (ps : List Part) (ms : List Point) where
+module _ (share : Float) (ring : Part) (ds : List CutLine) (ps : List Part) (ms : List Point) where
   abbrev cornerList : List Point
   cornerList = tab (λ i. inMm (getD (ring .points) i origin)) (length (ring .points))
 
@@ -72,7 +72,7 @@ module _ (share : Float) (ring : Part) (ds : List Diagonal) (ps : List Part) (ms
   sideList = tab (λ i. middleIn ms (at (ring .points) i) (at (ring .points) (suc i))) (length (ring .points))
 
   abbrev acrossList : List Point
-  acrossList = tab (λ i. middleIn ms (getD ds i noDiagonal .a) (getD ds i noDiagonal .b)) (length ds)
+  acrossList = tab (λ i. middleIn ms (getD ds i noCutLine .a) (getD ds i noCutLine .b)) (length ds)
 
   abbrev centreIn : List GridPoint → Point
   centreIn p = mean (λ k. nodeFor ms (inMm (at p k))) (length p)
@@ -93,7 +93,7 @@ module _ (share : Float) (ring : Part) (ds : List Diagonal) (ps : List Part) (ms
         length-append acrossList centreList,
         length-tab (λ i. inMm (getD (ring .points) i origin)) (length (ring .points)),
         length-tab (λ i. middleIn ms (at (ring .points) i) (at (ring .points) (suc i))) (length (ring .points)),
-        length-tab (λ i. middleIn ms (getD ds i noDiagonal .a) (getD ds i noDiagonal .b)) (length ds),
+        length-tab (λ i. middleIn ms (getD ds i noCutLine .a) (getD ds i noCutLine .b)) (length ds),
         length-tab (λ i. centreIn (getD ps i noPart .points)) (length ps),
         snaps-count (ring .edges),
       )
@@ -118,11 +118,11 @@ module _ (share : Float) (ring : Part) (ds : List Diagonal) (ps : List Part) (ms
       (has-left sideList (snaps (ring .edges) ++ (acrossList ++ centreList)) _
       (has-tab (λ i. middleIn ms (at (ring .points) i) (at (ring .points) (suc i))) (length (ring .points)) j h))
 
-  has-mark : (j : ℕ) (q : Point) → marksOf ring j ≡ Snap q → HasKeyOf cover q
+  has-mark : (j : ℕ) (q : Point) → markAt ring j ≡ Snap q → HasKeyOf cover q
   has-mark j q e = past-sides q (has-left (snaps (ring .edges)) (acrossList ++ centreList) q (has-snap (ring .edges) j q e))
 
-  has-across : (j : ℕ) → j < length ds → HasKeyOf cover (middleIn ms (getD ds j noDiagonal .a) (getD ds j noDiagonal .b))
-  has-across j h = past-snaps _ (has-left acrossList centreList _ (has-tab (λ i. middleIn ms (getD ds i noDiagonal .a) (getD ds i noDiagonal .b)) (length ds) j h))
+  has-across : (j : ℕ) → j < length ds → HasKeyOf cover (middleIn ms (getD ds j noCutLine .a) (getD ds j noCutLine .b))
+  has-across j h = past-snaps _ (has-left acrossList centreList _ (has-tab (λ i. middleIn ms (getD ds i noCutLine .a) (getD ds i noCutLine .b)) (length ds) j h))
 
   has-centre : (j : ℕ) → j < length ps → HasKeyOf cover (centreIn (getD ps j noPart .points))
   has-centre j h = past-snaps _ (has-right acrossList centreList _ (has-tab (λ i. centreIn (getD ps i noPart .points)) (length ps) j h))
@@ -130,21 +130,21 @@ module _ (share : Float) (ring : Part) (ds : List Diagonal) (ps : List Part) (ms
   -- an edge's straight middle, and the point that it snaps to
   edge-middle : (a b : GridPoint) (e : EdgeMark) → EdgeFrom ring ds a b e → HasKeyOf cover (middleIn ms a b)
   edge-middle a b e (side j h u m) = subst (HasKeyOf cover) (sym (middle-ends ms a b (at (ring .points) j) (at (ring .points) (suc j)) u)) (has-side j h)
-  edge-middle a b e (across j h u m) = subst (HasKeyOf cover) (sym (middle-ends ms a b (getD ds j noDiagonal .a) (getD ds j noDiagonal .b) u)) (has-across j h)
+  edge-middle a b e (across j h u m) = subst (HasKeyOf cover) (sym (middle-ends ms a b (getD ds j noCutLine .a) (getD ds j noCutLine .b) u)) (has-across j h)
 
   edge-snap : (a b : GridPoint) (e : EdgeMark) (q : Point) → EdgeFrom ring ds a b e → e ≡ Snap q → HasKeyOf cover q
   edge-snap a b e q (side j h u m) k = has-mark j q (sym m ∙ k)
   edge-snap a b e q (across j h u m) k = absurd (straight≢snap q (sym m ∙ k))
 
   -- what an attempt at piece i adds, where a mark of e is one of the piece's
-  adds : (i : ℕ) (e : ℕ → EdgeMark) → i < length ps → PieceFrom ring ds (getD ps i noPart) → ((k : ℕ) (q : Point) → e k ≡ Snap q → marksOf (getD ps i noPart) k ≡ Snap q)
+  adds : (i : ℕ) (e : ℕ → EdgeMark) → i < length ps → PieceFrom ring ds (getD ps i noPart) → ((k : ℕ) (q : Point) → e k ≡ Snap q → markAt (getD ps i noPart) k ≡ Snap q)
       → Adds share (HasKeyOf cover) (getD ps i noPart .points) e (λ k. nodeFor ms (inMm (at (getD ps i noPart .points) k)))
   adds i e h f m =
       record {
         corner = λ k l. let c = f .corner k l in subst (λ (q : GridPoint). HasKeyOf cover (inMm q)) (sym (c .2)) (has-corner (c .0) (c .1));
         middle = λ k l.
-            edge-by share (HasKeyOf cover) (e k) (nodeFor ms (inMm (at (p .points) k))) (nodeFor ms (inMm (at (p .points) (suc k)))) (edge-middle (at (p .points) k) (at (p .points) (suc k)) (marksOf p k) (f .edge k l))
-            (λ q u. edge-snap (at (p .points) k) (at (p .points) (suc k)) (marksOf p k) q (f .edge k l) (m k q u));
+            edge-by share (HasKeyOf cover) (e k) (nodeFor ms (inMm (at (p .points) k))) (nodeFor ms (inMm (at (p .points) (suc k)))) (edge-middle (at (p .points) k) (at (p .points) (suc k)) (markAt p k) (f .edge k l))
+            (λ q u. edge-snap (at (p .points) k) (at (p .points) (suc k)) (markAt p k) q (f .edge k l) (m k q u));
         centre = has-centre i h;
       }
     where
@@ -164,18 +164,18 @@ module _ (share : Float) {P : Point → Type 0} where
       same = unfold at in fun-ext (λ k. ends-later ns ms ps h on k)
 
   subdivide-later : (ns ms : List Point) (p : Part) → 0 < length (p .points) → Grown Anything (subdivide share ns p .nodes) ms
-      → Adds share P (p .points) (marksOf p) (λ k. nodeFor ms (inMm (at (p .points) k))) → Adds share P (p .points) straight (λ k. nodeFor ms (inMm (at (p .points) k)))
+      → Adds share P (p .points) (markAt p) (λ k. nodeFor ms (inMm (at (p .points) k))) → Adds share P (p .points) straight (λ k. nodeFor ms (inMm (at (p .points) k)))
       → Grown P ns (subdivide share ns p .nodes)
   subdivide-later ns ms p h g a b = subdivide-by share (λ (l : List Point). Grown Anything l ms → Grown P ns l) ns p once twice g
     where
       once : Grown Anything (firstNodes share ns p) ms → Grown P ns (firstNodes share ns p)
-      once g = attempt-later ns ms (p .points) (marksOf p) h g a
+      once g = attempt-later ns ms (p .points) (markAt p) h g a
 
       twice : Grown Anything (secondNodes share ns p) ms → Grown P ns (secondNodes share ns p)
       twice g = grown-trans (once (grown-trans (attempt-any share (firstNodes share ns p) (p .points) straight) g)) (attempt-later (firstNodes share ns p) ms (p .points) straight h g b)
 
 -- ---- all pieces
-module _ (share : Float) (ring : Part) (ds : List Diagonal) (ps : List Part) (ns : List Point) (f : CutFrom ring ds ps) where
+module _ (share : Float) (ring : Part) (ds : List CutLine) (ps : List Part) (ns : List Point) (f : CutFrom ring ds ps) where
   abbrev left : List Point
   left = nodesOf (piecesTo share ps ns (length ps))
 
@@ -192,7 +192,7 @@ module _ (share : Float) (ring : Part) (ds : List Diagonal) (ps : List Part) (ns
   pieces-covered =
       pieces-grown share ps ns (length ps) (λ i h ms cs e.
       subdivide-later share ms left (getD ps i noPart) (f .from i h .some) (on i h ms cs e)
-      (adds share ring ds ps left i (marksOf (getD ps i noPart)) h (f .from i h) (λ k q u. u))
+      (adds share ring ds ps left i (markAt (getD ps i noPart)) h (f .from i h) (λ k q u. u))
       (adds share ring ds ps left i straight h (f .from i h) (λ k q u. absurd (straight≢snap q u))))
 
   pub pieces-most : length (nodesOf (piecesTo share ps ns (length ps))) ≤ length ns + (2 * length (ring .points) + markCount (ring .edges) + 2 * length ds + 1)

@@ -14,7 +14,7 @@ use Rattle.marks.specs.Part.{Part}
 use Rattle.nodes.specs.Growth.{Grown, Anything}
 use Rattle.nodes.proofs.Growth.{grown-refl, grown-trans, addNodes-grown}
 use Rattle.quads.specs.Quads.{middle, mean}
-use Rattle.cells.specs.Stages.{corners, end, marksOf, firstNodes}
+use Rattle.cells.specs.Stages.{corners, end, markAt, firstNodes}
 use Rattle.cells.specs.Claims.{SameStart}
 use Rattle.cells.proofs.Attempts.{middles-grown, ends-later}
 
@@ -35,7 +35,7 @@ same-start share ns p h =
 
     -- the corners once more, over what the first attempt left
     first : Grown Anything (corners ns (p .points) .nodes) ms
-    first = middles-grown share ns (p .points) (marksOf p) (λ i l. tt) tt
+    first = middles-grown share ns (p .points) (markAt p) (λ i l. tt) tt
 
     again : Grown Anything ms (corners ms (p .points) .nodes)
     again = addNodes-grown ms _ (length (p .points)) (λ i l. tt)

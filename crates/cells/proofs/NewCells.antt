@@ -23,7 +23,7 @@ use Rattle.quads.specs.declared.Cell.{Cell}
 use Rattle.quads.specs.Quads.{edgeMiddle, mean, cellsTo}
 use Rattle.cells.specs.Cells.{Attempt, attempt, subdivide}
 use Rattle.cells.specs.Pieces.{Outcome, done, failed, onward, piecesTo}
-use Rattle.cells.specs.Stages.{corners, end, middles, centre, marksOf, straight, nodesOf}
+use Rattle.cells.specs.Stages.{corners, end, middles, centre, markAt, straight, nodesOf}
 use Rattle.quads.specs.Flat.{Listed}
 use Rattle.cells.specs.Claims.{Celled, cornersTo, CellsOf}
 use Rattle.cells.proofs.Attempts.{onward-done, pieces-next}
@@ -90,10 +90,10 @@ module _ (share : Float) where
   subdivide-cells ns p = go (eqb (t .fails) (length (p .points)) || t .far)
     where
       t : Attempt
-      t = attempt share ns (p .points) (marksOf p)
+      t = attempt share ns (p .points) (markAt p)
 
       go : (b : Bool) → Celled (length (p .points)) (cond b t (attempt share (t .nodes) (p .points) straight))
-      go true = attempt-cells ns (p .points) (marksOf p)
+      go true = attempt-cells ns (p .points) (markAt p)
       go false = attempt-cells (t .nodes) (p .points) straight
 
   -- ---- pieces one after the other

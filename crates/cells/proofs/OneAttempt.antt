@@ -21,13 +21,13 @@ use Rattle.marks.specs.declared.EdgeMark.the-variants.{Straight}
 use Rattle.nodes.specs.declared.Placed.{Placed}
 use Rattle.nodes.specs.Nodes.{mostPlaces, nodeAt, addNode, Added, addNodes}
 use Rattle.nodes.specs.Growth.{Anything, InRange}
-use Rattle.nodes.specs.Flat.{pointAt, nodesIn, over, Usable, placed}
+use Rattle.nodes.specs.Flat.{nodeIn, nodesIn, over, Usable, placed}
 use Rattle.nodes.proofs.Growth.{addNode-grown, addNode-number, addNodes-grown}
 use Rattle.nodes.proofs.Flat.{length-in, node-in, in-over, length-over, over-over}
 use Rattle.cells.specs.declared.Tried.{Tried}
 use Rattle.quads.specs.Quads.{tooFar, edgeMiddle, total, mean, holds, cellsTo, noCell}
 use Rattle.cells.specs.Cells.{Attempt, attempt}
-use Rattle.cells.specs.Stages.{marksOf}
+use Rattle.cells.specs.Stages.{markAt}
 use Rattle.marks.specs.Edges.{marksIn}
 use Rattle.cells.specs.Asks.{Ask, asksFor, attemptAsks}
 use Rattle.cells.specs.Rims.{rimsBy}
@@ -95,7 +95,7 @@ module _ (share : Float) (l : List Float) (u : ℕ) (ps : List GridPoint) (es : 
   Ms = addNodes (Vs .nodes) (λ i. edgeMiddle share (getD (marksIn es n) i Straight) (end i) (end (suc i))) n
 
   abbrev A : Attempt
-  A = tryWith share (nodesIn l u) (take n ps) (marksOf (partIn ps es n)) n
+  A = tryWith share (nodesIn l u) (take n ps) (markAt (partIn ps es n)) n
 
   vs-ms : length (Vs .nodes) ≤ length (Ms .nodes)
   vs-ms = addNodes-grown {P = Anything} (Vs .nodes) (λ i. edgeMiddle share (getD (marksIn es n) i Straight) (end i) (end (suc i))) n (λ i h. tt) .longer
@@ -109,7 +109,7 @@ module _ {share : Float} {l : List Float} {u : ℕ} {ps : List GridPoint} {es : 
   corners = length-take-le n ps (omega (arith, f .long, f .few))
 
   try-is : A share l u ps es n ≡ attemptIn share l u ps es n
-  try-is = ap (tryWith share (nodesIn l u) (take n ps) (marksOf (partIn ps es n))) (sym corners) ∙ same-try share (nodesIn l u) (take n ps) (marksOf (partIn ps es n))
+  try-is = ap (tryWith share (nodesIn l u) (take n ps) (markAt (partIn ps es n))) (sym corners) ∙ same-try share (nodesIn l u) (take n ps) (markAt (partIn ps es n))
 
   all-fit : length (A share l u ps es n .nodes) ≤ mostPlaces
   all-fit = omega (arith, ap (λ (t : Attempt). length (t .nodes)) try-is, f .fits)
@@ -175,17 +175,17 @@ module _ {share : Float} {l : List Float} {u : ℕ} {ps : List GridPoint} {es : 
       corner-room j h = omega (arith, adding.listed s j h, after-middles .room, adding.used-more add-middles t)
 
       -- a corner, read from the list as it is now
-      corner-is : (i : ℕ) → i < n → pointAt m' (getD vs i 0) ≡ endAt m v vs n i
+      corner-is : (i : ℕ) → i < n → nodeIn m' (getD vs i 0) ≡ endAt m v vs n i
       corner-is i h = adding.read t (getD vs i 0) (adding.listed s i h) ∙ ap (nodeAt (nodesIn m v)) (turns.here vs n i h)
 
-      centre-is : mean (λ i. pointAt m' (getD vs i 0)) n ≡ mean (endAt m v vs n) n
-      centre-is = mean-ext (λ i. pointAt m' (getD vs i 0)) (endAt m v vs n) n corner-is
+      centre-is : mean (λ i. nodeIn m' (getD vs i 0)) n ≡ mean (endAt m v vs n) n
+      centre-is = mean-ext (λ i. nodeIn m' (getD vs i 0)) (endAt m v vs n) n corner-is
 
       ms-now : nodesIn m' w ≡ Ms share l u ps es n .nodes
       ms-now = adding.now-is t ∙ ap (λ (e : Added). e .nodes) ms-is
 
       -- the centre p
-      module _ {p : Point} (c : p ≡ mean (λ i. pointAt m' (getD vs i 0)) n) where
+      module _ {p : Point} (c : p ≡ mean (λ i. nodeIn m' (getD vs i 0)) n) where
         pub centre-ranged : InRange p
         centre-ranged = subst InRange (sym (c ∙ centre-is)) (mean-ranged (endAt m v vs n) n (f .some) (f .few) (λ i h. end-ranged i))
 
@@ -246,14 +246,14 @@ module _ {share : Float} {l : List Float} {u : ℕ} {ps : List GridPoint} {es : 
           pub used-all : r .used ≡ length (attemptIn share l u ps es n .nodes)
           used-all = used-is ∙ ap (λ (t : Attempt). length (t .nodes)) try-is
 
-          asks-is : (o : ℕ → Bool) → asksFor (take n vs) (take n ks) (r .number) o n ≡ askWith share (nodesIn l u) (take n ps) (marksOf (partIn ps es n)) o n
+          asks-is : (o : ℕ → Bool) → asksFor (take n vs) (take n ks) (r .number) o n ≡ askWith share (nodesIn l u) (take n ps) (markAt (partIn ps es n)) o n
           unfolding addNodes
           asks-is o = λ j. asksFor (s .numbers j) ((t .numbers ∙ ap (λ (e : Added). e .numbers) ms-is) j) (r-is j .number) o n
 
           pub rims-are : (bs : List Bool) (rs : List ℕ) {qs : List ℕ} → qs ≡ rimsBy u (r .used) (asksFor (take n vs) (take n ks) (r .number) (sideAt bs) n) rs
               → qs ≡ rimsBy u (length (attemptIn share l u ps es n .nodes)) (attemptAsksIn share l u ps es bs n) rs
           rims-are bs rs e =
-              let a = ap (askWith share (nodesIn l u) (take n ps) (marksOf (partIn ps es n)) (sideAt bs)) (sym corners) ∙ same-asks share (nodesIn l u) (take n ps) (marksOf (partIn ps es n)) (sideAt bs) in
+              let a = ap (askWith share (nodesIn l u) (take n ps) (markAt (partIn ps es n)) (sideAt bs)) (sym corners) ∙ same-asks share (nodesIn l u) (take n ps) (markAt (partIn ps es n)) (sideAt bs) in
               e ∙ (λ j. rimsBy u (used-all j) ((asks-is (sideAt bs) ∙ a) j) rs)
 
           -- what the function answers

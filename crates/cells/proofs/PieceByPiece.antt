@@ -13,7 +13,7 @@ use Rattle.marks.specs.Part.{Part, noPart}
 use Rattle.quads.specs.declared.Cell.{Cell}
 use Rattle.cells.specs.Cells.{Attempt, subdivide}
 use Rattle.cells.specs.Pieces.{Outcome, done, failed, onward, piecesTo, nodesOver, cellsOver}
-use Rattle.cells.specs.Claims.{Sliced, Over}
+use Rattle.cells.specs.Claims.{CellsPerPiece, Over}
 use Rattle.cells.proofs.NewCells.{subdivide-cells}
 
 module _ (share : Float) where
@@ -37,7 +37,7 @@ module _ (share : Float) where
 
   -- the same after the cells cs
   abbrev OverFrom : List Point → List Cell → List Part → Outcome → Type 0
-  OverFrom ns cs ps (done ms ds) = (ms ≡ nodesOver share ns ps) × (ds ≡ cs ++ cellsOver share ns ps) × Sliced share ns ps
+  OverFrom ns cs ps (done ms ds) = (ms ≡ nodesOver share ns ps) × (ds ≡ cs ++ cellsOver share ns ps) × CellsPerPiece share ns ps
   OverFrom ns cs ps (failed ms n k) = Unit {0}
 
   over-cons : (ns : List Point) (cs : List Cell) (p : Part) (ps : List Part) → subdivide share ns p .fails ≡ length (p .points)

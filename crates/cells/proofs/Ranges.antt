@@ -31,8 +31,8 @@ use Rattle.nodes.proofs.Growth.{grown-refl, grown-trans, grown-each, addNodes-g
 use Rattle.quads.specs.Quads.{middle, tooFar, edgeMiddle, total, mean}
 use Rattle.cells.specs.Cells.{attempt, subdivide}
 use Rattle.cells.specs.Pieces.{Outcome, onward, piecesTo}
-use Rattle.cells.specs.Stages.{corners, end, marksOf, straight, firstNodes, nodesOf}
-use Rattle.cells.specs.Claims.{Fair}
+use Rattle.cells.specs.Stages.{corners, end, markAt, straight, firstNodes, nodesOf}
+use Rattle.cells.specs.Claims.{ValidPiece}
 use Rattle.cells.proofs.Attempts.{attempt-grown, subdivide-grown, onward-grown}
 
 -- ---- a corner, a middle, a mean
@@ -74,7 +74,7 @@ straight≢snap q e = let z : _≡_ {A = ℕ} 0 1 = cc in omega arith
 
 -- ---- an attempt, a piece, all pieces
 module _ (share : Float) where
-  pub attempt-ranged : (ns : List Point) (p : Part) (e : ℕ → EdgeMark) → Fair p → ((i : ℕ) (q : Point) → i < length (p .points) → e i ≡ Snap q → InRange q) → EachNode InRange ns → Grown InRange ns (attempt share ns (p .points) e .nodes)
+  pub attempt-ranged : (ns : List Point) (p : Part) (e : ℕ → EdgeMark) → ValidPiece p → ((i : ℕ) (q : Point) → i < length (p .points) → e i ≡ Snap q → InRange q) → EachNode InRange ns → Grown InRange ns (attempt share ns (p .points) e .nodes)
   attempt-ranged ns p e f g a =
       attempt-grown share ns ps e
       (record {
@@ -94,14 +94,14 @@ module _ (share : Float) where
           grown-each {P = InRange} ns (corners ns ps .nodes) (addNodes-grown ns (λ i. inMm (getD ps i origin)) (length ps) new) a (getD (corners ns ps .numbers) (i % length ps) 0)
           (addNodes-number ns (λ i. inMm (getD ps i origin)) (length ps) (i % length ps) (mod-lt i (f .some)) .low)
 
-  pub subdivide-ranged : (ns : List Point) (p : Part) → Fair p → EachNode InRange ns → Grown InRange ns (subdivide share ns p .nodes)
+  pub subdivide-ranged : (ns : List Point) (p : Part) → ValidPiece p → EachNode InRange ns → Grown InRange ns (subdivide share ns p .nodes)
   subdivide-ranged ns p f a =
       subdivide-grown share ns p first (attempt-ranged (firstNodes share ns p) p straight f (λ i q l e. absurd (straight≢snap q e)) (grown-each {P = InRange} ns (firstNodes share ns p) first a))
     where
       first : Grown InRange ns (firstNodes share ns p)
-      first = attempt-ranged ns p (marksOf p) f (f .snap) a
+      first = attempt-ranged ns p (markAt p) f (f .snap) a
 
-  pub pieces-ranged : (ps : List Part) (ns : List Point) (n : ℕ) → ((i : ℕ) → i < n → Fair (getD ps i noPart)) → EachNode InRange ns → Grown InRange ns (nodesOf (piecesTo share ps ns n))
+  pub pieces-ranged : (ps : List Part) (ns : List Point) (n : ℕ) → ((i : ℕ) → i < n → ValidPiece (getD ps i noPart)) → EachNode InRange ns → Grown InRange ns (nodesOf (piecesTo share ps ns n))
   unfolding piecesTo
   pieces-ranged ps ns zero f a = grown-refl ns
   pieces-ranged ps ns (suc n) f a = more (pieces-ranged ps ns n (λ i k. f i (omega arith)) a)
@@ -111,5 +111,5 @@ module _ (share : Float) where
           grown-trans g (onward-grown share (piecesTo share ps ns n) (getD ps n noPart)
           (λ ms cs e. subdivide-ranged ms (getD ps n noPart) (f n (le-refl (suc n))) (subst (λ (o : Outcome). EachNode InRange (nodesOf o)) e (grown-each {P = InRange} ns (nodesOf (piecesTo share ps ns n)) g a))))
 
-  pub pieces-in-range : (ps : List Part) (ns : List Point) (n : ℕ) → ((i : ℕ) → i < n → Fair (getD ps i noPart)) → EachNode InRange ns → EachNode InRange (nodesOf (piecesTo share ps ns n))
+  pub pieces-in-range : (ps : List Part) (ns : List Point) (n : ℕ) → ((i : ℕ) → i < n → ValidPiece (getD ps i noPart)) → EachNode InRange ns → EachNode InRange (nodesOf (piecesTo share ps ns n))
   pieces-in-range ps ns n f a = grown-each {P = InRange} ns (nodesOf (piecesTo share ps ns n)) (pieces-ranged ps ns n f a) a

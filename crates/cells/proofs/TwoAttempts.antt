@@ -15,17 +15,17 @@ use Rattle.marks.specs.declared.EdgeMark.the-variants.{Straight}
 use Rattle.nodes.specs.Growth.{InRange, EachNode}
 use Rattle.nodes.specs.Flat.{nodesIn, over}
 use Rattle.nodes.specs.declared.nearby.Nearby.{Nearby}
-use Rattle.nodes.specs.Nearby.{Held}
+use Rattle.nodes.specs.Nearby.{ValidNearby}
 use Rattle.nodes.proofs.Collection.{held-over}
 use Rattle.nodes.proofs.Growth.{grown-each}
 use Rattle.nodes.proofs.Flat.{length-in, in-over, length-over, over-over}
 use Rattle.cells.specs.declared.Tried.{Tried}
 use Rattle.cells.specs.Cells.{Attempt, attempt, subdivide}
-use Rattle.cells.specs.Stages.{marksOf, straight}
+use Rattle.cells.specs.Stages.{markAt, straight}
 use Rattle.marks.specs.Edges.{marksIn}
 use Rattle.cells.specs.Asks.{Ask, attemptAsks, subdivideAsks}
 use Rattle.cells.specs.Rims.{rimsBy}
-use Rattle.cells.specs.Flat.{partIn, sideAt, attemptIn, attemptAsksIn, subdivideIn, subdivideAsksIn, triedOf, CanTry, CanDivide}
+use Rattle.cells.specs.Flat.{partIn, sideAt, attemptIn, attemptAsksIn, subdivideIn, subdivideAsksIn, triedOf, CanTry, CanSubdividePiece}
 use Rattle.quads.specs.Flat.{overCells}
 use Rattle.cells.proofs.Attempts.{attempt-any, subdivide-by}
 use Rattle.cells.proofs.Ranges.{attempt-ranged, straight≢snap}
@@ -55,7 +55,7 @@ Answers t xs l u q rs r m q' rs' = (r ≡ triedOf t) × (m ≡ over l (t .nodes)
 same-answers : (t s : Attempt) (xs ys : List Ask) (l : List Float) (u : ℕ) (q rs : List ℕ) {r : Tried} {m : List Float} {q' rs' : List ℕ} → t ≡ s → xs ≡ ys → Answers t xs l u q rs r m q' rs' → Answers s ys l u q rs r m q' rs'
 same-answers t s xs ys l u q rs {r} {m} {q'} {rs'} e f a = subst (λ (xs : List Ask). Answers s xs l u q rs r m q' rs') f (subst (λ (t : Attempt). Answers t xs l u q rs r m q' rs') e a)
 
-module _ {share : Float} {l : List Float} {u : ℕ} {ps : List GridPoint} {es : List Edge} {n : ℕ} (f : CanDivide share l u ps es n) where
+module _ {share : Float} {l : List Float} {u : ℕ} {ps : List GridPoint} {es : List Edge} {n : ℕ} (f : CanSubdividePiece share l u ps es n) where
   abbrev T1 : Attempt
   T1 = attemptIn share l u ps es n
 
@@ -114,12 +114,12 @@ module _ {share : Float} {l : List Float} {u : ℕ} {ps : List GridPoint} {es : 
 
   -- the nodes of the first attempt
   first-longer : u ≤ length (T1 .nodes)
-  first-longer = omega (arith, attempt-any share (nodesIn l u) (take n ps) (marksOf (partIn ps es n)) .longer, length-in l u)
+  first-longer = omega (arith, attempt-any share (nodesIn l u) (take n ps) (markAt (partIn ps es n)) .longer, length-in l u)
 
   ranged : EachNode InRange (T1 .nodes)
   ranged =
       let a = nodes-ranged (f .usable) in
-      grown-each {P = InRange} (nodesIn l u) (T1 .nodes) (attempt-ranged share (nodesIn l u) (partIn ps es n) (marksOf (partIn ps es n)) (f .fair) (f .fair .snap) a) a
+      grown-each {P = InRange} (nodesIn l u) (T1 .nodes) (attempt-ranged share (nodesIn l u) (partIn ps es n) (markAt (partIn ps es n)) (f .fair) (f .fair .snap) a) a
 
   -- the first attempt is made: r, m and q'
   module _ (q : List ℕ) (bs : List Bool) (rs : List ℕ) {r : Tried} {m : List Float} {q' rs' : List ℕ} (t : Answers T1 (A1 bs) l u q rs r m q' rs') where
@@ -138,8 +138,8 @@ module _ {share : Float} {l : List Float} {u : ℕ} {ps : List GridPoint} {es : 
         same-answers T1 S (A1 bs) (AS bs) l u q rs (refused (λ k. h (fails-is ∙ k)) (sym far-is ∙ e)) (asks-refused bs (λ k. h (fails-is ∙ k)) (sym far-is ∙ e)) t
 
     -- what was collected of the list stays true of it
-    pub held-first : {c : Nearby} {numbers : List ℕ} {xs : List Float} → Held l u c numbers xs → Held m (r .used) c numbers xs
-    held-first {c} {numbers} {xs} h = held-over l m u (r .used) (T1 .nodes) c numbers xs (t .1) (ap (λ (r : Tried). r .used) (t .0)) (attempt-any share (nodesIn l u) (take n ps) (marksOf (partIn ps es n))) h
+    pub held-first : {c : Nearby} {numbers : List ℕ} {xs : List Float} → ValidNearby l u c numbers xs → ValidNearby m (r .used) c numbers xs
+    held-first {c} {numbers} {xs} h = held-over l m u (r .used) (T1 .nodes) c numbers xs (t .1) (ap (λ (r : Tried). r .used) (t .0)) (attempt-any share (nodesIn l u) (take n ps) (markAt (partIn ps es n))) h
 
     -- ---- two attempts
     module _ (h : r .fails ≡ n → ⊥) (e : r .far ≡ false) where
@@ -182,12 +182,12 @@ module _ {share : Float} {l : List Float} {u : ℕ} {ps : List GridPoint} {es : 
       rims-both : rimsBy (length (T1 .nodes)) (length (T2 .nodes)) (A2 bs) (rimsBy u (length (T1 .nodes)) (A1 bs) rs) ≡ rimsBy u (length (T2 .nodes)) (A1 bs ++ A2 bs) rs
       rims-both =
           rims-then u (length (T1 .nodes)) (length (T2 .nodes)) (A1 bs) (A2 bs) rs first-longer (attempt-any share (T1 .nodes) (take n ps) straight .longer)
-          (attempt-listed share (nodesIn l u) (take n ps) (marksOf (partIn ps es n)) (sideAt bs))
+          (attempt-listed share (nodesIn l u) (take n ps) (markAt (partIn ps es n)) (sideAt bs))
 
       pub if-again : {r' : Tried} {m' : List Float} {q'' rs'' : List ℕ} → Answers (attemptIn share m (r .used) ps plain n) (attemptAsksIn share m (r .used) ps plain bs n) m (r .used) q' rs' r' m' q'' rs''
           → Answers S (AS bs) l u q rs r' m' q'' rs''
       if-again {r'} {m'} {q''} {rs''} d =
-          let a = attempt-cells share (nodesIn l u) (take n ps) (marksOf (partIn ps es n)) .many in
+          let a = attempt-cells share (nodesIn l u) (take n ps) (markAt (partIn ps es n)) .many in
           let b = attempt-cells share (T1 .nodes) (take n ps) straight .many in
           let all = second-is ∙ last in (
             d .0 ∙ ap triedOf all,

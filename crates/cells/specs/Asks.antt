@@ -14,7 +14,7 @@ use Rattle.marks.specs.declared.EdgeMark.the-variants.{Straight, Snap}
 use Rattle.marks.specs.Part.{Part, noPart}
 use Rattle.cells.specs.Cells.{attempt}
 use Rattle.cells.specs.Pieces.{Outcome, done, failed, piecesTo}
-use Rattle.cells.specs.Stages.{corners, middles, centre, marksOf, straight}
+use Rattle.cells.specs.Stages.{corners, middles, centre, markAt, straight}
 
 -- what a node is asked for as: "a corner or the middle of a ring edge", or "a centre or the middle of a cut"
 pub data Role : Type 0 where
@@ -54,7 +54,7 @@ isMarked (Snap p) = true
 
 -- of the piece r, so marked: edge k is a ring edge
 abbrev pub ofRing : Part → ℕ → Bool
-ofRing r k = isMarked (marksOf r k)
+ofRing r k = isMarked (markAt r k)
 
 -- ---- the asks of n corners with the numbers vs, n middles with the numbers ms, edge i a ring edge if o i, and the centre c
 unfoldable pub asksFor : List ℕ → List ℕ → ℕ → (ℕ → Bool) → ℕ → List Ask
@@ -67,8 +67,8 @@ attemptAsks share ns ps e o = asksFor (corners ns ps .numbers) (middles share ns
 -- a piece: its first attempt, and the second if "the piece is done again on straight middles"
 unfoldable pub subdivideAsks : Float → List Point → Part → (ℕ → Bool) → List Ask
 subdivideAsks share ns p o =
-    let t = attempt share ns (p .points) (marksOf p) in
-    attemptAsks share ns (p .points) (marksOf p) o
+    let t = attempt share ns (p .points) (markAt p) in
+    attemptAsks share ns (p .points) (markAt p) o
     ++ cond (eqb (t .fails) (length (p .points)) || t .far) [] (attemptAsks share (t .nodes) (p .points) straight o)
 
 -- one piece more; after a failure, none. r is the piece with each ring edge marked

@@ -15,14 +15,14 @@ use Rattle.quads.specs.Quads.{middle, mean}
 use Rattle.quads.specs.Flat.{Listed}
 use Rattle.cells.specs.Cells.{Attempt, subdivide}
 use Rattle.cells.specs.Pieces.{Outcome, done, failed, nodesOver, cellsOver}
-use Rattle.cells.specs.Stages.{end, marksOf, firstNodes}
+use Rattle.cells.specs.Stages.{end, markAt, firstNodes}
 
 -- ---- what a piece brings: at most 60 corners, on the sheet, and snap points that are finite and within 1,024 mm
-pub record Fair (p : Part) : Type 0 where
+pub record ValidPiece (p : Part) : Type 0 where
   pub some : 0 < length (p .points)
   pub few : length (p .points) ≤ 60
   pub corner : (i : ℕ) → i < length (p .points) → OnSheet (getD (p .points) i origin)
-  pub snap : (i : ℕ) (q : Point) → i < length (p .points) → marksOf p i ≡ Snap q → InRange q
+  pub snap : (i : ℕ) (q : Point) → i < length (p .points) → markAt p i ≡ Snap q → InRange q
 
 -- ---- the second attempt at a piece, over the nodes that the first left, has the first one's corners, straight middles and centre
 pub record SameStart (share : Float) (ns : List Point) (p : Part) : Type 0 where
@@ -37,10 +37,10 @@ pub record Celled (n : ℕ) (t : Attempt) : Type 0 where
   pub listed : All (Listed (length (t .nodes))) (t .cells)
 
 -- "a piece of k corners has the next k new cells", and none of them fails
-abbrev pub Sliced : Float → List Point → List Part → Type 0
-Sliced share ns [] = Unit {0}
-Sliced share ns (p ∷ ps) =
-    (length (subdivide share ns p .cells) ≡ length (p .points)) × (subdivide share ns p .fails ≡ length (p .points)) × Sliced share (subdivide share ns p .nodes) ps
+abbrev pub CellsPerPiece : Float → List Point → List Part → Type 0
+CellsPerPiece share ns [] = Unit {0}
+CellsPerPiece share ns (p ∷ ps) =
+    (length (subdivide share ns p .cells) ≡ length (p .points)) × (subdivide share ns p .fails ≡ length (p .points)) × CellsPerPiece share (subdivide share ns p .nodes) ps
 
 -- the corners of the first i pieces
 abbrev pub cornersTo : List Part → ℕ → ℕ
@@ -54,5 +54,5 @@ CellsOf n (failed ns m k) = Unit {0}
 
 -- the pieces ps over ns, all of them done, leave what subdivide gives of each over the nodes that the one before left
 abbrev pub Over : Float → List Point → List Part → Outcome → Type 0
-Over share ns ps (done ms cs) = (ms ≡ nodesOver share ns ps) × (cs ≡ cellsOver share ns ps) × Sliced share ns ps
+Over share ns ps (done ms cs) = (ms ≡ nodesOver share ns ps) × (cs ≡ cellsOver share ns ps) × CellsPerPiece share ns ps
 Over share ns ps (failed ms n k) = Unit {0}

@@ -21,8 +21,8 @@ use Rattle.nodes.specs.Flat.{nodesIn, over, Usable}
 use Rattle.cells.specs.declared.Tried.{Tried}
 use Rattle.quads.specs.Quads.{tooFar, edgeMiddle}
 use Rattle.cells.specs.Cells.{Attempt, attempt, subdivide}
-use Rattle.cells.specs.Stages.{marksOf}
-use Rattle.cells.specs.Claims.{Fair}
+use Rattle.cells.specs.Stages.{markAt}
+use Rattle.cells.specs.Claims.{ValidPiece}
 use Rattle.cells.specs.Asks.{Ask, attemptAsks, subdivideAsks}
 
 -- ---- the piece that arrays hold
@@ -80,14 +80,14 @@ sideAt bs i = getD bs i false
 
 -- ---- an attempt
 abbrev pub attemptIn : Float → List Float → ℕ → List GridPoint → List Edge → ℕ → Attempt
-attemptIn share l u ps es n = attempt share (nodesIn l u) (take n ps) (marksOf (partIn ps es n))
+attemptIn share l u ps es n = attempt share (nodesIn l u) (take n ps) (markAt (partIn ps es n))
 
 abbrev pub triedOf : Attempt → Tried
 triedOf t = record { used = length (t .nodes); fails = t .fails; far = t .far }
 
 -- what it asks for, bs saying which edges are ring edges
 abbrev pub attemptAsksIn : Float → List Float → ℕ → List GridPoint → List Edge → List Bool → ℕ → List Ask
-attemptAsksIn share l u ps es bs n = attemptAsks share (nodesIn l u) (take n ps) (marksOf (partIn ps es n)) (sideAt bs)
+attemptAsksIn share l u ps es bs n = attemptAsks share (nodesIn l u) (take n ps) (markAt (partIn ps es n)) (sideAt bs)
 
 -- a fair piece, with room for the nodes of one attempt
 pub record CanTry (share : Float) (l : List Float) (u : ℕ) (ps : List GridPoint) (es : List Edge) (n : ℕ) : Type 0 where
@@ -95,7 +95,7 @@ pub record CanTry (share : Float) (l : List Float) (u : ℕ) (ps : List GridPoin
   pub some : 0 < n
   pub few : n ≤ 60
   pub long : length ps ≡ 60
-  pub fair : Fair (partIn ps es n)
+  pub fair : ValidPiece (partIn ps es n)
   pub fits : length (attemptIn share l u ps es n .nodes) ≤ mostPlaces
   pub room : length (attemptIn share l u ps es n .nodes) * 2 ≤ length l
 
@@ -107,11 +107,11 @@ abbrev pub subdivideAsksIn : Float → List Float → ℕ → List GridPoint →
 subdivideAsksIn share l u ps es bs n = subdivideAsks share (nodesIn l u) (partIn ps es n) (sideAt bs)
 
 -- a fair piece, with room for the nodes of all attempts that are made
-pub record CanDivide (share : Float) (l : List Float) (u : ℕ) (ps : List GridPoint) (es : List Edge) (n : ℕ) : Type 0 where
+pub record CanSubdividePiece (share : Float) (l : List Float) (u : ℕ) (ps : List GridPoint) (es : List Edge) (n : ℕ) : Type 0 where
   pub usable : Usable l u
   pub some : 0 < n
   pub few : n ≤ 60
   pub long : length ps ≡ 60
-  pub fair : Fair (partIn ps es n)
+  pub fair : ValidPiece (partIn ps es n)
   pub fits : length (subdivideIn share l u ps es n .nodes) ≤ mostPlaces
   pub room : length (subdivideIn share l u ps es n .nodes) * 2 ≤ length l

@@ -32,15 +32,15 @@ abbrev pub centre : Float → List Point → List GridPoint → (ℕ → EdgeMar
 centre share ns ps e = addNodes (middles share ns ps e .nodes) (λ i. mean (end ns ps) (length ps)) 1
 
 -- the marks of a piece's edges, and those of the second attempt
-abbrev pub marksOf : Part → ℕ → EdgeMark
-marksOf p k = getD (p .edges) k Straight
+abbrev pub markAt : Part → ℕ → EdgeMark
+markAt p k = getD (p .edges) k Straight
 
 abbrev pub straight : ℕ → EdgeMark
 straight k = Straight
 
 -- the nodes that the first attempt at a piece leaves, and the second after it
 abbrev pub firstNodes : Float → List Point → Part → List Point
-firstNodes share ns p = attempt share ns (p .points) (marksOf p) .nodes
+firstNodes share ns p = attempt share ns (p .points) (markAt p) .nodes
 
 abbrev pub secondNodes : Float → List Point → Part → List Point
 secondNodes share ns p = attempt share (firstNodes share ns p) (p .points) straight .nodes

@@ -9,11 +9,11 @@ ghost use Prim.Native.Nat.{ℕ, _-_, _*_, _≤_};
 ghost use lib.ListN.{length, take};
 ghost use Rattle.laws.specs.Bounded.{any};
 ghost use Rattle.nodes.specs.Flat.{over};
-ghost use Rattle.nodes.specs.Nearby.{Held};
+ghost use Rattle.nodes.specs.Nearby.{ValidNearby};
 ghost use Rattle.cells.specs.Asks.{asksFor};
 ghost use Rattle.cells.specs.Rims.{rimsBy};
 ghost use Rattle.quads.specs.Flat.{ListedTo, overCells};
-ghost use Rattle.cells.specs.Flat.{CanAdd, Adds, cornerAt, middleAt, farAt, CanTry, CanDivide, attemptIn, subdivideIn, triedOf};
+ghost use Rattle.cells.specs.Flat.{CanAdd, Adds, cornerAt, middleAt, farAt, CanTry, CanSubdividePiece, attemptIn, subdivideIn, triedOf};
 ghost use Rattle.cells.specs.Flat.{cleared, setAt, sideAt, attemptAsksIn, subdivideAsksIn};
 use marks::Edge;
 use marks::EdgeMark;
@@ -52,7 +52,7 @@ fn add_corners(
     numbers: &[NodeNumber],
     xs: &[f64],
 ) -> Numbers
-    requires { ⌜ CanAdd (now nodes) used (cornerAt points n) n × Held (now nodes) used near (now numbers) (now xs) ⌝ }
+    requires { ⌜ CanAdd (now nodes) used (cornerAt points n) n × ValidNearby (now nodes) used near (now numbers) (now xs) ⌝ }
     ensures { λ r. ⌜ Adds (now (nodes .entry)) used (cornerAt points n) n (now (nodes .exit)) (r .used) (r .list) ⌝ }
 {
     let mut list = [0; 60];
@@ -81,7 +81,7 @@ fn add_middles(
     numbers: &[NodeNumber],
     xs: &[f64],
 ) -> MiddleNumbers
-    requires { ⌜ CanAdd (now nodes) used (middleAt share (now nodes) used vs marks n) n × ListedTo used vs n × Held (now nodes) used near (now numbers) (now xs) ⌝ }
+    requires { ⌜ CanAdd (now nodes) used (middleAt share (now nodes) used vs marks n) n × ListedTo used vs n × ValidNearby (now nodes) used near (now numbers) (now xs) ⌝ }
     ensures { λ r. ⌜ Adds (now (nodes .entry)) used (middleAt share (now (nodes .entry)) used vs marks n) n (now (nodes .exit)) (r .used) (r .list)
         × (r .far ≡ any (farAt share (now (nodes .entry)) used vs marks n) n) ⌝ }
 {
@@ -167,7 +167,7 @@ fn attempt(
     numbers: &[NodeNumber],
     xs: &[f64],
 ) -> Tried
-    requires { ⌜ CanTry share (now nodes) used points marks n × (n * 4 ≤ length (now cells)) × Held (now nodes) used near (now numbers) (now xs)
+    requires { ⌜ CanTry share (now nodes) used points marks n × (n * 4 ≤ length (now cells)) × ValidNearby (now nodes) used near (now numbers) (now xs)
         × (length (attemptIn share (now nodes) used points marks n .nodes) ≤ length (now rims)) ⌝ }
     ensures { λ r. ⌜ (r ≡ triedOf (attemptIn share (now (nodes .entry)) used points marks n))
         × (now (nodes .exit) ≡ over (now (nodes .entry)) (attemptIn share (now (nodes .entry)) used points marks n .nodes))
@@ -205,7 +205,7 @@ pub fn subdivide(
     numbers: &[NodeNumber],
     xs: &[f64],
 ) -> Tried
-    requires { ⌜ CanDivide share (now nodes) used points marks n × (n * 4 ≤ length (now cells)) × Held (now nodes) used near (now numbers) (now xs)
+    requires { ⌜ CanSubdividePiece share (now nodes) used points marks n × (n * 4 ≤ length (now cells)) × ValidNearby (now nodes) used near (now numbers) (now xs)
         × (length (subdivideIn share (now nodes) used points marks n .nodes) ≤ length (now rims)) ⌝ }
     ensures { λ r. ⌜ (r ≡ triedOf (subdivideIn share (now (nodes .entry)) used points marks n))
         × (now (nodes .exit) ≡ over (now (nodes .entry)) (subdivideIn share (now (nodes .entry)) used points marks n .nodes))

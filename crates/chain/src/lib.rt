@@ -42,7 +42,7 @@ pub fn cosine(a: GridPoint, na: f64, b: GridPoint, nb: f64) -> f64
     if b.is_zero() {
         return 1.0;
     }
-    vector::clamp(vector::square_mm(a.dot(b)) / (na * nb), -1.0, 1.0)
+    vector::clamp(vector::in_square_mm(a.dot(b)) / (na * nb), -1.0, 1.0)
 }
 
 // The length of the step to each point of a chain, and of the chain up to it.

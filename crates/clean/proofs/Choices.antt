@@ -12,7 +12,7 @@ use Rattle.vector.specs.declared.GridPoint.{GridPoint}
 use Rattle.vector.specs.Grid.{origin, at, prev}
 use Rattle.vector.proofs.Rings.{at-in, at-next, prev-any}
 use Rattle.clean.specs.declared.Choice.{Choice}
-use Rattle.clean.specs.Rings.{placesOf, chosen, Chosen}
+use Rattle.clean.specs.Rings.{placesOf, chosen, ValidChoice}
 use Rattle.clean.proofs.Places.{map-getD, pick-length}
 
 -- ---- a place as an index of the ring, and as an offset of 8 bytes each
@@ -38,7 +38,7 @@ module _ (l : List GridPoint) (o : 0 < length l) where
 abbrev pub point : List GridPoint → Choice → ℕ → GridPoint
 point ring c i = getD ring (getD (c .places) i 0) origin
 
-module _ (ring : List GridPoint) (c : Choice) (a : Chosen ring c) where
+module _ (ring : List GridPoint) (c : Choice) (a : ValidChoice ring c) where
   pub places-length : length (placesOf c) ≡ c .count
   places-length = length-take-le (c .count) (c .places) (omega (arith, a .count, a .size))
 

@@ -47,7 +47,7 @@ impl Limits {
     };
 
     // The limits of the delivered divider.
-    pub fn new() -> Limits
+    pub fn on_delivery() -> Limits
         ensures { λ r. ⌜ r ≡ delivered ⌝ }
     {
         Limits::DELIVERED

@@ -21,7 +21,7 @@ use Rattle.corner.specs.declared.Limits.{Limits}
 use Rattle.parts.specs.Cut.{rotate, oriented, makeSubPolygon, turnedArea, firstPoints, secondPoints, firstPart, secondPart, turnedIn}
 use Rattle.split.specs.Split.{Stack, splitBadVertices}
 use Rattle.cuts.specs.Counts.{Sound}
-use Rattle.cuts.specs.Areas.{areas, Upright, turnedBy, Weighed}
+use Rattle.cuts.specs.Areas.{areas, NotNegative, turnedBy, AreasBalance}
 use Rattle.cuts.proofs.Machine.{worstOf, emptied}
 use Rattle.parts.proofs.Rotation.{length-rotate}
 use Rattle.cuts.proofs.Parts.{keep}
@@ -48,20 +48,20 @@ sub-area : (r : List GridPoint) (es : List EdgeMark) → polygonArea (makeSubPol
 unfolding makeSubPolygon turnedArea
 sub-area r es = oriented-area r es (polygonArea r) refl
 
-oriented-upright : (r : List GridPoint) (es : List EdgeMark) (z : ℤ) → polygonArea r ≡ z → Upright (oriented (nonNeg z) r es)
+oriented-upright : (r : List GridPoint) (es : List EdgeMark) (z : ℤ) → polygonArea r ≡ z → NotNegative (oriented (nonNeg z) r es)
 unfolding oriented
 oriented-upright r es (pos n) e = subst (λ z. T (nonNeg z)) (sym e) tt
 oriented-upright r es (negsuc n) e = subst (λ z. T (nonNeg z)) (sym (area-reverse r ∙ ap negℤ e)) tt
 
-sub-upright : (r : List GridPoint) (es : List EdgeMark) → Upright (makeSubPolygon r es)
+sub-upright : (r : List GridPoint) (es : List EdgeMark) → NotNegative (makeSubPolygon r es)
 unfolding makeSubPolygon
 sub-upright r es = oriented-upright r es (polygonArea r) refl
 
-first-upright : (p : Part) (v k : ℕ) → Upright (firstPart p v k)
+first-upright : (p : Part) (v k : ℕ) → NotNegative (firstPart p v k)
 unfolding firstPart
 first-upright p v k = sub-upright (firstPoints (rotate v (p .points)) k) (take k (rotate v (p .edges)))
 
-second-upright : (p : Part) (v k : ℕ) → Upright (secondPart p v k)
+second-upright : (p : Part) (v k : ℕ) → NotNegative (secondPart p v k)
 unfolding secondPart
 second-upright p v k = sub-upright (secondPoints (rotate v (p .points)) k) (drop k (rotate v (p .edges)))
 
@@ -107,8 +107,8 @@ balance-out p l o = simp (+ℤ-assoc, +ℤ-left)
 record Weighing (ring : Part) (s : Stack) : Type 0 where
   pub sum : areas (s .parts) +ℤ areas (s .pieces) ≡ polygonArea (ring .points) +ℤ pos (2 * s .turned)
   pub turned : s .turned ≡ turnedBy (s .log)
-  pub standing : Upright ring → All Upright (s .parts)
-  pub gone : Upright ring → All Upright (s .pieces)
+  pub standing : NotNegative ring → All NotNegative (s .parts)
+  pub gone : NotNegative ring → All NotNegative (s .pieces)
 
 weighing : (L : Limits) (ring : Part) → Sound ring → Weighing ring (splitBadVertices L ring)
 weighing L ring s =
@@ -118,7 +118,7 @@ weighing L ring s =
       sum = ap (λ x. areas ps +ℤ x) (areas-snoc o p) ∙ sym (balance-out (polygonArea (p .points)) (areas ps) (areas o)) ∙ i .sum;
       turned = i .turned;
       standing = λ h. i .standing h .1;
-      gone = λ h. all-snoc Upright o p (i .gone h) (i .standing h .0);
+      gone = λ h. all-snoc NotNegative o p (i .gone h) (i .standing h .0);
     })
     (λ p ps o c t l k f h i.
     record {
@@ -130,7 +130,7 @@ weighing L ring s =
     ring s (record { sum = +ℤ-idr (polygonArea (ring .points) +ℤ pos 0); turned = refl; standing = λ h. (h, tt); gone = λ h. tt })
 
 -- ---- the theorem
-pub weighed : (L : Limits) (ring : Part) → Sound ring → Weighed ring (splitBadVertices L ring)
+pub weighed : (L : Limits) (ring : Part) → Sound ring → AreasBalance ring (splitBadVertices L ring)
 weighed L ring s =
     let i = weighing L ring s in
     record {

@@ -24,7 +24,7 @@ use Rattle.parts.specs.Cut.{rotate}
 use Rattle.split.specs.Split.{Stack, splitBadVertices}
 use Rattle.cuts.specs.Counts.{Sound}
 use Rattle.split.specs.Diagonals.{NoneMeets}
-use Rattle.cuts.specs.Choices.{Chosen, Excused}
+use Rattle.cuts.specs.Choices.{CutAtWorst, WhyUncut}
 use Rattle.cuts.specs.Provenance.{Cornered}
 use Rattle.cuts.proofs.Machine.{worstOf, isBad, choice}
 use Rattle.parts.proofs.Rotation.{length-rotate}
@@ -39,7 +39,7 @@ record Reasoned (L : Limits) (c : ℕ) (p : Part) : Type 0 where
 
 record Choosing (L : Limits) (s : Stack) : Type 0 where
   pub most : s .cuts ≤ L .cuts
-  pub cuts : All (Chosen L) (s .log)
+  pub cuts : All (CutAtWorst L) (s .log)
   pub pieces : All (Reasoned L (s .cuts)) (s .pieces)
 
 -- a piece that went out while a cut was left did not go out because they were spent
@@ -76,16 +76,16 @@ worst-bad : (L : Limits) (r : List GridPoint) (v j : ℕ) → Worst r v → All 
 unfolding bad
 worst-bad L r v j w a h t = lt-not-lt-f (L .corner) (measureAt r j) (measureAt r v) (measureAt-is r v (places r a) .number) t (w .above j h)
 
-excuses : (L : Limits) (c : ℕ) (ps : List Part) → All (Reasoned L c) ps → All (Cornered OnSheet) ps → All (Excused L c) ps
+excuses : (L : Limits) (c : ℕ) (ps : List Part) → All (Reasoned L c) ps → All (Cornered OnSheet) ps → All (WhyUncut L c) ps
 excuses L c [] d a = tt
 excuses L c (p ∷ ps) d a =
     (record { v = worstOf p; worst = d .0 .worst; why = λ j h t. d .0 .why (worst-bad L (p .points) (worstOf p) j (d .0 .worst) (a .0) h t) }, excuses L c ps (d .1) (a .1))
 
 -- ---- the theorems
-pub chosen : (L : Limits) (ring : Part) → Sound ring → All (Chosen L) (splitBadVertices L ring .log)
+pub chosen : (L : Limits) (ring : Part) → Sound ring → All (CutAtWorst L) (splitBadVertices L ring .log)
 chosen L ring s = choosing L ring s .cuts
 
-pub excused : (L : Limits) (ring : Part) → Sound ring → All OnSheet (ring .points) → All (Excused L (splitBadVertices L ring .cuts)) (splitBadVertices L ring .pieces)
+pub excused : (L : Limits) (ring : Part) → Sound ring → All OnSheet (ring .points) → All (WhyUncut L (splitBadVertices L ring .cuts)) (splitBadVertices L ring .pieces)
 excused L ring s a =
     let t = splitBadVertices L ring in
     excuses L (t .cuts) (t .pieces) (choosing L ring s .pieces) (corners-hold L OnSheet ring s a .pieces)

@@ -25,7 +25,7 @@ use Rattle.diagonal.specs.Diagonal.{inRange, blocks, runsOver, cosineNext, cosi
 use Rattle.parts.specs.Cut.{rotate}
 use Rattle.split.specs.Split.{Cut, splitBadVertices}
 use Rattle.cuts.specs.Counts.{Sound}
-use Rattle.cuts.specs.Choices.{Chosen, Clear}
+use Rattle.cuts.specs.Choices.{CutAtWorst, Clear}
 use Rattle.parts.proofs.Rotation.{at-place, length-rotate, rotate-at}
 use Rattle.cuts.proofs.Choices.{chosen}
 
@@ -74,10 +74,10 @@ module _ (r : List GridPoint) (v : ℕ) (g : v < length r) where
       subst T (λ i. not (strictlyBetween (a i) (b i) (c i))) (rule-clear L (rotate v r) k t (f .0) (omega (arith, length-rotate v r, f .1)))
 
 -- ---- the theorem
-one-clear : (L : Limits) (c : Cut) → Chosen L c → Clear c
+one-clear : (L : Limits) (c : Cut) → CutAtWorst L c → Clear c
 one-clear L c h =
     let r = c .part .points in
     record { between = clear-at r (c .v) (h .worst .place) L (c .k) (omega (arith, h .best .high, length-rotate (c .v) r)) (h .best .meets) }
 
 pub clear : (L : Limits) (ring : Part) → Sound ring → All Clear (splitBadVertices L ring .log)
-clear L ring s = all-weaken (Chosen L) Clear (one-clear L) (splitBadVertices L ring .log) (chosen L ring s)
+clear L ring s = all-weaken (CutAtWorst L) Clear (one-clear L) (splitBadVertices L ring .log) (chosen L ring s)

@@ -13,7 +13,7 @@ use Rattle.marks.specs.Part.{Part, noPart}
 use Rattle.corner.specs.declared.Limits.{Limits}
 use Rattle.split.specs.Split.{Cut, Stack, splitBadVertices}
 use Rattle.cuts.specs.Counts.{Sound}
-use Rattle.cuts.specs.Provenance.{firstOf, secondOf, Side, sides, diagonal, Alike, Dealt, Deals, Among, Under, itself, by-first, by-second, Carries, Beside}
+use Rattle.cuts.specs.Provenance.{firstPartOf, secondPartOf, Side, sides, diagonal, SameSide, SidesShared, Deals, Among, Under, itself, by-first, by-second, Carries, Beside}
 use Rattle.cuts.proofs.Machine.{cut}
 use Rattle.cuts.proofs.Parts.{keep}
 use Rattle.cuts.proofs.Match.{all-match, match-back, alike-back, among-alike, among-match}
@@ -31,12 +31,12 @@ under-more c l p q (by-second d m u e) = by-second d (List·Memᴰ·tail m) (und
 Shared : List Side → List Side → Side → Type 0
 Shared a b s = Among a s ⊎ Among b s
 
-shared-alike : (a b : List Side) (s t : Side) → Alike s t → Shared a b t → Shared a b s
+shared-alike : (a b : List Side) (s t : Side) → SameSide s t → Shared a b t → Shared a b s
 unfolding Shared
 shared-alike a b s t r (inl k) = inl (among-alike a s t r k)
 shared-alike a b s t r (inr k) = inr (among-alike b s t r k)
 
-shared : (a b w : List Side) (d : Side) → Dealt a b w d → (s : Side) → Among w s → Shared a b s
+shared : (a b w : List Side) (d : Side) → SidesShared a b w d → (s : Side) → Among w s → Shared a b s
 unfolding Shared
 shared a b w d e s k =
     shared-alike a b s (k .like) (k .alike)
@@ -79,8 +79,8 @@ beside-out l p w c b =
       i = goesTo (length w) (b .i);
       j = goesTo (length w) (b .j);
       apart = goes-apart (length w) (b .i) (b .j) (b .first .low) (b .second .low) (b .apart);
-      first = gone l p w (diagonal c) (firstOf c) (b .i) (b .first);
-      second = gone l p w (diagonal c) (secondOf c) (b .j) (b .second);
+      first = gone l p w (diagonal c) (firstPartOf c) (b .i) (b .first);
+      second = gone l p w (diagonal c) (secondPartOf c) (b .j) (b .second);
     }
 
 -- ---- the part of the cut c is cut: what it carried one of the two carries, in the first place or the next; the others stand one place further
@@ -90,8 +90,8 @@ record Passed (l : List Cut) (qs : List Part) (d : Side) (p : Part) (i : ℕ) : 
   pub far : 2 ≤ place → place ≡ suc i
   pub carries : Carries l qs d p place
 
-child : (l : List Cut) (c : Cut) (w : List Part) (d : Side) (r : Part) → Under l r (c .part) → Shared (sides (firstOf c)) (sides (secondOf c)) d
-    → Passed (c ∷ l) (secondOf c ∷ firstOf c ∷ w) d r 0
+child : (l : List Cut) (c : Cut) (w : List Part) (d : Side) (r : Part) → Under l r (c .part) → Shared (sides (firstPartOf c)) (sides (secondPartOf c)) d
+    → Passed (c ∷ l) (secondPartOf c ∷ firstPartOf c ∷ w) d r 0
 unfolding Shared
 child l c w d r u (inl k) =
     record {
@@ -108,8 +108,8 @@ child l c w d r u (inr k) =
       carries = record { low = omega arith; under = by-second c (List·Memᴰ·head refl) (under-more c l r (c .part) u) refl; has = k };
     }
 
-passed-on : (l : List Cut) (c : Cut) (w : List Part) → Deals c → (d : Side) (r : Part) (i : ℕ) → Carries l (c .part ∷ w) d r i → Passed (c ∷ l) (secondOf c ∷ firstOf c ∷ w) d r i
-passed-on l c w e d r zero k = child l c w d r (k .under) (shared (sides (firstOf c)) (sides (secondOf c)) (sides (c .part)) (diagonal c) e d (k .has))
+passed-on : (l : List Cut) (c : Cut) (w : List Part) → Deals c → (d : Side) (r : Part) (i : ℕ) → Carries l (c .part ∷ w) d r i → Passed (c ∷ l) (secondPartOf c ∷ firstPartOf c ∷ w) d r i
+passed-on l c w e d r zero k = child l c w d r (k .under) (shared (sides (firstPartOf c)) (sides (secondPartOf c)) (sides (c .part)) (diagonal c) e d (k .has))
 passed-on l c w e d r (suc i) k =
     record {
       place = suc (suc i);
@@ -128,14 +128,14 @@ passed-apart {i = i} {j = j} a b n e = go (decLt (a .place) 2)
         let x : suc i ≡ suc j = sym (a .far f) ∙ e ∙ b .far (subst (λ (k : ℕ). 2 ≤ k) e f) in
         n (omega (arith, x))
 
-beside-cut : (l : List Cut) (c : Cut) (w : List Part) → Deals c → (x : Cut) → Beside l (c .part ∷ w) x → Beside (c ∷ l) (secondOf c ∷ firstOf c ∷ w) x
+beside-cut : (l : List Cut) (c : Cut) (w : List Part) → Deals c → (x : Cut) → Beside l (c .part ∷ w) x → Beside (c ∷ l) (secondPartOf c ∷ firstPartOf c ∷ w) x
 beside-cut l c w e x b =
-    let f = passed-on l c w e (diagonal x) (firstOf x) (b .i) (b .first) in
-    let s = passed-on l c w e (diagonal x) (secondOf x) (b .j) (b .second) in
+    let f = passed-on l c w e (diagonal x) (firstPartOf x) (b .i) (b .first) in
+    let s = passed-on l c w e (diagonal x) (secondPartOf x) (b .j) (b .second) in
     record { i = f .place; j = s .place; apart = passed-apart f s (b .apart); first = f .carries; second = s .carries }
 
 -- ---- the diagonal of the cut just made
-own : (l : List Cut) (c : Cut) (w : List Part) → Deals c → Beside (c ∷ l) (secondOf c ∷ firstOf c ∷ w) c
+own : (l : List Cut) (c : Cut) (w : List Part) → Deals c → Beside (c ∷ l) (secondPartOf c ∷ firstPartOf c ∷ w) c
 own l c w e =
     record {
       i = 1;
@@ -158,5 +158,5 @@ following L ring s =
     (λ p ps o c t l k f h i.
     let d = cut-deals f in
     let e = cut p k in
-    (own l e (ps ++ o) d, all-weaken (Beside l (p ∷ (ps ++ o))) (Beside (e ∷ l) (secondOf e ∷ firstOf e ∷ (ps ++ o))) (beside-cut l e (ps ++ o) d) l i))
+    (own l e (ps ++ o) d, all-weaken (Beside l (p ∷ (ps ++ o))) (Beside (e ∷ l) (secondPartOf e ∷ firstPartOf e ∷ (ps ++ o))) (beside-cut l e (ps ++ o) d) l i))
     ring s tt

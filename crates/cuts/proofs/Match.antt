@@ -3,7 +3,7 @@ use mathlib.Core.Path.{_≡_, sym, subst}
 use mathlib.Core.List.{List, [], _∷_, _++_, append-nil, List·Memᴰ}
 use Rattle.laws.specs.All.{All}
 use Rattle.laws.proofs.Lists.{all-own, all-weaken}
-use Rattle.cuts.specs.Provenance.{Side, Alike, same, turned, Match, empty, each, swap, chain, Among}
+use Rattle.cuts.specs.Provenance.{Side, SameSide, same, turned, Match, empty, each, swap, chain, Among}
 
 module _ {A : Type 0} (R : A → A → Type 0) (self : (s : A) → R s s) where
   pub whole : (l : List A) → Match R l l
@@ -42,22 +42,22 @@ all-match Q f swap a = (a .1 .0, (a .0, a .1 .1))
 all-match Q f (chain g h) a = all-match Q f g (all-match Q f h a)
 
 -- ---- sides
-pub alike-self : (s : Side) → Alike s s
+pub alike-self : (s : Side) → SameSide s s
 alike-self s = same
 
-pub alike-back : (s t : Side) → Alike s t → Alike t s
+pub alike-back : (s t : Side) → SameSide s t → SameSide t s
 alike-back s t same = same
 alike-back s t turned = turned
 
-pub alike-chain : (s t u : Side) → Alike s t → Alike t u → Alike s u
+pub alike-chain : (s t u : Side) → SameSide s t → SameSide t u → SameSide s u
 alike-chain s t u same b = b
 alike-chain s t u turned same = turned
 alike-chain s t u turned turned = same
 
-pub among-alike : (l : List Side) (s t : Side) → Alike s t → Among l t → Among l s
+pub among-alike : (l : List Side) (s t : Side) → SameSide s t → Among l t → Among l s
 among-alike l s t r k = record { like = k .like; alike = alike-chain s t (k .like) r (k .alike); source = k .source }
 
-pub among-match : {l m : List Side} → Match Alike l m → All (Among m) l
+pub among-match : {l m : List Side} → Match SameSide l m → All (Among m) l
 among-match {l} {m} h =
     all-match (Among m) (among-alike m) h
     (all-weaken (λ s. List·Memᴰ s m) (Among m) (λ s h. record { like = s; alike = same; source = h }) m (all-own m))

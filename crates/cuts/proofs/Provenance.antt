@@ -13,7 +13,7 @@ use Rattle.marks.specs.Part.{Part}
 use Rattle.corner.specs.declared.Limits.{Limits}
 use Rattle.split.specs.Split.{splitBadVertices}
 use Rattle.cuts.specs.Counts.{Sound}
-use Rattle.cuts.specs.Provenance.{Side, sides, allSides, diagonals, made, spentParts, Alike, Match, Among, Traced, Beside, Followed}
+use Rattle.cuts.specs.Provenance.{Side, sides, allSides, diagonals, made, spentParts, SameSide, Match, Among, FromRingAndCuts, Beside, Followed}
 use Rattle.cuts.proofs.Machine.{emptied}
 use Rattle.cuts.proofs.Corners.{corners-hold}
 use Rattle.cuts.proofs.Match.{among-match}
@@ -26,14 +26,14 @@ by-part P [] h = tt
 by-part P (p ∷ ps) h = (all-left P (sides p) (allSides ps) h, by-part P ps (all-right P (sides p) (allSides ps) h))
 
 -- ---- the theorems
-pub traced : (L : Limits) (ring : Part) → Sound ring → Traced ring (splitBadVertices L ring)
+pub traced : (L : Limits) (ring : Part) → Sound ring → FromRingAndCuts ring (splitBadVertices L ring)
 traced L ring s =
     let i = tracing L ring s in
     let e = emptied L ring in
     let o = splitBadVertices L ring .pieces in
     let l = splitBadVertices L ring .log in
     let c = corners-hold L (λ x. List·Memᴰ x (ring .points)) ring s (all-own (ring .points)) in
-    let m : Match Alike (allSides o) (diagonals l ++ sides ring) = subst (λ ps. Match Alike (allSides ps ++ allSides o) (diagonals l ++ sides ring)) e (i .sides) in
+    let m : Match SameSide (allSides o) (diagonals l ++ sides ring) = subst (λ ps. Match SameSide (allSides ps ++ allSides o) (diagonals l ++ sides ring)) e (i .sides) in
     record {
       parts = subst (λ ps. Match _≡_ (spentParts l ++ (ps ++ o)) (ring ∷ made l)) e (i .parts);
       corners = c .pieces;

@@ -14,7 +14,7 @@ use Rattle.marks.specs.declared.EdgeMark.the-variants.{Straight}
 use Rattle.marks.specs.Part.{Part}
 use Rattle.parts.specs.Cut.{rotate}
 use Rattle.cuts.specs.Counts.{Sound}
-use Rattle.cuts.specs.Provenance.{Side, side, along, around, sides, Alike, Match, chain}
+use Rattle.cuts.specs.Provenance.{Side, side, along, around, sides, SameSide, Match, chain}
 use Rattle.parts.proofs.Rotation.{at-place, at-end}
 use Rattle.cuts.proofs.Match as M
 use Rattle.cuts.proofs.Match.{alike-self}
@@ -79,18 +79,18 @@ along-join a (c ∷ r) b s (e ∷ es) fs h = ap (λ l. side a c e ∷ l) (along-
 
 -- ---- a ring that starts elsewhere
 turn-on : (xs ys : List GridPoint) (es fs : List EdgeMark) → length es ≡ length xs → length fs ≡ length ys
-    → Match Alike (around (xs ++ ys) (es ++ fs)) (around (ys ++ xs) (fs ++ es))
+    → Match SameSide (around (xs ++ ys) (es ++ fs)) (around (ys ++ xs) (fs ++ es))
 unfolding around
-turn-on [] ys [] fs h k = M.equal Alike alike-self (ap (λ l. around l fs) (sym (append-nil ys)) ∙ ap (around (ys ++ [])) (sym (append-nil fs)))
+turn-on [] ys [] fs h k = M.equal SameSide alike-self (ap (λ l. around l fs) (sym (append-nil ys)) ∙ ap (around (ys ++ [])) (sym (append-nil fs)))
 turn-on [] ys (e ∷ es) fs h k = absurd (omega (arith, h))
-turn-on (a ∷ xs) [] es [] h k = M.equal Alike alike-self (ap (λ l. around l (es ++ [])) (append-nil (a ∷ xs)) ∙ ap (around (a ∷ xs)) (append-nil es))
+turn-on (a ∷ xs) [] es [] h k = M.equal SameSide alike-self (ap (λ l. around l (es ++ [])) (append-nil (a ∷ xs)) ∙ ap (around (a ∷ xs)) (append-nil es))
 turn-on (a ∷ xs) [] es (f ∷ fs) h k = absurd (omega (arith, k))
 turn-on (a ∷ xs) (b ∷ ys) es fs h k =
-    chain (M.equal Alike alike-self (ap (λ l. along a l (es ++ fs)) (append-assoc xs (b ∷ ys) (a ∷ [])) ∙ along-join a xs b (ys ++ (a ∷ [])) es fs h))
-    (chain (M.commute Alike alike-self (along a (xs ++ (b ∷ [])) es) (along b (ys ++ (a ∷ [])) fs))
-    (M.equal Alike alike-self (sym (ap (λ l. along b l (fs ++ es)) (append-assoc ys (a ∷ xs) (b ∷ [])) ∙ along-join b ys a (xs ++ (b ∷ [])) fs es k))))
+    chain (M.equal SameSide alike-self (ap (λ l. along a l (es ++ fs)) (append-assoc xs (b ∷ ys) (a ∷ [])) ∙ along-join a xs b (ys ++ (a ∷ [])) es fs h))
+    (chain (M.commute SameSide alike-self (along a (xs ++ (b ∷ [])) es) (along b (ys ++ (a ∷ [])) fs))
+    (M.equal SameSide alike-self (sym (ap (λ l. along b l (fs ++ es)) (append-assoc ys (a ∷ xs) (b ∷ [])) ∙ along-join b ys a (xs ++ (b ∷ [])) fs es k))))
 
-pub sides-rotate : (v : ℕ) (r : List GridPoint) (es : List EdgeMark) → length es ≡ length r → Match Alike (around (rotate v r) (rotate v es)) (around r es)
+pub sides-rotate : (v : ℕ) (r : List GridPoint) (es : List EdgeMark) → length es ≡ length r → Match SameSide (around (rotate v r) (rotate v es)) (around r es)
 sides-rotate v r es h =
     chain (turn-on (drop v r) (take v r) (drop v es) (take v es) (omega (arith, h, length-drop v r, length-drop v es)) (omega (arith, h, length-take v r, length-take v es)))
-    (M.equal Alike alike-self (ap (λ l. around l (take v es ++ drop v es)) (take-append-drop v r) ∙ ap (around r) (take-append-drop v es)))
+    (M.equal SameSide alike-self (ap (λ l. around l (take v es ++ drop v es)) (take-append-drop v r) ∙ ap (around r) (take-append-drop v es)))

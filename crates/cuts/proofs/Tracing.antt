@@ -10,7 +10,7 @@ use Rattle.corner.specs.declared.Limits.{Limits}
 use Rattle.parts.specs.Cut.{firstPart, secondPart}
 use Rattle.split.specs.Split.{Stack, splitBadVertices}
 use Rattle.cuts.specs.Counts.{Sound}
-use Rattle.cuts.specs.Provenance.{Side, sides, allSides, diagonal, diagonals, made, spentParts, Alike, same, Match, each, swap, chain, Dealt, Deals, Among, Grown}
+use Rattle.cuts.specs.Provenance.{Side, sides, allSides, diagonal, diagonals, made, spentParts, SameSide, same, Match, each, swap, chain, SidesShared, Deals, Among, FromEarlierCuts}
 use Rattle.cuts.proofs.Machine.{worstOf, cut}
 use Rattle.cuts.proofs.Parts.{SoundCut, keep}
 use Rattle.cuts.proofs.Match as M
@@ -19,30 +19,30 @@ use Rattle.cuts.proofs.Dealing.{deals, dealt-both}
 
 pub record Tracing (ring : Part) (s : Stack) : Type 0 where
   pub parts : Match _≡_ (spentParts (s .log) ++ (s .parts ++ s .pieces)) (ring ∷ made (s .log))
-  pub sides : Match Alike (allSides (s .parts) ++ allSides (s .pieces)) (diagonals (s .log) ++ sides ring)
-  pub grown : Grown ring (s .log)
+  pub sides : Match SameSide (allSides (s .parts) ++ allSides (s .pieces)) (diagonals (s .log) ++ sides ring)
+  pub grown : FromEarlierCuts ring (s .log)
   pub deals : All Deals (s .log)
 
 itself : (p : Part) → p ≡ p
 itself p = refl
 
-sides-snoc : (l : List Part) (p : Part) → Match Alike (allSides (l ++ (p ∷ []))) (sides p ++ allSides l)
-sides-snoc [] p = M.whole Alike alike-self (sides p ++ [])
+sides-snoc : (l : List Part) (p : Part) → Match SameSide (allSides (l ++ (p ∷ []))) (sides p ++ allSides l)
+sides-snoc [] p = M.whole SameSide alike-self (sides p ++ [])
 sides-snoc (q ∷ l) p =
-    chain (M.before Alike alike-self (sides q) (sides-snoc l p))
-    (chain (M.equal Alike alike-self (sym (append-assoc (sides q) (sides p) (allSides l))))
-    (chain (M.after Alike alike-self (allSides l) (M.commute Alike alike-self (sides q) (sides p))) (M.equal Alike alike-self (append-assoc (sides p) (sides q) (allSides l)))))
+    chain (M.before SameSide alike-self (sides q) (sides-snoc l p))
+    (chain (M.equal SameSide alike-self (sym (append-assoc (sides q) (sides p) (allSides l))))
+    (chain (M.after SameSide alike-self (allSides l) (M.commute SameSide alike-self (sides q) (sides p))) (M.equal SameSide alike-self (append-assoc (sides p) (sides q) (allSides l)))))
 
 -- ---- a part goes out
 out-parts : (S : List Part) (p : Part) (ps o R : List Part) → Match _≡_ (S ++ ((p ∷ ps) ++ o)) R → Match _≡_ (S ++ (ps ++ (o ++ (p ∷ [])))) R
 out-parts S p ps o R h =
     chain (M.before _≡_ itself S (chain (M.equal _≡_ itself (sym (append-assoc ps o (p ∷ [])))) (M.commute _≡_ itself (ps ++ o) (p ∷ [])))) h
 
-out-sides : (p : Part) (ps o : List Part) (D : List Side) → Match Alike (allSides (p ∷ ps) ++ allSides o) D → Match Alike (allSides ps ++ allSides (o ++ (p ∷ []))) D
+out-sides : (p : Part) (ps o : List Part) (D : List Side) → Match SameSide (allSides (p ∷ ps) ++ allSides o) D → Match SameSide (allSides ps ++ allSides (o ++ (p ∷ []))) D
 out-sides p ps o D h =
-    chain (M.before Alike alike-self (allSides ps) (sides-snoc o p))
-    (chain (M.equal Alike alike-self (sym (append-assoc (allSides ps) (sides p) (allSides o))))
-    (chain (M.after Alike alike-self (allSides o) (M.commute Alike alike-self (allSides ps) (sides p))) h))
+    chain (M.before SameSide alike-self (allSides ps) (sides-snoc o p))
+    (chain (M.equal SameSide alike-self (sym (append-assoc (allSides ps) (sides p) (allSides o))))
+    (chain (M.after SameSide alike-self (allSides o) (M.commute SameSide alike-self (allSides ps) (sides p))) h))
 
 -- ---- a part is cut into a, first, and b
 cut-parts : (S : List Part) (p b a : Part) (ps o : List Part) (ring : Part) (R : List Part) → Match _≡_ (S ++ ((p ∷ ps) ++ o)) (ring ∷ R)
@@ -52,10 +52,10 @@ cut-parts S p b a ps o ring R h =
     (chain (each refl (each refl (chain (M.commute _≡_ itself (ps ++ o) (p ∷ S)) (chain (M.sink _≡_ itself p S (ps ++ o)) h))))
     (chain (each refl swap) swap))
 
-cut-sides : (p b a : Part) (ps o : List Part) (d : Side) (D : List Side) → Dealt (sides a) (sides b) (sides p) d → Match Alike (allSides (p ∷ ps) ++ allSides o) D
-    → Match Alike (allSides (b ∷ a ∷ ps) ++ allSides o) (d ∷ d ∷ D)
+cut-sides : (p b a : Part) (ps o : List Part) (d : Side) (D : List Side) → SidesShared (sides a) (sides b) (sides p) d → Match SameSide (allSides (p ∷ ps) ++ allSides o) D
+    → Match SameSide (allSides (b ∷ a ∷ ps) ++ allSides o) (d ∷ d ∷ D)
 cut-sides p b a ps o d D e h =
-    chain (M.after Alike alike-self (allSides o) (chain (M.equal Alike alike-self (sym (append-assoc (sides b) (sides a) (allSides ps)))) (M.after Alike alike-self (allSides ps) (dealt-both e))))
+    chain (M.after SameSide alike-self (allSides o) (chain (M.equal SameSide alike-self (sym (append-assoc (sides b) (sides a) (allSides ps)))) (M.after SameSide alike-self (allSides ps) (dealt-both e))))
     (each same (each same h))
 
 pub cut-deals : {L : Limits} {p : Part} {k : ℕ} → SoundCut L p k → Deals (cut p k)
@@ -82,4 +82,4 @@ tracing L ring s =
       grown = (all-left K (sides p) (allSides ps) (all-left K (sides p ++ allSides ps) (allSides o) (among-match (i .sides))), i .grown);
       deals = (d, i .deals);
     })
-    ring s (record { parts = M.whole _≡_ itself (ring ∷ []); sides = M.equal Alike alike-self (append-nil (sides ring ++ []) ∙ append-nil (sides ring)); grown = tt; deals = tt })
+    ring s (record { parts = M.whole _≡_ itself (ring ∷ []); sides = M.equal SameSide alike-self (append-nil (sides ring ++ []) ∙ append-nil (sides ring)); grown = tt; deals = tt })

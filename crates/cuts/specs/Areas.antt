@@ -16,15 +16,15 @@ areas [] = pos 0
 areas (p ∷ ps) = polygonArea (p .points) +ℤ areas ps
 
 -- the area of a part is not negative
-abbrev pub Upright : Part → Type 0
-Upright p = T (nonNeg (polygonArea (p .points)))
+abbrev pub NotNegative : Part → Type 0
+NotNegative p = T (nonNeg (polygonArea (p .points)))
 
 -- what the cuts of a log turned round
 abbrev pub turnedBy : List Cut → ℕ
 turnedBy [] = 0
 turnedBy (c ∷ l) = turnedBy l + turnedIn (c .part) (c .v) (c .k)
 
-pub record Weighed (ring : Part) (s : Stack) : Type 0 where
+pub record AreasBalance (ring : Part) (s : Stack) : Type 0 where
   pub sum : areas (s .pieces) ≡ polygonArea (ring .points) +ℤ pos (2 * s .turned)
   pub turned : s .turned ≡ turnedBy (s .log)
-  pub upright : Upright ring → All Upright (s .pieces)
+  pub upright : NotNegative ring → All NotNegative (s .pieces)

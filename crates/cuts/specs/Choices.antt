@@ -16,7 +16,7 @@ use Rattle.split.specs.Diagonals.{Best, NoneMeets}
 use Rattle.split.specs.Split.{Cut}
 
 -- a cut that was made starts at the worst corner of its part, which is bad, and ends where the best diagonal does
-pub record Chosen (L : Limits) (c : Cut) : Type 0 where
+pub record CutAtWorst (L : Limits) (c : Cut) : Type 0 where
   pub worst : Worst (c .part .points) (c .v)
   pub bad : T (bad L (measureAt (c .part .points) (c .v)))
   pub best : Best L (rotate (c .v) (c .part .points)) (c .k)
@@ -27,7 +27,7 @@ pub record Clear (c : Cut) : Type 0 where
       → T (not (strictlyBetween (at (c .part .points) (c .v)) (at (c .part .points) (c .v + c .k)) (at (c .part .points) j)))
 
 -- a piece, c cuts made in all: if any corner of it is bad, the cuts are spent or no diagonal from its worst corner meets the rule
-pub record Excused (L : Limits) (c : ℕ) (p : Part) : Type 0 where
+pub record WhyUncut (L : Limits) (c : ℕ) (p : Part) : Type 0 where
   pub v : ℕ
   pub worst : Worst (p .points) v
   pub why : (j : ℕ) → j < length (p .points) → T (bad L (measureAt (p .points) j)) → (c ≡ L .cuts) ⊎ NoneMeets L (rotate v (p .points))

@@ -12,24 +12,24 @@ use Rattle.marks.specs.Part.{Part}
 use Rattle.corner.specs.declared.Limits.{Limits}
 use Rattle.corner.specs.Limits.{delivered}
 use Rattle.quads.specs.declared.Cell.{Cell}
-use Rattle.table.specs.declared.Values.{Values}
+use Rattle.table.specs.declared.Row.{Row}
 use Rattle.table.specs.Answers.{refusedRow}
 use Rattle.table.specs.Refusals.{Passes, firstOf}
 use Rattle.table.proofs.Refusals.{all-pass}
-use Rattle.demand.specs.Call.{Lists, Call, listsOf, cellReserve}
-use Rattle.demand.specs.Divide.{Answer, refused, ringTests, answered, core, startOf}
-use Rattle.demand.specs.Demand.{Ready, Prepared}
-use Rattle.demand.specs.Lent.{pointIn, cellIn, allCells, LentRecords, callOfRecords, testsBy, Lent, divideLent}
-use Rattle.demand.specs.LentCalls.{Given, numbers, Pool, lend, answerOf, leaves}
-use Rattle.demand.proofs.Tests.{Passed, passed}
-use Rattle.demand.proofs.Course as Course
-use Rattle.demand.proofs.Course.{Whole, whole, outcomeOf, prepared}
-use Rattle.demand.proofs.Demand.{demand3-lent}
+use Rattle.call.specs.Call.{Lists, Call, listsOf, cellReserve}
+use Rattle.call.specs.Divide.{CallAnswer, refused, ringTests, answered, core, startOf}
+use Rattle.call.specs.Demand.{Ready, Prepared}
+use Rattle.call.specs.Lent.{pointIn, cellIn, allCells, LentRecords, callOfRecords, testsBy, Lent, divideLent}
+use Rattle.call.specs.LentCalls.{Given, numbers, Pool, lend, answerOf, leaves}
+use Rattle.call.proofs.Tests.{Passed, passed}
+use Rattle.call.proofs.Course as Course
+use Rattle.call.proofs.Course.{Whole, whole, outcomeOf, prepared}
+use Rattle.call.proofs.Demand.{demand3-lent}
 use Rattle.split.specs.Split.{splitBadVertices}
 use Rattle.entry.specs.Refusal.{refusal}
 use Rattle.divider.specs.declared.CellRoom.{CellRoom}
 use Rattle.divider.specs.Promise.{Leaves, Promise}
-use Rattle.divider.specs.Steps.{OnPaper, Prepares, partIn, listsIn, CanDivide, divideInto, HasRoom}
+use Rattle.divider.specs.Steps.{OnPaper, Prepares, partIn, listsIn, CanDivideRing, divideInto, HasRoom}
 use Rattle.divider.proofs.Leaving.{refused-leaves}
 
 -- ---- the core, by the outcome of its tests
@@ -45,7 +45,7 @@ module _ (L : Limits) (r : ℕ) (p : Part) (l : List Float) (u : ℕ) (rs q : Li
   pub core-whole : (n : ℕ) → n ≡ firstOf (ringTests (p .points)) → n ≡ 0 → Whole (p .points)
   core-whole n e z = whole (p .points) (all-pass (ringTests (p .points)) tt (sym e ∙ z))
 
-  pub core-laid : (n : ℕ) → n ≡ firstOf (ringTests (p .points)) → n ≡ 0 → (v : Values) (m : List Float) (t o : List ℕ)
+  pub core-laid : (n : ℕ) → n ≡ firstOf (ringTests (p .points)) → n ≡ 0 → (v : Row) (m : List Float) (t o : List ℕ)
       → Leaves (answered L r p lists (splitBadVertices L p) (outcomeOf L p lists)) v l m t q o → Leaves (core L r p lists) v l m t q o
   unfolding core
   core-laid n e z v m t o h = rw (Course.goes-on lists (ringTests (p .points)) (answered L r p lists (splitBadVertices L p) (outcomeOf L p lists)) (sym e ∙ z)) h
@@ -58,7 +58,7 @@ module _ (L : Limits) (l : LentRecords) (q : List ℕ) (k : ℕ) where
   abbrev x : Lists
   x = listsIn (l .nodes) (l .nodeCount) (l .rims) q k
 
-  abbrev core-of : Answer
+  abbrev core-of : CallAnswer
   core-of = core L (length (c .ring)) (startOf c) x
 
   pub call-refused : (n : ℕ) → n ≡ refusal L l → (n ≡ 0 → ⊥) → Leaves (divideInto L l q k) (refusedRow n (l .nodeCount) k) (l .nodes) (l .nodes) (l .rims) q q
@@ -96,7 +96,7 @@ module _ (L : Limits) (l : LentRecords) (q : List ℕ) (k : ℕ) where
           let y = prepared L c through in
           record { few = y .few; fewer = y .fewer; sheet = y .sheet; edged = y .edged; snaps = y .snaps; ready = ready }
 
-      pub can-divide : CanDivide L (length (l .ring) / 2) m (l .nodes) (l .nodeCount) (l .rims) q k
+      pub can-divide : CanDivideRing L (length (l .ring) / 2) m (l .nodes) (l .nodeCount) (l .rims) q k
       can-divide =
           record {
             cuts = through .cuts;
@@ -104,22 +104,22 @@ module _ (L : Limits) (l : LentRecords) (q : List ℕ) (k : ℕ) where
             prepared = subst (λ (r : ℕ). Prepared L r (partIn m) x) own (subst (λ (p : Part). Prepared L (length (c .ring)) p x) (sym (b .part)) prepared-here);
           }
 
-      pub call-divided : (v : Values) (n : List Float) (t o : List ℕ) → Leaves (core L (length (l .ring) / 2) (partIn m) x) v (l .nodes) n t q o → Leaves (divideInto L l q k) v (l .nodes) n t q o
+      pub call-divided : (v : Row) (n : List Float) (t o : List ℕ) → Leaves (core L (length (l .ring) / 2) (partIn m) x) v (l .nodes) n t q o → Leaves (divideInto L l q k) v (l .nodes) n t q o
       unfolding refusal
       call-divided v n t o f =
           rw (Course.goes-on x (testsBy (λ cs. cs) L l) core-of (sym e ∙ z))
           (subst (λ (r : ℕ). Leaves (core L r (startOf c) x) v (l .nodes) n t q o) (sym own) (subst (λ (p : Part). Leaves (core L (length (l .ring) / 2) p x) v (l .nodes) n t q o) (b .part) f))
 
 -- ---- the promise
-pub promised : (L : Limits) (l : Lent) (v : Values) (m : List Float) (t p : List ℕ) → Leaves (divideLent L l) v (l .nodes) m t (l .cells) p → Promise L l v m t p
-promised L l v m t p h = record { leaves = h; accepted = λ z. demand3-lent L l (sym (ap (λ (v : Values). v .code) (h .values)) ∙ z) }
+pub promised : (L : Limits) (l : Lent) (v : Row) (m : List Float) (t p : List ℕ) → Leaves (divideLent L l) v (l .nodes) m t (l .cells) p → Promise L l v m t p
+promised L l v m t p h = record { leaves = h; accepted = λ z. demand3-lent L l (sym (ap (λ (v : Row). v .code) (h .values)) ∙ z) }
 
 -- the lent list, its cells as records
 abbrev pub recorded : Lent → LentRecords
 recorded l = record { ring = l .ring; chain = l .chain; size = l .size; nodes = l .nodes; nodeCount = l .nodeCount; rims = l .rims; cells = allCells (l .cells); cellCount = l .cellCount }
 
 -- with its cells written where they were lent
-pub own-promise : (L : Limits) (l : Lent) (v : Values) (m : List Float) (t p : List ℕ) → Leaves (divideInto L (recorded l) (l .cells) (l .cellCount)) v (l .nodes) m t (l .cells) p → Promise L l v m t p
+pub own-promise : (L : Limits) (l : Lent) (v : Row) (m : List Float) (t p : List ℕ) → Leaves (divideInto L (recorded l) (l .cells) (l .cellCount)) v (l .nodes) m t (l .cells) p → Promise L l v m t p
 unfolding divideLent
 own-promise L l v m t p h = promised L l v m t p h
 
@@ -130,5 +130,5 @@ pub most-cuts : (L : Limits) → L ≡ delivered → L .cuts ≤ 32
 most-cuts L d = subst (λ (L : Limits). L .cuts ≤ 32) (sym d) (omega arith)
 
 -- ---- the node list and the rim marks that it leaves are those of a list of calls
-pub as-called : (s : Pool) (g : Given ℕ) (v : Values) (m : List Float) (t p : List ℕ) → Promise (g .limits) (lend s g) v m t p → _≡_ {A = Pool} (record { doubles = m; count = v .nodes; rims = t }) (leaves s (answerOf s (numbers g)))
+pub as-called : (s : Pool) (g : Given ℕ) (v : Row) (m : List Float) (t p : List ℕ) → Promise (g .limits) (lend s g) v m t p → _≡_ {A = Pool} (record { doubles = m; count = v .nodes; rims = t }) (leaves s (answerOf s (numbers g)))
 as-called s g v m t p h = λ j. record { doubles = h .leaves .nodes j; count = h .leaves .values j .nodes; rims = h .leaves .rims j }

@@ -21,11 +21,11 @@ use Rattle.cells.specs.Claims.{CellsOf}
 use Rattle.cells.proofs.NewCells.{pieces-cells}
 use Rattle.pieces.specs.Flat.{overFrom, cellsLeft}
 use Rattle.pieces.proofs.Cases.{AllDone, OneFailed}
-use Rattle.table.specs.declared.Values.{Values}
+use Rattle.table.specs.declared.Row.{Row}
 use Rattle.table.specs.Answers.{dividedRow, failedRow}
-use Rattle.demand.specs.Call.{Lists, usedIn, cellReserve}
-use Rattle.demand.specs.Divide.{rimsLeft, answered}
-use Rattle.demand.proofs.Course.{Sought, outcomeOf}
+use Rattle.call.specs.Call.{Lists, usedIn, cellReserve}
+use Rattle.call.specs.Divide.{rimsLeft, answered}
+use Rattle.call.proofs.Course.{Divisible, outcomeOf}
 use Rattle.divider.specs.Promise.{Leaves}
 use Rattle.divider.specs.Steps.{partIn, listsIn}
 use Rattle.divider.proofs.Leaving as leaving
@@ -34,7 +34,7 @@ use Rattle.divider.proofs.Laying as laying
 cells-many : (o : Outcome) (ns : List Point) (cs : List Cell) (m : ℕ) → o ≡ done ns cs → CellsOf m o → length cs ≡ m
 cells-many o ns cs m e h = (subst (CellsOf m) e h) .0
 
-module _ (L : Limits) (r : ℕ) (m : MarkedRing) (l : List Float) (u : ℕ) (rs q : List ℕ) (k : ℕ) (a : Sought L r (partIn m) (listsIn l u rs q k)) where
+module _ (L : Limits) (r : ℕ) (m : MarkedRing) (l : List Float) (u : ℕ) (rs q : List ℕ) (k : ℕ) (a : Divisible L r (partIn m) (listsIn l u rs q k)) where
   abbrev p : Part
   p = partIn m
 
@@ -62,7 +62,7 @@ module _ (L : Limits) (r : ℕ) (m : MarkedRing) (l : List Float) (u : ℕ) (rs 
       )
 
   -- what the code was answered, over a reserve of so many places
-  abbrev Left : ℕ → Outcome → Values → Type 0
+  abbrev Left : ℕ → Outcome → Row → Type 0
   Left reserve o v = Leaves (answered L r p x s o) v l (over l (nodesOf o)) (rimsLeft L p x (length (nodesOf o))) q (overFrom q k (cellsLeft reserve o))
 
   pub laid-done : (reserve n c cuts count turned area v d : ℕ) → AllDone o v d → n ≡ length (p .points) → c ≡ markCount (p .edges) → cuts ≡ s .cuts → count ≡ length (s .pieces) → turned ≡ s .turned
@@ -71,7 +71,7 @@ module _ (L : Limits) (r : ℕ) (m : MarkedRing) (l : List Float) (u : ℕ) (rs 
       let b = node-room (y .ns) (ap nodesOf (y .is)) in
       let f = leaving.done-leaves l u rs q k L r p s (y .ns) b (y .cs) (omega (arith, cell-room v d y, y .cells)) in
       subst (λ (o : Outcome). Left reserve o (dividedRow n c cuts count turned area v (k + d))) (sym (y .is))
-      (subst (λ (w : Values). Left reserve (done (y .ns) (y .cs)) w)
+      (subst (λ (w : Row). Left reserve (done (y .ns) (y .cs)) w)
       (λ j. dividedRow (sym e₁ j) (sym e₂ j) (sym e₃ j) (sym e₄ j) (sym e₅ j) (sym e₆ j) (sym (y .nodes) j) (k + sym (y .cells) j))
       f)
 

@@ -19,7 +19,7 @@ use Rattle.corner.specs.declared.Limits.{Limits}
 use Rattle.split.specs.declared.Splitting.{Splitting}
 use Rattle.split.specs.Split.{splitBadVertices}
 use Rattle.parts.specs.Layout.{nth}
-use Rattle.split.specs.State.{ringPart, Shows, Held}
+use Rattle.split.specs.State.{ringPart, Represents, StateInvariant}
 use Rattle.parts.specs.Pieces.{marksOf}
 use Rattle.parts.proofs.Pieces.{marks-taken}
 use Rattle.nodes.specs.Growth.{InRange}
@@ -28,18 +28,18 @@ use Rattle.nodes.specs.Flat.{nodesIn, Usable}
 use Rattle.nodes.proofs.Flat.{length-in, node-in}
 use Rattle.cells.specs.Pieces.{piecesTo}
 use Rattle.cells.specs.Stages.{nodesOf}
-use Rattle.cells.specs.Claims.{Fair, cornersTo}
+use Rattle.cells.specs.Claims.{ValidPiece, cornersTo}
 use Rattle.cells.specs.Asks.{label, allMarked, asksTo}
 use Rattle.cells.specs.Rims.{rimsBy}
 use Rattle.pieces.specs.Flat.{outcomeIn, everyMark, labelledIn, asksIn, CanSubdivide}
-use Rattle.demand.specs.Call.{Lists, usedIn, cellReserve}
-use Rattle.demand.specs.Divide.{asked, rimsLeft}
-use Rattle.demand.specs.Demand.{Prepared, piecesOf}
-use Rattle.demand.specs.Lent.{cellIn}
-use Rattle.demand.proofs.Course.{Sought, outcomeOf}
-use Rattle.demand.proofs.NodeList as NodeList
-use Rattle.demand.proofs.Demand.{corners-fit}
-use Rattle.demand.proofs.LentCalls.{take-nodes}
+use Rattle.call.specs.Call.{Lists, usedIn, cellReserve}
+use Rattle.call.specs.Divide.{asked, rimsLeft}
+use Rattle.call.specs.Demand.{Prepared, piecesOf}
+use Rattle.call.specs.Lent.{cellIn}
+use Rattle.call.proofs.Course.{Divisible, outcomeOf}
+use Rattle.call.proofs.NodeList as NodeList
+use Rattle.call.proofs.Demand.{corners-fit}
+use Rattle.call.proofs.LentCalls.{take-nodes}
 use Rattle.divider.specs.Steps.{partIn, listsIn}
 
 -- as many marks as places
@@ -60,7 +60,7 @@ every-taken : (n : ℕ) (es : List Edge) → length es ≡ 60 → take n everyMa
 unfolding everyMark
 every-taken n es h = ap (λ (k : ℕ). take n (replicate k label)) (sym h) ∙ labels-taken n es
 
-module _ (L : Limits) (r : ℕ) (m : MarkedRing) (l : List Float) (u : ℕ) (rs q : List ℕ) (k : ℕ) (s : Sought L r (partIn m) (listsIn l u rs q k)) where
+module _ (L : Limits) (r : ℕ) (m : MarkedRing) (l : List Float) (u : ℕ) (rs q : List ℕ) (k : ℕ) (s : Divisible L r (partIn m) (listsIn l u rs q k)) where
   abbrev p : Part
   p = partIn m
 
@@ -101,12 +101,12 @@ module _ (L : Limits) (r : ℕ) (m : MarkedRing) (l : List Float) (u : ℕ) (rs 
   three = (omega (arith, s .whole .three, length-take (m .count) (m .points)), omega (arith, s .whole .three, h .fewer))
 
   -- ---- what the split answered
-  module _ (t : Splitting) (shows : Shows (m .points) (marksOf (m .edges)) t (splitBadVertices L (ringPart (m .points) (marksOf (m .edges)) (m .count)))) where
+  module _ (t : Splitting) (shows : Represents (m .points) (marksOf (m .edges)) t (splitBadVertices L (ringPart (m .points) (marksOf (m .edges)) (m .count)))) where
     split-is : splitBadVertices L (ringPart (m .points) (marksOf (m .edges)) (m .count)) ≡ splitBadVertices L p
     split-is = ap (λ (e : List EdgeMark). splitBadVertices L (record { points = take (m .count) (m .points); edges = e })) (marks-taken (m .count) (m .edges))
 
-    pub shown : Shows (m .points) (marksOf (m .edges)) t (splitBadVertices L p)
-    shown = subst (Shows (m .points) (marksOf (m .edges)) t) split-is shows
+    pub shown : Represents (m .points) (marksOf (m .edges)) t (splitBadVertices L p)
+    shown = subst (Represents (m .points) (marksOf (m .edges)) t) split-is shows
 
     pub count-is : t .pieces .count ≡ length (piecesOf L p)
     count-is = sym (length-tab (nth (m .points) (marksOf (m .edges)) (t .pieces)) (t .pieces .count)) ∙ ap length (shown .pieces)
@@ -114,13 +114,13 @@ module _ (L : Limits) (r : ℕ) (m : MarkedRing) (l : List Float) (u : ℕ) (rs 
     pub outcome-is : outcomeIn (L .share) l u (m .points) (m .edges) (t .pieces) ≡ outcomeOf L p x
     outcome-is = λ j. piecesTo (L .share) (shown .pieces j) (sym used-is j) (count-is j)
 
-    pub can-subdivide : (reserve : ℕ) → reserve ≡ cellReserve L r → AllOnSheet (m .points) → Held t → CanSubdivide (L .share) l u q k reserve (m .points) (m .edges) (t .pieces)
+    pub can-subdivide : (reserve : ℕ) → reserve ≡ cellReserve L r → AllOnSheet (m .points) → StateInvariant t → CanSubdivide (L .share) l u q k reserve (m .points) (m .edges) (t .pieces)
     can-subdivide reserve e o d =
         record {
           usable = usable;
           sheet = o;
           kept = d .pieces;
-          fair = λ i b. subst (λ (y : List Part). Fair (getD y i noPart)) (sym (shown .pieces)) (NodeList.fair L r p x s i (rw count-is at b));
+          fair = λ i b. subst (λ (y : List Part). ValidPiece (getD y i noPart)) (sym (shown .pieces)) (NodeList.fair L r p x s i (rw count-is at b));
           fits = rw outcome-is (omega (arith, node-room, length-in l (length l / 2), h .ready .places));
           room = rw outcome-is (omega (arith, node-room));
           corners = rw e (subst (λ (n : ℕ). n ≤ cellReserve L r) (λ j. cornersTo (sym (shown .pieces) j) (sym count-is j)) corners);
@@ -131,7 +131,7 @@ module _ (L : Limits) (r : ℕ) (m : MarkedRing) (l : List Float) (u : ℕ) (rs 
     mark-room-in = rw outcome-is mark-room
 
     -- the same ring split with every edge marked: what the pieces ask for, and the rim marks that they leave
-    module _ (many : length (m .edges) ≡ 60) (labels : Shows (m .points) everyMark t (splitBadVertices L (ringPart (m .points) everyMark (m .count)))) where
+    module _ (many : length (m .edges) ≡ 60) (labels : Represents (m .points) everyMark t (splitBadVertices L (ringPart (m .points) everyMark (m .count)))) where
       labelled : labelledIn (m .points) (t .pieces) ≡ splitBadVertices L (allMarked p) .pieces
       unfolding allMarked
       labelled = labels .pieces ∙ ap (λ (e : List EdgeMark). splitBadVertices L (record { points = take (m .count) (m .points); edges = e }) .pieces) (every-taken (m .count) (m .edges) many)

@@ -17,17 +17,17 @@ use Rattle.quads.specs.Quads.{noCell}
 use Rattle.quads.specs.Flat.{overCells}
 use Rattle.cells.specs.Pieces.{done, failed}
 use Rattle.pieces.specs.Flat.{overFrom}
-use Rattle.table.specs.declared.Values.{Values}
+use Rattle.table.specs.declared.Row.{Row}
 use Rattle.table.specs.Answers.{dividedRow, refusedRow, failedRow}
-use Rattle.demand.specs.Call.{Lists, cellReserve}
-use Rattle.demand.specs.Divide.{Answer, put, refused, rimsLeft, answered}
-use Rattle.demand.specs.Lent.{allCells}
+use Rattle.call.specs.Call.{Lists, cellReserve}
+use Rattle.call.specs.Divide.{CallAnswer, put, refused, rimsLeft, answered}
+use Rattle.call.specs.Lent.{allCells}
 use Rattle.divider.specs.Promise.{Leaves}
 use Rattle.divider.specs.Steps.{listsIn}
 use Rattle.divider.proofs.WrittenOut.{nodes-as-found, nodes-out, cells-as-found, cells-out}
 
 -- lists that are the same
-pub moved : {a : Answer} {v : Values} {l m n : List Float} {s t q p r : List ℕ} → n ≡ m → t ≡ s → r ≡ p → Leaves a v l m s q p → Leaves a v l n t q r
+pub moved : {a : CallAnswer} {v : Row} {l m n : List Float} {s t q p r : List ℕ} → n ≡ m → t ≡ s → r ≡ p → Leaves a v l m s q p → Leaves a v l n t q r
 moved e f g h = record { values = h .values; nodes = e ∙ h .nodes; rims = f ∙ h .rims; cells = g ∙ h .cells }
 
 module _ (l : List Float) (u : ℕ) (rs q : List ℕ) (k : ℕ) where

@@ -19,7 +19,7 @@ use Rattle.clean.specs.Rings.{Cleaned}
 use Rattle.marks.specs.declared.Edge.{Edge}
 use Rattle.marks.specs.Marks.{marksTo, marked}
 use Rattle.marks.specs.Edges.{marksIn, Marked}
-use Rattle.demand.specs.Lent.{pointIn, pointsIn}
+use Rattle.call.specs.Lent.{pointIn, pointsIn}
 use Rattle.divider.specs.Steps.{pointsOf, OnPaper, partIn, Prepares}
 
 -- what reading the points of a ring or a chain asks, and gives

@@ -13,7 +13,7 @@ use Rattle.vector.specs.declared.GridPoint.{GridPoint}
 use Rattle.vector.specs.Grid.{polygonArea}
 use Rattle.simple.specs.Simple.{polygonSimple}
 use Rattle.table.specs.Refusals.{firstOf}
-use Rattle.demand.specs.Divide.{ringTests}
+use Rattle.call.specs.Divide.{ringTests}
 
 -- ---- what the code's tests say
 pub no : (b : Bool) → not b ≡ true → b ≡ false

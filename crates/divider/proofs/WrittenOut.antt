@@ -15,8 +15,8 @@ use Rattle.laws.specs.Table.{tab}
 use Rattle.laws.proofs.Table.{length-tab, take-tab}
 use Rattle.quads.specs.declared.Cell.{Cell}
 use Rattle.quads.specs.Flat.{four, flatCells, overCells}
-use Rattle.demand.specs.Divide.{put}
-use Rattle.demand.specs.Lent.{cellIn, cellsIn}
+use Rattle.call.specs.Divide.{put}
+use Rattle.call.specs.Lent.{cellIn, cellsIn}
 
 module _ {A B : Type 0} (w : ℕ) (each : A → List B) (out : List A → List B) where
   -- `out` writes each thing, in order

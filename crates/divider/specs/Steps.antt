@@ -19,10 +19,10 @@ use Rattle.pieces.specs.declared.Subdivision.{Subdivision}
 use Rattle.pieces.specs.declared.Subdivision.the-variants as subdivision
 use Rattle.table.specs.declared.Answer as table
 use Rattle.table.specs.declared.Answer.the-variants as answer
-use Rattle.demand.specs.Call.{Lists, cellReserve}
-use Rattle.demand.specs.Divide.{Answer, refusedOr, core, startOf}
-use Rattle.demand.specs.Demand.{Prepared}
-use Rattle.demand.specs.Lent.{pointsIn, allCells, LentRecords, callOfRecords, testsBy}
+use Rattle.call.specs.Call.{Lists, cellReserve}
+use Rattle.call.specs.Divide.{CallAnswer, refusedOr, core, startOf}
+use Rattle.call.specs.Demand.{Prepared}
+use Rattle.call.specs.Lent.{pointsIn, allCells, LentRecords, callOfRecords, testsBy}
 use Rattle.divider.specs.declared.CellRoom.{CellRoom}
 
 -- the points of a ring or a chain that was lent
@@ -39,7 +39,7 @@ abbrev pub partIn : MarkedRing → Part
 partIn m = record { points = take (m .count) (m .points); edges = marksIn (m .edges) (m .count) }
 
 -- the count fits them, and every place of the points, used or not, is on the sheet
-pub record Held (m : MarkedRing) : Type 0 where
+pub record ValidRing (m : MarkedRing) : Type 0 where
   pub count : m .count ≤ 60
   pub places : length (m .points) ≡ 60
   pub marks : length (m .edges) ≡ 60
@@ -48,7 +48,7 @@ pub record Held (m : MarkedRing) : Type 0 where
 -- it is the cleaned ring with the marks that the chain gives it
 pub record Prepares (ring chain : List ℤ) (size : ℕ) (m : MarkedRing) : Type 0 where
   pub part : partIn m ≡ marked (simplifyChain (pointsOf chain)) (cleanPolygon size (pointsOf ring))
-  pub held : Held m
+  pub held : ValidRing m
 
 -- the lists that doubles and numbers hold, u and k of their places used, t the rim marks
 abbrev pub listsIn : List Float → ℕ → List ℕ → List ℕ → ℕ → Lists
@@ -60,13 +60,13 @@ failedAnswer (subdivision.Failed n k u) cells = answer.Failed n k u cells
 failedAnswer (subdivision.Done u d) cells = answer.Refused 8 0 cells
 
 -- what the core asks for: a ring of r points that was prepared, whatever its marks came from, and a set of at most 32 cuts
-pub record CanDivide (L : Limits) (r : ℕ) (m : MarkedRing) (l : List Float) (u : ℕ) (t q : List ℕ) (k : ℕ) : Type 0 where
+pub record CanDivideRing (L : Limits) (r : ℕ) (m : MarkedRing) (l : List Float) (u : ℕ) (t q : List ℕ) (k : ℕ) : Type 0 where
   pub cuts : L .cuts ≤ 32
-  pub held : Held m
+  pub held : ValidRing m
   pub prepared : Prepared L r (partIn m) (listsIn l u t q k)
 
 -- a call whose cells go to place k of the numbers q on, which need not be the list that is tested
-abbrev pub divideInto : Limits → LentRecords → List ℕ → ℕ → Answer
+abbrev pub divideInto : Limits → LentRecords → List ℕ → ℕ → CallAnswer
 divideInto L l q k =
     let c = callOfRecords l in
     let x = listsIn (l .nodes) (l .nodeCount) (l .rims) q k in

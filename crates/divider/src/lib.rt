@@ -15,10 +15,10 @@ ghost use Rattle.split.specs.Split.{splitBadVertices};
 ghost use Rattle.quads.specs.declared.Cell.{Cell};
 ghost use Rattle.table.specs.Answers as Answers;
 ghost use Rattle.table.specs.Refusals.{firstOf};
-ghost use Rattle.demand.specs.Divide.{ringTests, answered, core};
-ghost use Rattle.demand.proofs.Course.{Whole, outcomeOf};
+ghost use Rattle.call.specs.Divide.{ringTests, answered, core};
+ghost use Rattle.call.proofs.Course.{Whole, outcomeOf};
 ghost use Rattle.divider.specs.Promise.{Leaves, Promise};
-ghost use Rattle.divider.specs.Steps.{OnPaper, Prepares, partIn, listsIn, failedAnswer, CanDivide, divideInto, HasRoom};
+ghost use Rattle.divider.specs.Steps.{OnPaper, Prepares, partIn, listsIn, failedAnswer, CanDivideRing, divideInto, HasRoom};
 use corner::Limits;
 use marks::MarkedRing;
 use nodes::NodeNumber;
@@ -63,7 +63,7 @@ fn failed(laid: Subdivision, cells: usize) -> Answer
 }
 
 // The pieces of a ring of `own` points that passed every test, and their cells over the places from cell_count on.
-fn laid_out(
+fn lay_out(
     limits: Limits,
     ring: MarkedRing,
     own: usize,
@@ -73,7 +73,7 @@ fn laid_out(
     cells: &mut [NodeNumber],
     cell_count: usize,
 ) -> Answer
-    requires { ⌜ CanDivide limits own ring (now nodes) «node_count» (now rims) (now cells) «cell_count» × Whole (partIn ring .points) ⌝ }
+    requires { ⌜ CanDivideRing limits own ring (now nodes) «node_count» (now rims) (now cells) «cell_count» × Whole (partIn ring .points) ⌝ }
     ensures { λ r. ⌜ Leaves (answered limits own (partIn ring) (listsIn (now (nodes .entry)) «node_count» (now (rims .entry)) (now (cells .entry)) «cell_count») (splitBadVertices limits (partIn ring)) (outcomeOf limits (partIn ring) (listsIn (now (nodes .entry)) «node_count» (now (rims .entry)) (now (cells .entry)) «cell_count»)))
         (Answers.values r) (now (nodes .entry)) (now (nodes .exit)) (now (rims .exit)) (now (cells .entry)) (now (cells .exit)) ⌝ }
 {
@@ -128,7 +128,7 @@ pub fn divide_core(
     cells: &mut [NodeNumber],
     cell_count: usize,
 ) -> Answer
-    requires { ⌜ CanDivide limits own ring (now nodes) «node_count» (now rims) (now cells) «cell_count» ⌝ }
+    requires { ⌜ CanDivideRing limits own ring (now nodes) «node_count» (now rims) (now cells) «cell_count» ⌝ }
     ensures { λ r. ⌜ Leaves (core limits own (partIn ring) (listsIn (now (nodes .entry)) «node_count» (now (rims .entry)) (now (cells .entry)) «cell_count»))
         (Answers.values r) (now (nodes .entry)) (now (nodes .exit)) (now (rims .exit)) (now (cells .entry)) (now (cells .exit)) ⌝ }
 {
@@ -142,7 +142,7 @@ pub fn divide_core(
             cells: cell_count,
         };
     }
-    laid_out(
+    lay_out(
         limits,
         ring,
         own,
@@ -268,7 +268,7 @@ pub fn divide(
     ensures { λ a. ⌜ Promise delivered (record { ring = now (ring .entry); chain = now (chain .entry); size = size; nodes = now (nodes .entry); nodeCount = «node_count»; rims = now (rims .entry); cells = now (cells .entry); cellCount = «cell_count» })
         (Answers.values a) (now (nodes .exit)) (now (rims .exit)) (now (cells .exit)) ⌝ }
 {
-    let limits = Limits::new();
+    let limits = Limits::on_delivery();
     divide_set(
         limits,
         ring,

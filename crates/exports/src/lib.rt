@@ -17,7 +17,7 @@ ghost use Rattle.listing.specs.Sheet as Sheet;
 ghost use Rattle.wear.specs.Bytes as Bytes;
 use nodes::NodeNumber;
 use smallest::Smallest;
-use table::Values;
+use table::Row;
 use wear::Wear;
 
 // The divider call: one row of the table, and the lists as it says: nodes, their rim marks, and cells.
@@ -31,7 +31,7 @@ pub extern "C" fn ring_divide(
     rims: &mut [u8],
     cells: &mut [NodeNumber],
     cell_count: usize,
-) -> Values
+) -> Row
     ensures { λ v. ⌜ Promise delivered (record { ring = now (ring .entry); chain = now (chain .entry); size = size; nodes = now (nodes .entry); nodeCount = «node_count»; rims = now (rims .entry); cells = now (cells .entry); cellCount = «cell_count» })
         v (now (nodes .exit)) (now (rims .exit)) (now (cells .exit)) ⌝ }
 {
@@ -45,7 +45,7 @@ pub extern "C" fn ring_divide(
         cells,
         cell_count,
     );
-    Values::new(a)
+    Row::new(a)
 }
 
 // The five values of a set, held together.
@@ -78,7 +78,7 @@ pub extern "C" fn ring_divide_set(
     rims: &mut [u8],
     cells: &mut [NodeNumber],
     cell_count: usize,
-) -> Values
+) -> Row
     ensures { λ v. ⌜ Promise (record { cuts = cuts; corner = corner; least = least; greatest = greatest; share = share })
         (record { ring = now (ring .entry); chain = now (chain .entry); size = size; nodes = now (nodes .entry); nodeCount = «node_count»; rims = now (rims .entry); cells = now (cells .entry); cellCount = «cell_count» })
         v (now (nodes .exit)) (now (rims .exit)) (now (cells .exit)) ⌝ }
@@ -95,7 +95,7 @@ pub extern "C" fn ring_divide_set(
         cells,
         cell_count,
     );
-    Values::new(a)
+    Row::new(a)
 }
 
 // The divider call with given marks: 0 straight, 1 snapped to its given point, 2 snapped to the outline.
@@ -112,7 +112,7 @@ pub extern "C" fn ring_divide_marked(
     rims: &mut [u8],
     cells: &mut [NodeNumber],
     cell_count: usize,
-) -> Values
+) -> Row
     ensures { λ v. ⌜ MarkedPromise delivered (record { ring = now (ring .entry); marking = record { kinds = now (kinds .entry); snaps = now (snaps .entry); outline = now (outline .entry); loops = now (loops .entry) }; size = size; nodes = now (nodes .entry); nodeCount = «node_count»; rims = now (rims .entry); cells = now (cells .entry); cellCount = «cell_count» })
         v (now (nodes .exit)) (now (rims .exit)) (now (cells .exit)) ⌝ }
 {
@@ -129,7 +129,7 @@ pub extern "C" fn ring_divide_marked(
         cells,
         cell_count,
     );
-    Values::new(a)
+    Row::new(a)
 }
 
 // The same with the caller's set of limits.
@@ -151,7 +151,7 @@ pub extern "C" fn ring_divide_marked_set(
     rims: &mut [u8],
     cells: &mut [NodeNumber],
     cell_count: usize,
-) -> Values
+) -> Row
     ensures { λ v. ⌜ MarkedPromise (record { cuts = cuts; corner = corner; least = least; greatest = greatest; share = share })
         (record { ring = now (ring .entry); marking = record { kinds = now (kinds .entry); snaps = now (snaps .entry); outline = now (outline .entry); loops = now (loops .entry) }; size = size; nodes = now (nodes .entry); nodeCount = «node_count»; rims = now (rims .entry); cells = now (cells .entry); cellCount = «cell_count» })
         v (now (nodes .exit)) (now (rims .exit)) (now (cells .exit)) ⌝ }
@@ -171,7 +171,7 @@ pub extern "C" fn ring_divide_marked_set(
         cells,
         cell_count,
     );
-    Values::new(a)
+    Row::new(a)
 }
 
 // The divider call of the practice paper.
@@ -185,8 +185,8 @@ pub extern "C" fn ring_divide_practice(
     rims: &mut [u8],
     cells: &mut [NodeNumber],
     cell_count: usize,
-) -> Values
-    ensures { λ v. ⌜ Practice.Promise (record { ring = now (ring .entry); chain = now (chain .entry); size = size; nodes = now (nodes .entry); nodeCount = «node_count»; rims = now (rims .entry); cells = now (cells .entry); cellCount = «cell_count» })
+) -> Row
+    ensures { λ v. ⌜ Practice.PracticePromise (record { ring = now (ring .entry); chain = now (chain .entry); size = size; nodes = now (nodes .entry); nodeCount = «node_count»; rims = now (rims .entry); cells = now (cells .entry); cellCount = «cell_count» })
         v (now (nodes .exit)) (now (rims .exit)) (now (cells .exit)) ⌝ }
 {
     let a = practice::divide_practice(
@@ -199,7 +199,7 @@ pub extern "C" fn ring_divide_practice(
         cells,
         cell_count,
     );
-    Values::new(a)
+    Row::new(a)
 }
 
 // The smallest choice of a ring's points that is still refused with the ring's own number, 5 to 8; or 1, 2, 18 or 19.

@@ -28,10 +28,10 @@ use Rattle.clean.specs.declared.Ring.{Ring}
 use Rattle.clean.specs.Places.{survives, surviving}
 use Rattle.clean.proofs.Survivors.{surviving-many, surviving-at, survives-next}
 use Rattle.outline.specs.Outline.{Segment}
-use Rattle.nodes.specs.Flat.{pointAt}
-use Rattle.demand.specs.Marked.{Marking, markOf, leadPoint, leadLine, givenMark, calledFor}
+use Rattle.nodes.specs.Flat.{nodeIn}
+use Rattle.call.specs.Marked.{Marking, markOf, leadPoint, leadLine, givenMark, calledFor}
 use Rattle.given.specs.declared.LeadLine.{LeadLine}
-use Rattle.given.specs.Steps.{sought, Traced, placesIn, MarksOf, markLeft, Laid, Survive}
+use Rattle.given.specs.Steps.{sought, OutlineRead, placesIn, MarksOf, markLeft, Laid, Survive}
 
 -- a kept place is one of the ring's
 module _ (ring : List GridPoint) (n : ℕ) (kinds : List ℕ) (snaps : List Float) (c : Ring) (h : MarksOf ring n kinds snaps c) where
@@ -61,10 +61,10 @@ laid-more f i es e so l q =
 
 -- the mark that the code lays, with the next places that it found
 pub mark-next : (ring : List GridPoint) (n : ℕ) (ks : List ℕ) (count : ℕ) (kinds : List ℕ) (snaps : List Float) (ss : List Segment) (j m after : ℕ) → m ≡ (j + 1) % count → after ≡ (getD ks j 0 + 1) % n
-    → (let k = getD ks j 0 in cond (eqb (getD ks m 0) after) (markOf (getD kinds k 0) (pointAt snaps k) (leadPoint ss (getD ring k origin) (getD ring after origin))) Straight) ≡ markLeft ring n ks count kinds snaps ss j
+    → (let k = getD ks j 0 in cond (eqb (getD ks m 0) after) (markOf (getD kinds k 0) (nodeIn snaps k) (leadPoint ss (getD ring k origin) (getD ring after origin))) Straight) ≡ markLeft ring n ks count kinds snaps ss j
 mark-next ring n ks count kinds snaps ss j m after d e =
     let k = getD ks j 0 in
-    λ i. cond (eqb (getD ks (d i) 0) (e i)) (markOf (getD kinds k 0) (pointAt snaps k) (leadPoint ss (getD ring k origin) (getD ring (e i) origin))) Straight
+    λ i. cond (eqb (getD ks (d i) 0) (e i)) (markOf (getD kinds k 0) (nodeIn snaps k) (leadPoint ss (getD ring k origin) (getD ring (e i) origin))) Straight
 
 -- the outline's nearest point is looked at where the kind is 2 alone
 mark-same : (kind : ℕ) (p q u : Point) → (kind ≡ 2 → q ≡ u) → markOf kind p q ≡ markOf kind p u
@@ -76,7 +76,7 @@ mark-same kind p q u h = go (eqb kind 1) (eqb kind 2) refl
     go false true e = ap Snap (h (eqb-true kind 2 e))
     go false false e = refl
 
-module _ (ring : List GridPoint) (n : ℕ) (c : Ring) (g : Marking) (o : LeadLine) (h : MarksOf ring n (g .kinds) (g .snaps) c) (t : Traced (g .kinds) (g .outline) (g .loops) o) where
+module _ (ring : List GridPoint) (n : ℕ) (c : Ring) (g : Marking) (o : LeadLine) (h : MarksOf ring n (g .kinds) (g .snaps) c) (t : OutlineRead (g .kinds) (g .outline) (g .loops) o) where
   abbrev r : List GridPoint
   r = take n ring
 
@@ -93,13 +93,13 @@ module _ (ring : List GridPoint) (n : ℕ) (c : Ring) (g : Marking) (o : LeadLin
   points-many = length-take-le n ring (omega (arith, h .few, h .array))
 
   -- the mark given to the edge from place k
-  given-is : (k : ℕ) → k < n → markOf (getD (g .kinds) k 0) (pointAt (g .snaps) k) (leadPoint (sought o) (getD ring k origin) (getD ring ((k + 1) % n) origin)) ≡ givenMark g r k
+  given-is : (k : ℕ) → k < n → markOf (getD (g .kinds) k 0) (nodeIn (g .snaps) k) (leadPoint (sought o) (getD ring k origin) (getD ring ((k + 1) % n) origin)) ≡ givenMark g r k
   unfolding givenMark calledFor
   given-is k l =
       let f : n ≤ length ring = omega (arith, h .few, h .array) in
       let a = rings.at-in ring n f (omega (arith, l)) k l in
       let b = rings.at-next ring n f (omega (arith, l)) k ((k + 1) % n) refl in
-      mark-same (getD (g .kinds) k 0) (pointAt (g .snaps) k) (leadPoint (sought o) (getD ring k origin) (getD ring ((k + 1) % n) origin)) (leadPoint (leadLine g) (at r k) (at r (suc k)))
+      mark-same (getD (g .kinds) k 0) (nodeIn (g .snaps) k) (leadPoint (sought o) (getD ring k origin) (getD ring ((k + 1) % n) origin)) (leadPoint (leadLine g) (at r k) (at r (suc k)))
       (λ e.
       let s = t .is (any-hit (λ i. eqb (getD (g .kinds) i 0) 2) k (length (g .kinds)) (omega (arith, l, h .marks)) (eq-eqb (getD (g .kinds) k 0) 2 e)) in
       λ i. leadPoint (s i) (sym a i) (sym b i))

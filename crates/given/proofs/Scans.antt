@@ -19,13 +19,13 @@ use Rattle.vector.specs.Grid.{origin}
 use Rattle.vector.specs.Size.{AllOnSheet}
 use Rattle.outline.specs.Outline.{segments, total}
 use Rattle.outline.proofs.Scan.{total-up, sum-more, segments-front, loops-few}
-use Rattle.nodes.specs.Flat.{pointAt}
-use Rattle.demand.specs.Lent.{pointIn, pointsIn}
-use Rattle.demand.specs.Marked.{markOut, calledFor, loopsOut, outlineOut}
-use Rattle.demand.proofs.Tests.{or-no}
-use Rattle.demand.proofs.Marked.{Outlined, outline-in}
+use Rattle.nodes.specs.Flat.{nodeIn}
+use Rattle.call.specs.Lent.{pointIn, pointsIn}
+use Rattle.call.specs.Marked.{markOut, calledFor, loopsOut, outlineOut}
+use Rattle.call.proofs.Tests.{or-no}
+use Rattle.call.proofs.Marked.{Outlined, outline-in}
 use Rattle.given.specs.declared.LeadLine.{LeadLine}
-use Rattle.given.specs.Steps.{Traced}
+use Rattle.given.specs.Steps.{OutlineRead}
 
 pub any-zero : (p : ℕ → Bool) → any p 0 ≡ false
 unfolding any
@@ -35,7 +35,7 @@ abbrev pub calls : List ℕ → ℕ → Bool
 calls kinds i = eqb (getD kinds i 0) 2
 
 abbrev pub outAt : List ℕ → List Float → ℕ → Bool
-outAt kinds snaps i = markOut (getD kinds i 0) (pointAt snaps i)
+outAt kinds snaps i = markOut (getD kinds i 0) (nodeIn snaps i)
 
 -- ---- loops
 abbrev pub short : List ℕ → ℕ → Bool
@@ -76,7 +76,7 @@ module _ (ms : List ℕ) (n : ℕ) where
       (s, omega (arith, s, f))
 
 -- ---- the outline as arrays hold it
-pub none-sought : (kinds : List ℕ) (outline : List ℤ) (loops : List ℕ) (o : LeadLine) → o .count ≡ 0 → calledFor kinds ≡ false → Traced kinds outline loops o
+pub none-sought : (kinds : List ℕ) (outline : List ℤ) (loops : List ℕ) (o : LeadLine) → o .count ≡ 0 → calledFor kinds ≡ false → OutlineRead kinds outline loops o
 none-sought kinds outline loops o z e =
     let t : total (take (o .count) (o .loops)) ≡ 0 = ap (λ (k : ℕ). total (take k (o .loops))) z in
     record { fits = record { few = omega (arith, z); points = omega (arith, t) }; is = λ h. absurd (subst T (sym h ∙ e) tt) }
@@ -94,7 +94,7 @@ module _ (kinds : List ℕ) (outline : List ℤ) (loops : List ℕ) (e : outline
   pub few-loops : length loops ≤ 20
   few-loops = omega (arith, loops-whole loops n (passed .whole) .1, passed .few)
 
-  pub held : (ps : List GridPoint) (ls : List ℕ) → ps ≡ pointsIn outline n ++ replicate (60 - n) origin → take (length loops) ls ≡ loops → Traced kinds outline loops (record { points = ps; loops = ls; count = length loops })
+  pub held : (ps : List GridPoint) (ls : List ℕ) → ps ≡ pointsIn outline n ++ replicate (60 - n) origin → take (length loops) ls ≡ loops → OutlineRead kinds outline loops (record { points = ps; loops = ls; count = length loops })
   held ps ls p l =
       let s = loops-whole loops n (passed .whole) .0 in
       let t : total (take (length loops) ls) ≡ total loops = ap total l in

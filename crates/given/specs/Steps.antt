@@ -17,8 +17,8 @@ use Rattle.marks.specs.declared.Edge.{Edge}
 use Rattle.marks.specs.declared.EdgeMark.{EdgeMark}
 use Rattle.marks.specs.declared.EdgeMark.the-variants.{Straight}
 use Rattle.marks.specs.Edges.{marksIn, straightEdge}
-use Rattle.nodes.specs.Flat.{pointAt}
-use Rattle.demand.specs.Marked.{Marking, allPoints, markOf, leadPoint, givenMark, calledFor}
+use Rattle.nodes.specs.Flat.{nodeIn}
+use Rattle.call.specs.Marked.{Marking, allPoints, markOf, leadPoint, givenMark, calledFor}
 use Rattle.given.specs.declared.LeadLine.{LeadLine}
 
 -- ---- the outline
@@ -31,7 +31,7 @@ abbrev pub sought : LeadLine → List Segment
 sought o = segments (o .points) (take (o .count) (o .loops))
 
 -- they are those of the outline that was lent, where some mark calls for it
-pub record Traced (kinds : List ℕ) (outline : List ℤ) (loops : List ℕ) (o : LeadLine) : Type 0 where
+pub record OutlineRead (kinds : List ℕ) (outline : List ℤ) (loops : List ℕ) (o : LeadLine) : Type 0 where
   pub fits : Fits o
   pub is : calledFor kinds ≡ true → sought o ≡ segments (allPoints outline) loops
 
@@ -53,7 +53,7 @@ pub record MarksOf (ring : List GridPoint) (n : ℕ) (kinds : List ℕ) (snaps :
 abbrev pub markLeft : List GridPoint → ℕ → List ℕ → ℕ → List ℕ → List Float → List Segment → ℕ → EdgeMark
 markLeft ring n ks count kinds snaps ss j =
     let k = getD ks j 0 in
-    cond (eqb (getD ks ((j + 1) % count) 0) ((k + 1) % n)) (markOf (getD kinds k 0) (pointAt snaps k) (leadPoint ss (getD ring k origin) (getD ring ((k + 1) % n) origin))) Straight
+    cond (eqb (getD ks ((j + 1) % count) 0) ((k + 1) % n)) (markOf (getD kinds k 0) (nodeIn snaps k) (leadPoint ss (getD ring k origin) (getD ring ((k + 1) % n) origin))) Straight
 
 -- es has the first n of these marks, and the places after them are straight
 pub record Laid (f : ℕ → EdgeMark) (n : ℕ) (es : List Edge) : Type 0 where

@@ -3,15 +3,15 @@
 //
 // It stands beside `chain` and `marks` in the way of a ring: they mark the edges along a drawn chain, this crate takes the
 // marks as they are lent, 0 straight, 1 snapped to a given point, 2 snapped to the nearest point of an outline with holes.
-// Nothing is asked of what is lent until it is tested. The definitions are those of demand's specs/Marked.
+// Nothing is asked of what is lent until it is tested. The definitions are those of call's specs/Marked.
 
 ghost use mathlib.Core.Path.{_≡_};
 ghost use mathlib.Core.Bool.{false, cond};
 ghost use Prim.Native.Nat.{_≤_};
 ghost use lib.ListN.{length, take};
 ghost use Rattle.marks.specs.declared.EdgeMark.the-variants.{Straight};
-ghost use Rattle.demand.specs.Marked as Marked;
-ghost use Rattle.given.specs.Steps.{Fits, sought, Traced, placesIn, MarksOf, markLeft, Laid, Survive};
+ghost use Rattle.call.specs.Marked as Marked;
+ghost use Rattle.given.specs.Steps.{Fits, sought, OutlineRead, placesIn, MarksOf, markLeft, Laid, Survive};
 use clean::Ring;
 use marks::Edge;
 use marks::EdgeMark;
@@ -133,7 +133,7 @@ fn loop_counts(loops: &[u32]) -> [usize; 20]
 // The outline that is sought: the one lent where it is called for, and else none.
 fn lead_line(kinds: &[u8], outline: &[i32], loops: &[u32]) -> LeadLine
     requires { ⌜ Marked.outlineOut (now kinds) (now outline) (now loops) ≡ false ⌝ }
-    ensures { λ r. ⌜ Traced (now (kinds .entry)) (now (outline .entry)) (now (loops .entry)) r ⌝ }
+    ensures { λ r. ⌜ OutlineRead (now (kinds .entry)) (now (outline .entry)) (now (loops .entry)) r ⌝ }
 {
     if !called_for(kinds) {
         return LeadLine {

@@ -11,11 +11,11 @@ use lib.Ieee.{Float}
 use borrow.Author.Tests.{eq-eqb, ne-eqb, le-ltb}
 use Rattle.laws.proofs.Table.{length-tab}
 use Rattle.corner.specs.Limits.{delivered}
-use Rattle.demand.specs.Call.{listsOf}
-use Rattle.demand.specs.Divide.{startOf}
-use Rattle.demand.specs.Demand.{Demand3}
-use Rattle.demand.specs.Lent.{Lent, callOf, cellIn, divideLent}
-use Rattle.table.specs.declared.Values.{Values}
+use Rattle.call.specs.Call.{listsOf}
+use Rattle.call.specs.Divide.{startOf}
+use Rattle.call.specs.Demand.{AcceptedCall}
+use Rattle.call.specs.Lent.{Lent, callOf, cellIn, divideLent}
+use Rattle.table.specs.declared.Row.{Row}
 use Rattle.divider.specs.Promise.{Promise}
 use Rattle.blocks.specs.declared.Reading.{Reading}
 use Rattle.blocks.specs.Blocks.{readBlock}
@@ -23,15 +23,15 @@ use Rattle.blocks.proofs.Counts.{points, few-points, all-places}
 use Rattle.report.specs.Report.{mostText, Printed, holds, fewCells, ringText, refusedRing}
 use Rattle.job.specs.Row.{rowText, Shown}
 
-module _ (l : Lent) (v : Values) (m : List Float) (t : List ℕ) (p : List ℕ) (q : Promise delivered l v m t p) (e : length p ≡ length (l .cells)) where
+module _ (l : Lent) (v : Row) (m : List Float) (t : List ℕ) (p : List ℕ) (q : Promise delivered l v m t p) (e : length p ≡ length (l .cells)) where
   grown : v .code ≡ 0 → l .nodeCount ≤ v .nodes
   grown h = go (decLe (l .nodeCount) (v .nodes))
     where
-      d : Demand3 delivered (startOf (callOf l)) (listsOf (callOf l)) (divideLent delivered l)
+      d : AcceptedCall delivered (startOf (callOf l)) (listsOf (callOf l)) (divideLent delivered l)
       d = q .accepted h
 
       same : v .nodes ≡ divideLent delivered l .row .nodes
-      same = ap (λ (w : Values). w .nodes) (q .leaves .values)
+      same = ap (λ (w : Row). w .nodes) (q .leaves .values)
 
       go : Dec (l .nodeCount ≤ v .nodes) → l .nodeCount ≤ v .nodes
       go (yes k) = k
@@ -40,7 +40,7 @@ module _ (l : Lent) (v : Values) (m : List Float) (t : List ℕ) (p : List ℕ) 
   listed : v .code ≡ 0 → v .cells * 4 ≤ length p
   listed h =
       let f = q .accepted h .cells-fit in
-      let s : v .cells ≡ divideLent delivered l .row .cells = ap (λ (w : Values). w .cells) (q .leaves .values) in
+      let s : v .cells ≡ divideLent delivered l .row .cells = ap (λ (w : Row). w .cells) (q .leaves .values) in
       let n = length-tab (cellIn (l .cells)) (length (l .cells) / 4) in
       omega arith
 
@@ -55,7 +55,7 @@ pub part-length {ℓ} : {A : Type ℓ} (r n : ℕ) (m : List A) → length m ≡
 part-length r n m e h = sym (length-take-le r m (omega arith))
 
 -- the two cases of a row
-module _ (n used : ℕ) (v : Values) (cells : List ℕ) where
+module _ (n used : ℕ) (v : Row) (cells : List ℕ) where
   pub row-refused : (v .code ≡ 0 → ⊥) → refusedRing n (v .code) (v .corners) (v .k) ≡ rowText n used v cells
   unfolding rowText
   row-refused h = rw (ne-eqb (v .code) 0 h)

@@ -13,8 +13,8 @@ use Rattle.blocks.specs.declared.Block.{Block}
 use Rattle.blocks.specs.declared.Block.the-variants.{Ring, Chain, Refused}
 use Rattle.blocks.specs.Blocks.{readBlock}
 use Rattle.corner.specs.Limits.{delivered}
-use Rattle.demand.specs.Lent.{divideLent}
-use Rattle.table.specs.declared.Values.{Values}
+use Rattle.call.specs.Lent.{divideLent}
+use Rattle.table.specs.declared.Row.{Row}
 use Rattle.divider.specs.Promise.{Promise}
 use Rattle.report.specs.Text.{put}
 use Rattle.report.specs.Report.{mostText, Printed, holds, refusedBlock}
@@ -63,7 +63,7 @@ module _ (s : State) (ps : List ℤ) (l : List Float) (rs : List ℕ) where
     has-ended f q u d = rw (sym h ∙ f) (record { state = d; points = refl; nodes = refl; rims = refl; text = no-text u })
 
   -- the ring that waits was divided, by a call that kept its promise, and its row was printed
-  pub divided : (chain : List ℤ) (v : Values) (m : List Float) (y : List ℕ) (p : List ℕ) → Promise delivered (lentBy s ps l rs chain) v m y p → (w : Values) → w ≡ v → (k : ℕ) (t u : List ℕ)
+  pub divided : (chain : List ℤ) (v : Row) (m : List Float) (y : List ℕ) (p : List ℕ) → Promise delivered (lentBy s ps l rs chain) v m y p → (w : Row) → w ≡ v → (k : ℕ) (t u : List ℕ)
       → Printed true t (rowText (s .block / 2) (s .used) w p) k u
       → Steps (divides s ps l rs chain) (record { state = record { block = s .block + 1; count = s .count; size = s .size; used = w .nodes; ended = false }; count = k }) ps m y t u
   unfolding divides

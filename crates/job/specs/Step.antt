@@ -10,8 +10,8 @@ use lib.Ieee.{Float}
 use Rattle.corner.specs.Limits.{delivered}
 use Rattle.nodes.specs.Flat.{over}
 use Rattle.quads.specs.Flat.{overCells}
-use Rattle.demand.specs.Lent.{Lent, divideLent}
-use Rattle.demand.specs.Divide.{Answer}
+use Rattle.call.specs.Lent.{Lent, divideLent}
+use Rattle.call.specs.Divide.{CallAnswer}
 use Rattle.blocks.proofs.Counts.{points}
 use Rattle.blocks.specs.declared.Block.{Block}
 use Rattle.blocks.specs.declared.Block.the-variants.{Ring, Chain, Refused}

@@ -20,7 +20,7 @@ ghost use Rattle.job.specs.Run.{Bytes, start};
 use blocks::Block;
 use nodes::NodeNumber;
 use report::Divided;
-use table::Values;
+use table::Row;
 
 // The state between two blocks: the number of the next one; the count and the sheet size of the ring that waits for its chain,
 // where that number is odd; the nodes listed; and whether the run has ended. The ring's points stand beside it in a list that
@@ -68,7 +68,7 @@ impl State {
 }
 
 // The lines of a ring's row.
-fn print_row(text: &mut [u8], ring: u64, used: usize, v: Values, cells: &[NodeNumber]) -> usize
+fn print_row(text: &mut [u8], ring: u64, used: usize, v: Row, cells: &[NodeNumber]) -> usize
     requires { ⌜ Shown used v (now cells) × (length (now cells) ≤ 496) × (mostText ≤ length (now text)) ⌝ }
     ensures { λ r. ⌜ Printed true (now (text .entry)) (rowText ring used v (now (cells .entry))) r (now (text .exit)) ⌝ }
 {
@@ -106,7 +106,7 @@ fn divide_ring(
     let stop = run * 2;
     let used = s.used;
     let mut cells = [0; 496];
-    let v = Values::new(divider::divide(
+    let v = Row::new(divider::divide(
         &ring[..end],
         &chain[..stop],
         s.size,

@@ -10,20 +10,20 @@ use Rattle.laws.proofs.Table.{length-tab}
 use Rattle.marks.specs.declared.MarkedRing.{MarkedRing}
 use Rattle.marks.specs.Part.{Part}
 use Rattle.corner.specs.declared.Limits.{Limits}
-use Rattle.table.specs.declared.Values.{Values}
+use Rattle.table.specs.declared.Row.{Row}
 use Rattle.table.specs.Answers.{refusedRow}
 use Rattle.table.specs.Refusals.{firstOf}
 use Rattle.table.proofs.Refusals.{all-pass}
-use Rattle.demand.specs.Call.{Lists}
-use Rattle.demand.specs.Divide.{Answer, core}
-use Rattle.demand.specs.Demand.{Prepared}
-use Rattle.demand.specs.Lent.{pointIn}
-use Rattle.demand.specs.Marked.{Marking, allPoints, marksOut, LentMarked, markedLists, markedStart, markedTests, divideMarked}
-use Rattle.demand.specs.LentCalls.{GivenMarked, marked, Pool, lendMarked, answerOf, leaves}
-use Rattle.demand.proofs.Course as Course
-use Rattle.demand.proofs.Marked.{MarkedPassed, marked-passed, marked-prepared, demand3-marked}
+use Rattle.call.specs.Call.{Lists}
+use Rattle.call.specs.Divide.{CallAnswer, core}
+use Rattle.call.specs.Demand.{Prepared}
+use Rattle.call.specs.Lent.{pointIn}
+use Rattle.call.specs.Marked.{Marking, allPoints, marksOut, LentMarked, markedLists, markedStart, markedTests, divideMarked}
+use Rattle.call.specs.LentCalls.{GivenMarked, marked, Pool, lendMarked, answerOf, leaves}
+use Rattle.call.proofs.Course as Course
+use Rattle.call.proofs.Marked.{MarkedPassed, marked-passed, marked-prepared, demand3-marked}
 use Rattle.divider.specs.Promise.{Leaves}
-use Rattle.divider.specs.Steps.{partIn, CanDivide}
+use Rattle.divider.specs.Steps.{partIn, CanDivideRing}
 use Rattle.divider.proofs.Leaving.{refused-leaves}
 use Rattle.marked.specs.Promise.{MarkedPromise}
 use Rattle.marked.specs.Steps.{Tested, Prepares}
@@ -35,7 +35,7 @@ module _ (L : Limits) (l : LentMarked) where
   abbrev r : ℕ
   r = length (allPoints (l .ring))
 
-  abbrev core-of : Answer
+  abbrev core-of : CallAnswer
   core-of = core L r (markedStart l) x
 
   own : r ≡ length (l .ring) / 2
@@ -60,7 +60,7 @@ module _ (L : Limits) (l : LentMarked) where
 
     -- the ring that was prepared
     module _ (m : MarkedRing) (b : Prepares (l .ring) (l .marking) (l .size) m) where
-      pub can-divide : CanDivide L (length (l .ring) / 2) m (l .nodes) (l .nodeCount) (l .rims) (l .cells) (l .cellCount)
+      pub can-divide : CanDivideRing L (length (l .ring) / 2) m (l .nodes) (l .nodeCount) (l .rims) (l .cells) (l .cellCount)
       can-divide =
           record {
             cuts = through .cuts;
@@ -68,16 +68,16 @@ module _ (L : Limits) (l : LentMarked) where
             prepared = subst (λ (r : ℕ). Prepared L r (partIn m) x) own (subst (λ (p : Part). Prepared L r p x) (sym (b .part)) (marked-prepared L l through));
           }
 
-      pub call-divided : (v : Values) (n : List Float) (t o : List ℕ) → Leaves (core L (length (l .ring) / 2) (partIn m) x) v (l .nodes) n t (l .cells) o → Leaves (divideMarked L l) v (l .nodes) n t (l .cells) o
+      pub call-divided : (v : Row) (n : List Float) (t o : List ℕ) → Leaves (core L (length (l .ring) / 2) (partIn m) x) v (l .nodes) n t (l .cells) o → Leaves (divideMarked L l) v (l .nodes) n t (l .cells) o
       unfolding divideMarked
       call-divided v n t o f =
           rw (Course.goes-on x (markedTests L l) core-of (sym e ∙ z))
           (subst (λ (r : ℕ). Leaves (core L r (markedStart l) x) v (l .nodes) n t (l .cells) o) (sym own) (subst (λ (p : Part). Leaves (core L (length (l .ring) / 2) p x) v (l .nodes) n t (l .cells) o) (b .part) f))
 
 -- ---- the promise
-pub promised : (L : Limits) (l : LentMarked) (v : Values) (m : List Float) (t p : List ℕ) → Leaves (divideMarked L l) v (l .nodes) m t (l .cells) p → MarkedPromise L l v m t p
-promised L l v m t p h = record { leaves = h; accepted = λ z. demand3-marked L l (sym (ap (λ (v : Values). v .code) (h .values)) ∙ z) }
+pub promised : (L : Limits) (l : LentMarked) (v : Row) (m : List Float) (t p : List ℕ) → Leaves (divideMarked L l) v (l .nodes) m t (l .cells) p → MarkedPromise L l v m t p
+promised L l v m t p h = record { leaves = h; accepted = λ z. demand3-marked L l (sym (ap (λ (v : Row). v .code) (h .values)) ∙ z) }
 
 -- ---- the node list and the rim marks that it leaves are those of a list of calls
-pub as-called : (s : Pool) (g : GivenMarked) (v : Values) (m : List Float) (t p : List ℕ) → MarkedPromise (g .limits) (lendMarked s g) v m t p → _≡_ {A = Pool} (record { doubles = m; count = v .nodes; rims = t }) (leaves s (answerOf s (marked g)))
+pub as-called : (s : Pool) (g : GivenMarked) (v : Row) (m : List Float) (t p : List ℕ) → MarkedPromise (g .limits) (lendMarked s g) v m t p → _≡_ {A = Pool} (record { doubles = m; count = v .nodes; rims = t }) (leaves s (answerOf s (marked g)))
 as-called s g v m t p h = λ j. record { doubles = h .leaves .nodes j; count = h .leaves .values j .nodes; rims = h .leaves .rims j }

@@ -13,14 +13,14 @@ use Rattle.vector.specs.Grid.{origin}
 use Rattle.clean.specs.declared.Ring.{Ring}
 use Rattle.clean.specs.Clean.{cleanPolygon}
 use Rattle.clean.specs.Places.{keptPlaces, surviving, Rising}
-use Rattle.clean.specs.Rings.{ringOf, Cleaned}
+use Rattle.clean.specs.Rings.{asRing, Cleaned}
 use Rattle.clean.proofs.Places.{pick-length, kept-image, kept-rising}
 use Rattle.marks.specs.declared.Edge.{Edge}
 use Rattle.marks.specs.declared.EdgeMark.the-variants.{Straight}
 use Rattle.marks.specs.Edges.{marksIn}
-use Rattle.demand.specs.Lent.{pointIn, pointsIn}
-use Rattle.demand.specs.Marked.{Marking, allPoints, givenMark, markedBy}
-use Rattle.demand.proofs.Marked.{marks-in}
+use Rattle.call.specs.Lent.{pointIn, pointsIn}
+use Rattle.call.specs.Marked.{Marking, allPoints, givenMark, markedBy}
+use Rattle.call.proofs.Marked.{marks-in}
 use Rattle.divider.specs.Steps.{partIn}
 use Rattle.given.specs.Steps.{placesIn, MarksOf, Survive}
 use Rattle.marked.specs.Steps.{Tested, Prepares}
@@ -47,7 +47,7 @@ module _ (ring : List ℤ) (g : Marking) (size : ℕ) (h : Tested ring g) (ps : 
   left = kept-many size (take n ps) ∙ ap length (sym (w .points)) ∙ counted
 
   room : length (c .places) ≡ 60
-  unfolding ringOf
+  unfolding asRing
   room =
       let ks = keptPlaces size (take n ps) in
       ap (λ (r : Ring). length (r .places)) (w .is) ∙ simp (length-append, length-drop, length-replicate) (omega (arith, left, w .valid .count))

@@ -12,9 +12,9 @@ use Rattle.corner.specs.declared.Limits.{Limits}
 use Rattle.nodes.proofs.Flat.{length-in}
 use Rattle.table.specs.Refusals.{firstOf}
 use Rattle.sets.specs.Sets.{limitsOut}
-use Rattle.demand.specs.Call.{countsOut, unitsOut, listsOut, roomOut}
-use Rattle.demand.specs.Lent.{pointIn, cellIn, odd}
-use Rattle.demand.specs.Marked.{allPoints, marksOut, outlineOut, LentMarked, markedLists, markedTests}
+use Rattle.call.specs.Call.{countsOut, unitsOut, listsOut, roomOut}
+use Rattle.call.specs.Lent.{pointIn, cellIn, odd}
+use Rattle.call.specs.Marked.{allPoints, marksOut, outlineOut, LentMarked, markedLists, markedTests}
 
 -- 1 of a ring with no chain
 pub no-chain : (o b : Bool) → (o || false || b) ≡ (o || b)

@@ -6,8 +6,8 @@ use mathlib.Core.List.{List}
 use lib.IntN.{ℤ}
 use lib.ListN.{length}
 use Rattle.marks.specs.declared.MarkedRing.{MarkedRing}
-use Rattle.demand.specs.Marked.{Marking, allPoints, markedBy, marksOut, outlineOut}
-use Rattle.divider.specs.Steps.{OnPaper, partIn, Held}
+use Rattle.call.specs.Marked.{Marking, allPoints, markedBy, marksOut, outlineOut}
+use Rattle.divider.specs.Steps.{OnPaper, partIn, ValidRing}
 
 -- the ring passed 1 and 2, and its marks 13 and 14
 pub record Tested (ring : List ℤ) (g : Marking) : Type 0 where
@@ -18,4 +18,4 @@ pub record Tested (ring : List ℤ) (g : Marking) : Type 0 where
 -- m is the cleaned ring with the marks that survive
 pub record Prepares (ring : List ℤ) (g : Marking) (size : ℕ) (m : MarkedRing) : Type 0 where
   pub part : partIn m ≡ markedBy size g (allPoints ring)
-  pub held : Held m
+  pub held : ValidRing m

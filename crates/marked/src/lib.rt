@@ -11,8 +11,8 @@ ghost use lib.ListN.{length};
 ghost use Rattle.corner.specs.Limits.{delivered};
 ghost use Rattle.table.specs.Answers as Answers;
 ghost use Rattle.table.specs.Refusals.{firstOf};
-ghost use Rattle.demand.specs.Call as Call;
-ghost use Rattle.demand.specs.Marked.{allPoints, markedTests};
+ghost use Rattle.call.specs.Call as Call;
+ghost use Rattle.call.specs.Marked.{allPoints, markedTests};
 ghost use Rattle.marked.specs.Promise.{MarkedPromise};
 ghost use Rattle.marked.specs.Steps.{Tested, Prepares};
 use corner::Limits;
@@ -177,7 +177,7 @@ pub fn divide_marked(
     ensures { λ a. ⌜ MarkedPromise delivered (record { ring = now (ring .entry); marking = record { kinds = now (kinds .entry); snaps = now (snaps .entry); outline = now (outline .entry); loops = now (loops .entry) }; size = size; nodes = now (nodes .entry); nodeCount = «node_count»; rims = now (rims .entry); cells = now (cells .entry); cellCount = «cell_count» })
         (Answers.values a) (now (nodes .exit)) (now (rims .exit)) (now (cells .exit)) ⌝ }
 {
-    let limits = Limits::new();
+    let limits = Limits::on_delivery();
     divide_marked_set(
         limits,
         ring,

@@ -29,7 +29,7 @@ use Rattle.corner.specs.declared.Limits.{Limits}
 use Rattle.split.specs.Split.{Cut}
 use Rattle.cuts.specs.Counts.{Sound}
 use Rattle.cuts.specs.Provenance as Provenance
-use Rattle.cuts.specs.Provenance.{Side, sides, Alike, same, turned, firstOf, secondOf, diagonal, Among, Beside, Carries}
+use Rattle.cuts.specs.Provenance.{Side, sides, SameSide, same, turned, firstPartOf, secondPartOf, diagonal, Among, Beside, Carries}
 use Rattle.cuts.proofs.Counts.{counted}
 use Rattle.cuts.proofs.Sides.{side-count, side-at}
 use Rattle.cuts.proofs.Provenance.{followed}
@@ -38,22 +38,22 @@ use Rattle.nodes.specs.Growth.{_≈_, Numbered, nodeFor}
 use Rattle.nodes.proofs.Numbers.{number-at}
 use Rattle.quads.specs.declared.Cell.{Cell}
 use Rattle.quads.specs.Quads.{middle, noCell}
-use Rattle.cells.specs.Stages.{marksOf}
+use Rattle.cells.specs.Stages.{markAt}
 use Rattle.cells.specs.Claims.{cornersTo}
 use Rattle.cells.specs.Cover.{Ends}
 use Rattle.cells.proofs.Middles.{middle-comm}
 use Rattle.table.specs.Refusals.{Refusal, Passes, numbered}
 use Rattle.table.proofs.Refusals.{not-0}
 use Rattle.sets.specs.Sets.{practiceSet}
-use Rattle.demand.specs.Call.{Lists, usedIn, Call, listsOf, over24, noTest, tests}
-use Rattle.demand.specs.Divide.{Answer, put, refusedOr, core, startOf, divide}
-use Rattle.demand.specs.Demand.{Prepared, Demand3, piecesOf, logOf, nodesFrom, cellsFrom}
-use Rattle.demand.specs.Lent.{LentOf, callBy, testsFor, divideFor, allCells, Lent, callOf, divideLent, dividePractice, LentRecords, callOfRecords, divideRecords}
-use Rattle.demand.proofs.Course.{Course, away, ran, course, refused-code, prepared-by, prepared-if}
-use Rattle.demand.proofs.NodeList as NodeList
-use Rattle.demand.proofs.Demand.{demand3-by}
-use Rattle.demand.specs.Marked.{LentMarked, allPoints, markedLists, markedStart, markedTests, divideMarked}
-use Rattle.demand.proofs.Marked.{marked-prepared-if}
+use Rattle.call.specs.Call.{Lists, usedIn, Call, listsOf, over24, noTest, tests}
+use Rattle.call.specs.Divide.{CallAnswer, put, refusedOr, core, startOf, divide}
+use Rattle.call.specs.Demand.{Prepared, AcceptedCall, piecesOf, logOf, nodesFrom, cellsFrom}
+use Rattle.call.specs.Lent.{LentOf, callBy, testsFor, divideFor, allCells, Lent, callOf, divideLent, dividePractice, LentRecords, callOfRecords, divideRecords}
+use Rattle.call.proofs.Course.{Course, away, ran, course, refused-code, prepared-by, prepared-if}
+use Rattle.call.proofs.NodeList as NodeList
+use Rattle.call.proofs.Demand.{demand3-by}
+use Rattle.call.specs.Marked.{LentMarked, allPoints, markedLists, markedStart, markedTests, divideMarked}
+use Rattle.call.proofs.Marked.{marked-prepared-if}
 use Rattle.middles.specs.Middles.{before, Joins, Along, Meets, onward, backward, listedIn, piece, cellOf, OneMiddle, NoLooseMiddle}
 use Rattle.middles.proofs.Numbers.{middleIn, Shown, AlongBy, along-by, pieces-shown, cells-room}
 
@@ -76,7 +76,7 @@ diagonal-straight : (t : Cut) → diagonal t .mark ≡ Straight
 unfolding diagonal
 diagonal-straight t = refl
 
-alike-ends : (s t : Side) (a b : GridPoint) → Alike s t → t .a ≡ a → t .b ≡ b → Ends a b (s .a) (s .b) × (t .mark ≡ s .mark)
+alike-ends : (s t : Side) (a b : GridPoint) → SameSide s t → t .a ≡ a → t .b ≡ b → Ends a b (s .a) (s .b) × (t .mark ≡ s .mark)
 alike-ends s t a b same e f = (inl (sym e, sym f), refl)
 alike-ends s t a b turned e f = (inr (sym e, sym f), refl)
 
@@ -93,7 +93,7 @@ edge-of q d z s k =
     record { e = m .place; joins = record { of-piece = low; straight = sym (ap (λ (s : Side). s .mark) w) ∙ h .1 ∙ z; ends = h .0 } }
 
 -- ---- a piece whose cells have the numbers of the list ms: the three numbers of a side, and that the cells along each edge between its ends have them
-module _ (ms : List Point) (q : Part) (cell : ℕ → Cell) (shown : Shown ms (q .points) (marksOf q) cell) (s : Side) where
+module _ (ms : List Point) (q : Part) (cell : ℕ → Cell) (shown : Shown ms (q .points) (markAt q) cell) (s : Side) where
   abbrev u : ℕ
   u = number ms (inMm (s .a))
 
@@ -167,7 +167,7 @@ meets-as h k (onward c d a) = onward c d (along-as h k a)
 meets-as h k (backward c d a) = backward c d (along-as h k a)
 
 -- ---- the claim, of an answer that meets demand 3
-module _ (L : Limits) (p : Part) (x : Lists) (a : Answer) (sound : Sound p) (d : Demand3 L p x a) where
+module _ (L : Limits) (p : Part) (x : Lists) (a : CallAnswer) (sound : Sound p) (d : AcceptedCall L p x a) where
   abbrev ps : List Part
   ps = piecesOf L p
 
@@ -195,7 +195,7 @@ module _ (L : Limits) (p : Part) (x : Lists) (a : Answer) (sound : Sound p) (d :
       sym (ap (λ (q : List Cell). getD q (x .cellCount + (cornersTo ps i + k)) noCell) (d .cells)
       ∙ cell-put (x .cells) (x .cellCount) qs (cornersTo ps i + k) (omega (arith, d .cell-count, d .cells-fit)) (omega (arith, cells-room (L .share) ps (usedIn x) i h)))
 
-  shown : (i : ℕ) → i < length ps → Shown ms (piece L p i .points) (marksOf (piece L p i)) (newCell i)
+  shown : (i : ℕ) → i < length ps → Shown ms (piece L p i .points) (markAt (piece L p i)) (newCell i)
   shown i h = pieces-shown (L .share) ps (usedIn x) i h (all-weaken Sound (λ (p : Part). 0 < length (p .points)) (λ p s. omega (arith, s .three)) ps sounds)
 
   met : (s : Side) (i e : ℕ) → i < length ps → Joins (piece L p i) s e
@@ -211,8 +211,8 @@ module _ (L : Limits) (p : Part) (x : Lists) (a : Answer) (sound : Sound p) (d :
   one-middle : (t : Cut) → Beside (logOf L p) ps t → OneMiddle L p x a t
   one-middle t b =
       let s = diagonal t in
-      let g = carried t (firstOf t) (b .i) (b .first) in
-      let h = carried t (secondOf t) (b .j) (b .second) in
+      let g = carried t (firstPartOf t) (b .i) (b .first) in
+      let h = carried t (secondPartOf t) (b .j) (b .second) in
       let u = number ms (inMm (s .a)) in
       let m = number ms (middleIn ms (s .a) (s .b)) in
       let v = number ms (inMm (s .b)) in
@@ -252,14 +252,14 @@ module _ (L : Limits) (p : Part) (x : Lists) (a : Answer) (sound : Sound p) (d :
 
 -- ---- of any entry: its tests, and the core for the ring that it prepares where none of them holds
 module _ (L : Limits) (r : ℕ) (p : Part) (x : Lists) (rs : List Refusal) (n : T (numbered rs)) (h : Passes rs → Prepared L r p x) where
-  abbrev answer : Answer
+  abbrev answer : CallAnswer
   answer = refusedOr x rs (core L r p x)
 
   pub no-loose-middle-by : answer .row .code ≡ 0 → NoLooseMiddle L p x answer
   no-loose-middle-by z = go (course L r p x rs n h)
     where
       go : Course L r p x answer → NoLooseMiddle L p x answer
-      go (away m t e) = absurd (not-0 m t (sym (ap (λ (a : Answer). a .row .code) e ∙ refused-code x m) ∙ z))
+      go (away m t e) = absurd (not-0 m t (sym (ap (λ (a : CallAnswer). a .row .code) e ∙ refused-code x m) ∙ z))
       go (ran q e) = all-middles L p x answer (NodeList.sound L r p x q) (demand3-by L r p x rs n h z)
 
 -- ---- of the divider call, and of the same over lent lists: cells as numbers, cells as records, the practice paper

@@ -12,17 +12,17 @@ use Rattle.marks.specs.declared.EdgeMark.the-variants.{Straight}
 use Rattle.marks.specs.Part.{Part, noPart}
 use Rattle.corner.specs.declared.Limits.{Limits}
 use Rattle.split.specs.Split.{Cut}
-use Rattle.cuts.specs.Provenance.{Side, firstOf, secondOf, diagonal, Under}
+use Rattle.cuts.specs.Provenance.{Side, firstPartOf, secondPartOf, diagonal, Under}
 use Rattle.nodes.specs.Nodes.{nodeAt, number}
 use Rattle.nodes.specs.Growth.{_≈_}
 use Rattle.quads.specs.declared.Cell.{Cell}
 use Rattle.quads.specs.Quads.{middle, noCell}
-use Rattle.cells.specs.Stages.{marksOf}
+use Rattle.cells.specs.Stages.{markAt}
 use Rattle.cells.specs.Claims.{cornersTo}
 use Rattle.cells.specs.Cover.{Ends}
-use Rattle.demand.specs.Call.{Lists}
-use Rattle.demand.specs.Divide.{Answer}
-use Rattle.demand.specs.Demand.{piecesOf, logOf}
+use Rattle.call.specs.Call.{Lists}
+use Rattle.call.specs.Divide.{CallAnswer}
+use Rattle.call.specs.Demand.{piecesOf, logOf}
 
 -- ---- a piece q, and cell k of its own, counted from 0
 -- the place before e, of n that are counted round
@@ -32,7 +32,7 @@ before n e = (e + (n - 1)) % n
 -- edge e of the piece q is straight, and joins the ends of the side s, in one sense or the other
 pub record Joins (q : Part) (s : Side) (e : ℕ) : Type 0 where
   pub of-piece : e < length (q .points)
-  pub straight : marksOf q e ≡ Straight
+  pub straight : markAt q e ≡ Straight
   pub ends : Ends (at (q .points) e) (at (q .points) (suc e)) (s .a) (s .b)
 
 -- "Cell k is centre, middle k, corner k + 1, middle k + 1": so two cells of a piece of n corners lie along its edge e, the cell before and cell e. In these two the edge's
@@ -50,7 +50,7 @@ pub data Meets (q : Part) (cell : ℕ → Cell) (s : Side) (u m v e : ℕ) : Typ
 
 -- ---- the ring p over the lists x, answered by a
 -- the nodes that an answer lists
-abbrev pub listedIn : Answer → List Point
+abbrev pub listedIn : CallAnswer → List Point
 listedIn a = take (a .row .nodes) (a .nodes)
 
 -- piece i, in the order they go out
@@ -58,11 +58,11 @@ abbrev pub piece : Limits → Part → ℕ → Part
 piece L p i = getD (piecesOf L p) i noPart
 
 -- "In the order they go out, a piece of k corners has the next k new cells": cell k of piece i, as the answer's own list has it
-abbrev pub cellOf : Limits → Part → Lists → Answer → ℕ → ℕ → Cell
+abbrev pub cellOf : Limits → Part → Lists → CallAnswer → ℕ → ℕ → Cell
 cellOf L p x a i k = getD (a .cells) (x .cellCount + (cornersTo (piecesOf L p) i + k)) noCell
 
 -- the cut t has one middle: the number m
-pub record OneMiddle (L : Limits) (p : Part) (x : Lists) (a : Answer) (t : Cut) : Type 0 where
+pub record OneMiddle (L : Limits) (p : Part) (x : Lists) (a : CallAnswer) (t : Cut) : Type 0 where
   pub u : ℕ
   pub m : ℕ
   pub v : ℕ
@@ -82,8 +82,8 @@ pub record OneMiddle (L : Limits) (p : Part) (x : Lists) (a : Answer) (t : Cut) 
   pub i-low : i < length (piecesOf L p)
   pub j-low : j < length (piecesOf L p)
   pub apart : ¬ (i ≡ j)
-  pub of-first : Under (logOf L p) (firstOf t) (piece L p i)
-  pub of-second : Under (logOf L p) (secondOf t) (piece L p j)
+  pub of-first : Under (logOf L p) (firstPartOf t) (piece L p i)
+  pub of-second : Under (logOf L p) (secondPartOf t) (piece L p j)
   -- the cut is edge e of the one and edge f of the other, and there the middle is m
   pub e : ℕ
   pub f : ℕ
@@ -95,5 +95,5 @@ pub record OneMiddle (L : Limits) (p : Part) (x : Lists) (a : Answer) (t : Cut) 
   pub meets : (k g : ℕ) → k < length (piecesOf L p) → Joins (piece L p k) (diagonal t) g → Meets (piece L p k) (cellOf L p x a k) (diagonal t) u m v g
 
 -- no cut of the ring has a loose middle
-abbrev pub NoLooseMiddle : Limits → Part → Lists → Answer → Type 0
+abbrev pub NoLooseMiddle : Limits → Part → Lists → CallAnswer → Type 0
 NoLooseMiddle L p x a = All (OneMiddle L p x a) (logOf L p)

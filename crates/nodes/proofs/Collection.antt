@@ -21,13 +21,13 @@ use Rattle.keys.specs.Keys.{key}
 use Rattle.nodes.specs.Nodes.{number}
 use Rattle.nodes.specs.Growth.{InRange, Grown}
 use Rattle.keys.specs.declared.SoughtKey.{SoughtKey}
-use Rattle.nodes.specs.Flat.{pointAt, nodesIn, over, Usable, hasAt}
+use Rattle.nodes.specs.Flat.{nodeIn, nodesIn, over, Usable, hasAt}
 use Rattle.keys.specs.Keys.{soughtKey, keyOf, Sought, near}
 use Rattle.nodes.proofs.Flat.{length-in, node-in, at-over}
 use Rattle.nodes.specs.declared.nearby.Span.{Span}
 use Rattle.nodes.specs.declared.nearby.Window.{Window}
 use Rattle.nodes.specs.declared.nearby.Nearby.{Nearby}
-use Rattle.nodes.specs.Nearby.{mostNearby, Spans, Framed, insideAt, inside, xsOf, surrounds, Collected, Held, Lists, hasListed, strictly, inSpan, wellIn}
+use Rattle.nodes.specs.Nearby.{mostNearby, Spans, Framed, insideAt, inside, xsOf, surrounds, Collected, ValidNearby, NearbyLists, hasListed, strictly, inSpan, wellIn}
 use Rattle.nodes.specs.Nearby.{wellInside}
 use Rattle.nodes.proofs.Scan.{has-is, not-near, fewer, found-is}
 use Rattle.keys.proofs.Rounding.{wider}
@@ -49,14 +49,14 @@ map-ext f g [] h = refl
 map-ext f g (x ∷ l) h = λ i. h 0 (omega arith) i ∷ map-ext f g l (λ j k. h (suc j) (omega arith)) i
 
 -- ---- it stays true while the first places keep their nodes
-same-inside : (l m : List Float) (w : Window) (i : ℕ) → pointAt l i ≡ pointAt m i → insideAt w l i ≡ insideAt w m i
+same-inside : (l m : List Float) (w : Window) (i : ℕ) → nodeIn l i ≡ nodeIn m i → insideAt w l i ≡ insideAt w m i
 unfolding insideAt
 same-inside l m w i e = ap (λ (p : Point). inSpan (w .x) (p .x) && inSpan (w .y) (p .y)) e
 
-later : (l m : List Float) (w : Window) (n count : ℕ) (numbers : List ℕ) (xs : List Float) → ((i : ℕ) → i < n → pointAt m i ≡ pointAt l i)
+later : (l m : List Float) (w : Window) (n count : ℕ) (numbers : List ℕ) (xs : List Float) → ((i : ℕ) → i < n → nodeIn m i ≡ nodeIn l i)
     → Collected l w n numbers xs count → Collected m w n numbers xs count
 later l m w n count numbers xs h c =
-    let k : (i : ℕ) → i < n → pointAt l i ≡ pointAt m i = (λ i u. sym (h i u)) in
+    let k : (i : ℕ) → i < n → nodeIn l i ≡ nodeIn m i = (λ i u. sym (h i u)) in
     let e : inside w l n ≡ inside w m n = chosen-ext (insideAt w l) (insideAt w m) n 0 (λ i u. same-inside l m w i (k i (omega (arith, u)))) in
     record {
       places = c .places;
@@ -64,13 +64,13 @@ later l m w n count numbers xs h c =
       few = c .few;
       are = c .are ∙ e;
       are-x =
-          c .are-x ∙ map-ext (λ i. pointAt l i .x) (λ i. pointAt m i .x) (inside w l n)
+          c .are-x ∙ map-ext (λ i. nodeIn l i .x) (λ i. nodeIn m i .x) (inside w l n)
           (λ j u. ap (λ (p : Point). p .x) (k (getD (inside w l n) j 0) (omega (arith, below (insideAt w l) n 0 j u)))) ∙ ap (xsOf m) e;
     }
 
 -- so while the list grows
 held-grown : {P : Point → Type 0} (l : List Float) (used : ℕ) (ns : List Point) (c : Nearby) (numbers : List ℕ) (xs : List Float) → Grown P (nodesIn l used) ns
-    → Held l used c numbers xs → Held (over l ns) (length ns) c numbers xs
+    → ValidNearby l used c numbers xs → ValidNearby (over l ns) (length ns) c numbers xs
 held-grown l used ns c numbers xs g k =
     let h = length-in l used in
     record {
@@ -83,10 +83,10 @@ held-grown l used ns c numbers xs g k =
     }
 
 pub held-over : {P : Point → Type 0} (l m : List Float) (used v : ℕ) (ns : List Point) (c : Nearby) (numbers : List ℕ) (xs : List Float) → m ≡ over l ns
-    → v ≡ length ns → Grown P (nodesIn l used) ns → Held l used c numbers xs → Held m v c numbers xs
+    → v ≡ length ns → Grown P (nodesIn l used) ns → ValidNearby l used c numbers xs → ValidNearby m v c numbers xs
 held-over l m used v ns c numbers xs e f g k =
-    subst (λ (z : ℕ). Held m z c numbers xs) (sym f)
-    (subst (λ (z : List Float). Held z (length ns) c numbers xs) (sym e) (held-grown l used ns c numbers xs g k))
+    subst (λ (z : ℕ). ValidNearby m z c numbers xs) (sym f)
+    (subst (λ (z : List Float). ValidNearby z (length ns) c numbers xs) (sym e) (held-grown l used ns c numbers xs g k))
 
 -- ---- what it holds
 module _ (l : List Float) (w : Window) (n count : ℕ) (numbers : List ℕ) (xs : List Float) (c : Collected l w n numbers xs count) where
@@ -99,29 +99,29 @@ module _ (l : List Float) (w : Window) (n count : ℕ) (numbers : List ℕ) (xs 
   listed-low : (j : ℕ) → j < count → getD numbers j 0 < n
   listed-low j h = omega (arith, listed-at j h, below (insideAt w l) n 0 j (omega (arith, size)))
 
-  listed-x : (j : ℕ) → j < count → getD xs j nan ≡ pointAt l (getD numbers j 0) .x
+  listed-x : (j : ℕ) → j < count → getD xs j nan ≡ nodeIn l (getD numbers j 0) .x
   listed-x j h =
       sym (getD-take count xs j nan h) ∙ ap (λ (z : List Float). getD z j nan) (c .are-x)
-      ∙ map-at (λ i. pointAt l i .x) nan (inside w l n) j (omega (arith, size, h))
-      ∙ ap (λ (i : ℕ). pointAt l i .x) (sym (listed-at j h))
+      ∙ map-at (λ i. nodeIn l i .x) nan (inside w l n) j (omega (arith, size, h))
+      ∙ ap (λ (i : ℕ). nodeIn l i .x) (sym (listed-at j h))
 
-  pub lists : Lists l n numbers xs count
+  pub lists : NearbyLists l n numbers xs count
   lists = record { places = c .places; places-x = c .places-x; few = c .few; low = listed-low; same = listed-x }
 
 -- what is tested of the j-th of them
-pub listed-is : (l : List Float) (n count : ℕ) (numbers : List ℕ) (xs : List Float) (kx ky : ℤ) (j : ℕ) → Lists l n numbers xs count → j < count
+pub listed-is : (l : List Float) (n count : ℕ) (numbers : List ℕ) (xs : List Float) (kx ky : ℤ) (j : ℕ) → NearbyLists l n numbers xs count → j < count
     → hasListed l numbers kx ky j ≡ (eqZ kx (key (getD xs j nan)) && eqZ ky (key (getD l (getD numbers j 0 * 2 + 1) nan)))
 listed-is l n count numbers xs kx ky j c h =
     let k = getD numbers j 0 in
     has-is l kx ky k ∙ ap (λ (x : Float). eqZ kx (key x) && eqZ ky (key (getD l (k * 2 + 1) nan))) (sym (c .same j h))
 
-pub not-close : (l : List Float) (n count : ℕ) (numbers : List ℕ) (xs : List Float) (kx : SoughtKey) (ky : ℤ) (j : ℕ) → Lists l n numbers xs count → Sought kx
+pub not-close : (l : List Float) (n count : ℕ) (numbers : List ℕ) (xs : List Float) (kx : SoughtKey) (ky : ℤ) (j : ℕ) → NearbyLists l n numbers xs count → Sought kx
     → Usable l n → j < count → near (kx .scaled) (getD xs j nan) ≡ false → hasListed l numbers (keyOf kx) ky j ≡ false
 not-close l n count numbers xs kx ky j c so u h e =
     not-near l kx ky (getD numbers j 0) so (u .ranged (getD numbers j 0) (c .low j h) .0) (ap (near (kx .scaled)) (sym (c .same j h)) ∙ e)
 
 -- fewer of them
-pub lists-fewer : (l : List Float) (n count m : ℕ) (numbers : List ℕ) (xs : List Float) → m ≤ count → Lists l n numbers xs count → Lists l n numbers xs m
+pub lists-fewer : (l : List Float) (n count m : ℕ) (numbers : List ℕ) (xs : List Float) → m ≤ count → NearbyLists l n numbers xs count → NearbyLists l n numbers xs m
 lists-fewer l n count m numbers xs h c =
     record {
       places = c .places;
@@ -132,7 +132,7 @@ lists-fewer l n count m numbers xs h c =
     }
 
 -- d of them, where none of m places is near
-pub none-close : (l : List Float) (n count : ℕ) (numbers : List ℕ) (xs : List Float) (kx : SoughtKey) (ky : ℤ) (i d m : ℕ) → Lists l n numbers xs count
+pub none-close : (l : List Float) (n count : ℕ) (numbers : List ℕ) (xs : List Float) (kx : SoughtKey) (ky : ℤ) (i d m : ℕ) → NearbyLists l n numbers xs count
     → Sought kx → Usable l n → d ≤ m → i + d ≤ count
     → any (λ j. near (kx .scaled) (getD xs (i + j) nan)) m ≡ false → first (hasListed l numbers (keyOf kx) ky) d i ≡ i + d
 none-close l n count numbers xs kx ky i d m c so u g h e = first-none (hasListed l numbers (keyOf kx) ky) d i clear
@@ -145,12 +145,12 @@ none-close l n count numbers xs kx ky i d m c so u g h e = first-none (hasListed
 
 -- ---- what it decides
 -- a node with keys strictly inside is in the window
-pub keyed-inside : (l : List Float) (w : Window) (kx ky : ℤ) (i : ℕ) → Framed w → InRange (pointAt l i) → surrounds w kx ky ≡ true → hasAt l kx ky i ≡ true
+pub keyed-inside : (l : List Float) (w : Window) (kx ky : ℤ) (i : ℕ) → Framed w → InRange (nodeIn l i) → surrounds w kx ky ≡ true → hasAt l kx ky i ≡ true
     → insideAt w l i ≡ true
 unfolding insideAt
 keyed-inside l w kx ky i f r s h =
-    let x = pointAt l i .x in
-    let y = pointAt l i .y in
+    let x = nodeIn l i .x in
+    let y = nodeIn l i .y in
     let t = subst T (sym (sym (has-is l kx ky i) ∙ h)) tt in
     let a : kx ≡ key x = eqZ→ kx (key x) (and-l (eqZ kx (key x)) (eqZ ky (key y)) t) in
     let b : ky ≡ key y = eqZ→ ky (key y) (and-r (eqZ kx (key x)) (eqZ ky (key y)) t) in
@@ -186,7 +186,7 @@ module _ (l : List Float) (w : Window) (n used count : ℕ) (numbers : List ℕ)
       ∙ ap (first (hasAt l kx ky) (used - n)) (zero-add n))
 
 -- ---- the search of a point p, whose keys are those of a and b, where the collection decides
-module _ (l : List Float) (used : ℕ) (c : Nearby) (numbers : List ℕ) (xs : List Float) (p : Point) (a b : SoughtKey) (h : Held l used c numbers xs)
+module _ (l : List Float) (used : ℕ) (c : Nearby) (numbers : List ℕ) (xs : List Float) (p : Point) (a b : SoughtKey) (h : ValidNearby l used c numbers xs)
     (u : Usable l used) (e : a ≡ soughtKey (p .x)) (f : b ≡ soughtKey (p .y)) (v : Sought a) (w : Sought b)
     (d : (leb (c .count) mostNearby && wellInside (c .window) (a .scaled) (b .scaled)) ≡ true) where
   both : T (leb (c .count) mostNearby && wellInside (c .window) (a .scaled) (b .scaled))
@@ -208,7 +208,7 @@ module _ (l : List Float) (used : ℕ) (c : Nearby) (numbers : List ℕ) (xs : L
       (strict (m .x) a (h .framed .0) v (and-l (wellIn (m .x) (a .scaled)) (wellIn (m .y) (b .scaled)) t))
       (strict (m .y) b (h .framed .1) w (and-r (wellIn (m .x) (a .scaled)) (wellIn (m .y) (b .scaled)) t)))
 
-  pub searchable : Usable l (c .old) × Lists l (c .old) numbers xs (c .count)
+  pub searchable : Usable l (c .old) × NearbyLists l (c .old) numbers xs (c .count)
   searchable = (fewer l (c .old) used (h .old) u, lists l (c .window) (c .old) (c .count) numbers xs all)
 
   pub room-at : (j : ℕ) → j < c .count → (j < length numbers) × (j < mostNearby)

@@ -15,11 +15,11 @@ use lib.Ieee.{Float, nan}
 use Rattle.laws.specs.Bounded.{any}
 use Rattle.laws.proofs.Booleans.{is-false, and-false}
 use Rattle.laws.proofs.Search.{any-none}
-use Rattle.nodes.specs.Flat.{pointAt}
+use Rattle.nodes.specs.Flat.{nodeIn}
 use Rattle.nodes.specs.declared.nearby.Span.{Span}
 use Rattle.nodes.specs.declared.nearby.Window.{Window}
 use Rattle.nodes.specs.declared.nearby.Nearby.{Nearby}
-use Rattle.nodes.specs.Nearby.{mostNearby, chosen, Framed, inSpan, insideAt, inside, xsOf, counted, laid, nearby, Gathered, GoesOn, Collected, Held}
+use Rattle.nodes.specs.Nearby.{mostNearby, chosen, Framed, inSpan, insideAt, inside, xsOf, counted, laid, nearby, Gathered, GoesOn, Collected, ValidNearby}
 use Rattle.nodes.proofs.Chosen.{beyond, pass, hit, skip}
 
 -- where branches join
@@ -99,7 +99,7 @@ module _ (l : List Float) (w : Window) (a : List ℕ) (b : List Float) where
   U n = inside w l n
 
   abbrev x-at : ℕ → Float
-  x-at k = pointAt l k .x
+  x-at k = nodeIn l k .x
 
   abbrev G : ℕ → List ℕ → List Float → ℕ → Type 0
   G n numbers xs r = Gathered l w n a b numbers xs r
@@ -132,16 +132,16 @@ module _ (l : List Float) (w : Window) (a : List ℕ) (b : List Float) where
     longer : length (U (i + 1)) ≡ suc (length (U i))
     longer = ap length next ∙ length-append (U i) (i ∷ []) ∙ add-one (length (U i))
 
-    pub put : k < mostNearby → length a ≡ mostNearby → length b ≡ mostNearby → G (i + 1) (set numbers k i) (set xs k (pointAt l i .x)) (k + 1)
+    pub put : k < mostNearby → length a ≡ mostNearby → length b ≡ mostNearby → G (i + 1) (set numbers k i) (set xs k (nodeIn l i .x)) (k + 1)
     put h p q =
         let n : length (U i) ≡ k = few (length (U i)) k (g .count) (omega arith) in
         let nx : length (xsOf l (U i)) ≡ k = length-map (U i) x-at ∙ n in
-        let e : xsOf l (U (i + 1)) ≡ xsOf l (U i) ++ (pointAt l i .x ∷ []) = ap (xsOf l) next ∙ map-append x-at (U i) (i ∷ []) in
+        let e : xsOf l (U (i + 1)) ≡ xsOf l (U i) ++ (nodeIn l i .x ∷ []) = ap (xsOf l) next ∙ map-append x-at (U i) (i ∷ []) in
         record {
           count = add-one k ∙ ap suc (sym n) ∙ sym longer ∙ sym (low (length (U (i + 1))) (omega (arith, longer, n, h)));
           are = (λ j. set (g .are j) (sym n j) i) ∙ laid-more (U i) a i (omega (arith, n, h)) p ∙ ap (λ (u : List ℕ). laid u a) (sym next);
           are-x =
-              (λ j. set (g .are-x j) (sym nx j) (pointAt l i .x)) ∙ laid-more (xsOf l (U i)) b (pointAt l i .x) (omega (arith, nx, h)) q
+              (λ j. set (g .are-x j) (sym nx j) (nodeIn l i .x)) ∙ laid-more (xsOf l (U i)) b (nodeIn l i .x) (omega (arith, nx, h)) q
               ∙ ap (λ (u : List Float). laid u b) (sym e);
         }
 
@@ -193,9 +193,9 @@ module _ (l : List Float) (w : Window) (a : List ℕ) (b : List Float) where
       }
 
   pub held : (old : ℕ) (r : Nearby) (numbers : List ℕ) (xs : List Float) → length a ≡ mostNearby → length b ≡ mostNearby → Framed w → r ≡ nearby w l old
-      → numbers ≡ laid (inside w l old) a → xs ≡ laid (xsOf l (inside w l old)) b → Held l old r numbers xs
+      → numbers ≡ laid (inside w l old) a → xs ≡ laid (xsOf l (inside w l old)) b → ValidNearby l old r numbers xs
   held old r numbers xs p q f e c d =
-      subst (λ (r : Nearby). Held l old r numbers xs) (sym e)
+      subst (λ (r : Nearby). ValidNearby l old r numbers xs) (sym e)
       (record {
         old = le-refl old;
         framed = f;
@@ -212,10 +212,10 @@ module _ (l : List Float) (w : Window) (d m n : ℕ) (g : n ≤ m + d) (k : d �
 
   pub none-across : any (λ j. inSpan (w .x) (getD l ((n - d) * 2 + j * 2) nan)) d ≡ false → (i : ℕ) → m ≤ i → i < n → insideAt w l i ≡ false
   unfolding insideAt
-  none-across e i p q = ap (λ (b : Bool). b && inSpan (w .y) (pointAt l i .y)) (clear (w .x) ((n - d) * 2) e (i - (n - d)) (i * 2) (omega arith) (omega arith))
+  none-across e i p q = ap (λ (b : Bool). b && inSpan (w .y) (nodeIn l i .y)) (clear (w .x) ((n - d) * 2) e (i - (n - d)) (i * 2) (omega arith) (omega arith))
 
   pub none-along : any (λ j. inSpan (w .y) (getD l ((n - d) * 2 + 1 + j * 2) nan)) d ≡ false → (i : ℕ) → m ≤ i → i < n → insideAt w l i ≡ false
   unfolding insideAt
   none-along e i p q =
-      ap (λ (b : Bool). inSpan (w .x) (pointAt l i .x) && b) (clear (w .y) ((n - d) * 2 + 1) e (i - (n - d)) (i * 2 + 1) (omega arith) (omega arith))
-      ∙ and-false (inSpan (w .x) (pointAt l i .x))
+      ap (λ (b : Bool). inSpan (w .x) (nodeIn l i .x) && b) (clear (w .y) ((n - d) * 2 + 1) e (i - (n - d)) (i * 2 + 1) (omega arith) (omega arith))
+      ∙ and-false (inSpan (w .x) (nodeIn l i .x))

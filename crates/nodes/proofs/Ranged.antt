@@ -13,7 +13,7 @@ use Rattle.laws.specs.Bounded.{any}
 use Rattle.laws.proofs.Booleans.{is-false}
 use Rattle.laws.proofs.Constants.{least-1024, most-1024}
 use Rattle.laws.proofs.Search.{any-none, any-fails, any-hit}
-use Rattle.nodes.specs.Flat.{pointAt, held, allHeld}
+use Rattle.nodes.specs.Flat.{nodeIn, held, allHeld}
 
 pub held-is : (x : Float) → (le (fin true 1 (pos 10)) x && le x (fin false 1 (pos 10))) ≡ held x
 unfolding held
@@ -65,13 +65,13 @@ both a b true = refl
 both true b false = refl
 both false b false = refl
 
-pub pairs : (l : List Float) (n : ℕ) → any (λ i. not (held (pointAt l i .x) && held (pointAt l i .y))) n ≡ any (out l) (n * 2)
+pub pairs : (l : List Float) (n : ℕ) → any (λ i. not (held (nodeIn l i .x) && held (nodeIn l i .y))) n ≡ any (out l) (n * 2)
 unfolding any
 pairs l zero = refl
 pairs l (suc n) =
     let e : suc n * 2 ≡ suc (suc (n * 2)) = omega arith in
     let f : n * 2 + 1 ≡ suc (n * 2) = omega arith in
-    (λ j. pairs l n j || not (held (pointAt l n .x) && held (pointAt l n .y)))
-    ∙ both (held (pointAt l n .x)) (held (pointAt l n .y)) (any (out l) (n * 2))
+    (λ j. pairs l n j || not (held (nodeIn l n .x) && held (nodeIn l n .y)))
+    ∙ both (held (nodeIn l n .x)) (held (nodeIn l n .y)) (any (out l) (n * 2))
     ∙ (λ j. (any (out l) (n * 2) || out l (n * 2)) || out l (f j))
     ∙ ap (any (out l)) (sym e)

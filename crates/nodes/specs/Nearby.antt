@@ -12,7 +12,7 @@ use lib.Ieee.{Float, nan}
 use Rattle.laws.specs.Double.{int, _≤f_}
 use Rattle.laws.specs.Within.{Within}
 use Rattle.keys.specs.Keys.{key}
-use Rattle.nodes.specs.Flat.{pointAt, hasAt}
+use Rattle.nodes.specs.Flat.{nodeIn, hasAt}
 use Rattle.nodes.specs.declared.nearby.Span.{Span}
 use Rattle.nodes.specs.declared.nearby.Window.{Window}
 use Rattle.nodes.specs.declared.nearby.Nearby.{Nearby}
@@ -49,7 +49,7 @@ inWindow w x y = inSpan (w .x) x && inSpan (w .y) y
 
 -- the node in place i is in the window
 unfoldable pub insideAt : Window → List Float → ℕ → Bool
-insideAt w l i = inWindow w (pointAt l i .x) (pointAt l i .y)
+insideAt w l i = inWindow w (nodeIn l i .x) (nodeIn l i .y)
 
 -- a key strictly between those of the ends
 abbrev pub strictly : Span → ℤ → Bool
@@ -71,7 +71,7 @@ abbrev pub inside : Window → List Float → ℕ → List ℕ
 inside w l n = chosen (insideAt w l) n 0
 
 abbrev pub xsOf : List Float → List ℕ → List Float
-xsOf l ks = map (λ k. pointAt l k .x) ks
+xsOf l ks = map (λ k. nodeIn l k .x) ks
 
 -- so many are said to be held where there are n: one above the most where there are more
 unfoldable pub counted : ℕ → ℕ
@@ -106,19 +106,19 @@ pub record Collected (l : List Float) (w : Window) (n : ℕ) (numbers : List ℕ
   pub are-x : take count xs ≡ xsOf l (inside w l n)
 
 -- so it is of the first places among the used, unless too many are in the window
-pub record Held (l : List Float) (used : ℕ) (c : Nearby) (numbers : List ℕ) (xs : List Float) : Type 0 where
+pub record ValidNearby (l : List Float) (used : ℕ) (c : Nearby) (numbers : List ℕ) (xs : List Float) : Type 0 where
   pub old : c .old ≤ used
   pub framed : Framed (c .window)
   pub complete : c .count ≤ mostNearby → Collected l (c .window) (c .old) numbers xs (c .count)
 
 -- ---- searches
 -- the first `count` of the numbers are places among the first `old`, and the xs are those of their nodes
-pub record Lists (l : List Float) (old : ℕ) (numbers : List ℕ) (xs : List Float) (count : ℕ) : Type 0 where
+pub record NearbyLists (l : List Float) (old : ℕ) (numbers : List ℕ) (xs : List Float) (count : ℕ) : Type 0 where
   pub places : length numbers ≡ mostNearby
   pub places-x : length xs ≡ mostNearby
   pub few : count ≤ mostNearby
   pub low : (j : ℕ) → j < count → getD numbers j 0 < old
-  pub same : (j : ℕ) → j < count → getD xs j nan ≡ pointAt l (getD numbers j 0) .x
+  pub same : (j : ℕ) → j < count → getD xs j nan ≡ nodeIn l (getD numbers j 0) .x
 
 -- the node whose number is the j-th has the keys kx, ky
 abbrev pub hasListed : List Float → List ℕ → ℤ → ℤ → ℕ → Bool

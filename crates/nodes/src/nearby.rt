@@ -14,7 +14,7 @@ ghost use Rattle.laws.specs.Bounded.{any, first};
 ghost use Rattle.nodes.specs.Flat.{Usable};
 ghost use Rattle.keys.specs.Keys.{keyOf, Sought, near};
 ghost use Rattle.nodes.specs.Nearby.{mostNearby, span, Spans, inSpan, Framed, inWindow, wellIn, wellInside, inside};
-ghost use Rattle.nodes.specs.Nearby.{xsOf, laid, nearby, Gathered, GoesOn, Lists, hasListed};
+ghost use Rattle.nodes.specs.Nearby.{xsOf, laid, nearby, Gathered, GoesOn, NearbyLists, hasListed};
 use super::NodeNumber;
 use keys::SoughtKey;
 
@@ -280,7 +280,7 @@ fn find_listed_in(
     kx: SoughtKey,
     ky: SoughtKey,
 ) -> usize
-    requires { ⌜ Usable (now nodes) old × Lists (now nodes) old (now numbers) (now xs) to × (from ≤ to) × Sought kx × Sought ky ⌝ }
+    requires { ⌜ Usable (now nodes) old × NearbyLists (now nodes) old (now numbers) (now xs) to × (from ≤ to) × Sought kx × Sought ky ⌝ }
     ensures { λ r. ⌜ r ≡ first (hasListed (now (nodes .entry)) (now (numbers .entry)) (keyOf kx) (keyOf ky)) (to - from) from ⌝ }
 {
     for j in from..to {
@@ -306,7 +306,7 @@ fn find_listed_block(
     kx: SoughtKey,
     ky: SoughtKey,
 ) -> usize
-    requires { ⌜ Usable (now nodes) old × Lists (now nodes) old (now numbers) (now xs) to
+    requires { ⌜ Usable (now nodes) old × NearbyLists (now nodes) old (now numbers) (now xs) to
         × (from ≤ to) × (to ≤ from + 16) × (from + 16 ≤ mostNearby) × Sought kx × Sought ky ⌝ }
     ensures { λ r. ⌜ r ≡ first (hasListed (now (nodes .entry)) (now (numbers .entry)) (keyOf kx) (keyOf ky)) (to - from) from ⌝ }
 {
@@ -327,7 +327,7 @@ pub fn find_listed(
     kx: SoughtKey,
     ky: SoughtKey,
 ) -> usize
-    requires { ⌜ Usable (now nodes) old × Lists (now nodes) old (now numbers) (now xs) count × Sought kx × Sought ky ⌝ }
+    requires { ⌜ Usable (now nodes) old × NearbyLists (now nodes) old (now numbers) (now xs) count × Sought kx × Sought ky ⌝ }
     ensures { λ r. ⌜ r ≡ first (hasListed (now (nodes .entry)) (now (numbers .entry)) (keyOf kx) (keyOf ky)) count 0 ⌝ }
 {
     if count < 16 {

@@ -10,8 +10,8 @@ ghost use Rattle.laws.specs.Bounded.{any, first};
 ghost use Rattle.keys.specs.Keys.{keyOf, Sought, near};
 ghost use Rattle.nodes.specs.Nodes.{number, addNode};
 ghost use Rattle.nodes.specs.Growth.{InRange};
-ghost use Rattle.nodes.specs.Flat.{pointAt, nodesIn, over, Usable, placed, hasAt};
-ghost use Rattle.nodes.specs.Nearby.{Held};
+ghost use Rattle.nodes.specs.Flat.{nodeIn, nodesIn, over, Usable, placed, hasAt};
+ghost use Rattle.nodes.specs.Nearby.{ValidNearby};
 use keys::SoughtKey;
 use nodes::Nearby;
 use nodes::NodeNumber;
@@ -37,7 +37,7 @@ fn find_in(nodes: &[f64], from: usize, to: usize, kx: SoughtKey, ky: SoughtKey) 
 // Whether one of the 16 nodes from place i on is near the key. Nothing ends the loop, so that two are judged at once.
 fn any_near(nodes: &[f64], i: usize, kx: SoughtKey) -> bool
     requires { ⌜ (i + 16) * 2 ≤ length (now nodes) ⌝ }
-    ensures { λ r. ⌜ r ≡ any (λ j. near (kx .scaled) (pointAt (now (nodes .entry)) (i + j) .x)) 16 ⌝ }
+    ensures { λ r. ⌜ r ≡ any (λ j. near (kx .scaled) (nodeIn (now (nodes .entry)) (i + j) .x)) 16 ⌝ }
 {
     let mut found = false;
     for j in 0..16 {
@@ -89,7 +89,7 @@ fn find_nearby(
     numbers: &[NodeNumber],
     xs: &[f64],
 ) -> usize
-    requires { ⌜ Usable (now nodes) used × InRange p × Held (now nodes) used near (now numbers) (now xs) ⌝ }
+    requires { ⌜ Usable (now nodes) used × InRange p × ValidNearby (now nodes) used near (now numbers) (now xs) ⌝ }
     ensures { λ r. ⌜ r ≡ number (nodesIn (now (nodes .entry)) used) p ⌝ }
 {
     let kx = SoughtKey::new(p.x);
@@ -114,7 +114,7 @@ pub fn add_node(
     xs: &[f64],
 ) -> Placed
     requires { ⌜ Usable (now nodes) used × InRange p × (length (addNode (nodesIn (now nodes) used) p) * 2 ≤ length (now nodes))
-        × Held (now nodes) used near (now numbers) (now xs) ⌝ }
+        × ValidNearby (now nodes) used near (now numbers) (now xs) ⌝ }
     ensures { λ r. ⌜ (r ≡ placed (nodesIn (now (nodes .entry)) used) p)
         × (now (nodes .exit) ≡ over (now (nodes .entry)) (addNode (nodesIn (now (nodes .entry)) used) p)) ⌝ }
 {

@@ -14,8 +14,8 @@ use Rattle.marks.specs.Edges.{marksIn, straightEdge}
 use Rattle.marks.specs.Part.{Part, noPart}
 use Rattle.parts.specs.declared.Vertex.{Vertex}
 use Rattle.parts.specs.declared.PartList.{PartList}
-use Rattle.parts.specs.Vertices.{vertex, pointAt, edgeAt}
-use Rattle.parts.specs.Layout.{end, size, nth, Kept}
+use Rattle.parts.specs.Vertices.{vertex, cornerPoint, edgeAt}
+use Rattle.parts.specs.Layout.{end, size, nth, ValidParts}
 use Rattle.parts.specs.Pieces.{pieceIn, marksOf}
 use Rattle.parts.proofs.Stored.{rises, kept-rises}
 
@@ -24,10 +24,10 @@ module _ (p : PartList) (i : ℕ) (l : i < p .count) where
   piece-nth ring es = getD-tab (nth ring es p) (p .count) i noPart l
 
   pub piece-length : (ring : List GridPoint) (es : List EdgeMark) → size p i ≡ length (pieceIn ring es p i .points)
-  piece-length ring es = sym (ap (λ (q : Part). length (q .points)) (piece-nth ring es) ∙ length-tab (λ j. pointAt ring (p .corners) (end p i + j)) (size p i))
+  piece-length ring es = sym (ap (λ (q : Part). length (q .points)) (piece-nth ring es) ∙ length-tab (λ j. cornerPoint ring (p .corners) (end p i + j)) (size p i))
 
   -- where the piece stands, as the code reads it
-  pub placed : Kept p → (end p i + 3 ≤ end p (i + 1)) × (end p (i + 1) ≤ end p i + 60) × (end p (i + 1) ≤ 124) × (end p (i + 1) - end p i ≡ size p i)
+  pub placed : ValidParts p → (end p i + 3 ≤ end p (i + 1)) × (end p (i + 1) ≤ end p i + 60) × (end p (i + 1) ≤ 124) × (end p (i + 1) - end p i ≡ size p i)
   placed k =
       let f = ap (end p) (sym (add-one i)) in
       let s = k .step i l in
@@ -58,5 +58,5 @@ marks-are p i l marks out e ring =
     ∙ tab-ext (λ j. f (markAt marks (p .corners) (end p i + j))) (λ j. edgeAt (marksOf marks) (p .corners) (end p i + j)) (size p i) (λ j h. sym (List·getD-map f marks (vertex (p .corners) (end p i + j) .edge) straightEdge))
     ∙ sym (ap (λ (q : Part). q .edges) (piece-nth p i l ring (marksOf marks)))
 
-pub points-are : (p : PartList) (i : ℕ) → i < p .count → (ring : List GridPoint) (es : List EdgeMark) → tab (λ j. pointAt ring (p .corners) (end p i + j)) (size p i) ≡ pieceIn ring es p i .points
+pub points-are : (p : PartList) (i : ℕ) → i < p .count → (ring : List GridPoint) (es : List EdgeMark) → tab (λ j. cornerPoint ring (p .corners) (end p i + j)) (size p i) ≡ pieceIn ring es p i .points
 points-are p i l ring es = sym (ap (λ (q : Part). q .points) (piece-nth p i l ring es))

@@ -20,7 +20,7 @@ use Rattle.marks.specs.declared.EdgeMark.{EdgeMark}
 use Rattle.marks.specs.declared.EdgeMark.the-variants.{Straight}
 use Rattle.parts.specs.declared.Vertex.{Vertex}
 use Rattle.parts.specs.Cut.{rotate, oriented, makeSubPolygon, turnedArea, firstPoints, secondPoints, firstPart, secondPart}
-use Rattle.parts.specs.Vertices.{noVertex, vertex, pointAt, edgeAt, partOf, straight, closing, backward}
+use Rattle.parts.specs.Vertices.{noVertex, vertex, cornerPoint, edgeAt, partOf, straight, closing, backward}
 
 -- ---- the test of an area's sign, on the number z that was computed
 pub by-sign : (z w : ℤ) (b : Bool) → z ≡ w → leZ (pos 0) z ≡ b → nonNeg w ≡ b
@@ -68,33 +68,33 @@ unfolding tab
 last-more f m h = let e : m ≡ suc (m - 1) = omega arith in ap (tab f) e
 
 -- counted from the first corner
-pub from-first : (ring : List GridPoint) (vs : List Vertex) (m : ℕ) → tab (λ i. pointAt ring vs ((0 + i) % m)) m ≡ tab (pointAt ring vs) m
+pub from-first : (ring : List GridPoint) (vs : List Vertex) (m : ℕ) → tab (λ i. cornerPoint ring vs ((0 + i) % m)) m ≡ tab (cornerPoint ring vs) m
 from-first ring vs m =
-    tab-ext (λ i. pointAt ring vs ((0 + i) % m)) (pointAt ring vs) m (λ i l. ap (pointAt ring vs) (ap (λ (x : ℕ). x % m) (zero-add i) ∙ mod-eq-of-lt l))
+    tab-ext (λ i. cornerPoint ring vs ((0 + i) % m)) (cornerPoint ring vs) m (λ i l. ap (cornerPoint ring vs) (ap (λ (x : ℕ). x % m) (zero-add i) ∙ mod-eq-of-lt l))
 
 -- ---- make_sub_polygon: the area of the points ps is not negative, or it is
-module _ (ring : List GridPoint) (vs : List Vertex) (m : ℕ) (ps : List GridPoint) (ep : ps ≡ tab (pointAt ring vs) m) where
-  sign : (t : Bool) → nonNeg (polygonArea ps) ≡ t → nonNeg (polygonArea (tab (pointAt ring vs) m)) ≡ t
+module _ (ring : List GridPoint) (vs : List Vertex) (m : ℕ) (ps : List GridPoint) (ep : ps ≡ tab (cornerPoint ring vs) m) where
+  sign : (t : Bool) → nonNeg (polygonArea ps) ≡ t → nonNeg (polygonArea (tab (cornerPoint ring vs) m)) ≡ t
   sign t n = ap (λ (l : List GridPoint). nonNeg (polygonArea l)) (sym ep) ∙ n
 
-  pub none-turned : nonNeg (polygonArea ps) ≡ true → 0 ≡ turnedArea (tab (pointAt ring vs) m)
+  pub none-turned : nonNeg (polygonArea ps) ≡ true → 0 ≡ turnedArea (tab (cornerPoint ring vs) m)
   unfolding turnedArea
   none-turned n = rw (sign true n)
 
-  pub all-turned : nonNeg (polygonArea ps) ≡ false → natAbs (polygonArea ps) ≡ turnedArea (tab (pointAt ring vs) m)
+  pub all-turned : nonNeg (polygonArea ps) ≡ false → natAbs (polygonArea ps) ≡ turnedArea (tab (cornerPoint ring vs) m)
   unfolding turnedArea
   all-turned n = rw (sign false n) (ap (λ (l : List GridPoint). natAbs (polygonArea l)) ep)
 
   module _ (es : List EdgeMark) (len : length es ≡ 60) (h : 1 ≤ m) (z : vertex vs (m - 1) .edge ≡ 60) where
-    pub kept-part : nonNeg (polygonArea ps) ≡ true → partOf ring es vs m ≡ makeSubPolygon (tab (pointAt ring vs) m) (tab (edgeAt es vs) (m - 1))
+    pub kept-part : nonNeg (polygonArea ps) ≡ true → partOf ring es vs m ≡ makeSubPolygon (tab (cornerPoint ring vs) m) (tab (edgeAt es vs) (m - 1))
     unfolding makeSubPolygon oriented
     kept-part n =
         let e : tab (edgeAt es vs) m ≡ tab (edgeAt es vs) (m - 1) ++ (Straight ∷ []) =
         last-more (edgeAt es vs) m h ∙ ap (λ (x : EdgeMark). tab (edgeAt es vs) (m - 1) ++ (x ∷ [])) (straight-edge es len _ z) in
-        rw (sign true n) (λ j. record { points = tab (pointAt ring vs) m; edges = e j })
+        rw (sign true n) (λ j. record { points = tab (cornerPoint ring vs) m; edges = e j })
 
     module _ (r : List Vertex) (e : take m r ≡ tab (backward vs m) m) where
-      back-point : (i : ℕ) → i < m → (t : Bool) → ltb i (m - 1) ≡ t → pointAt ring r i ≡ pointAt ring vs (m - 1 - i)
+      back-point : (i : ℕ) → i < m → (t : Bool) → ltb i (m - 1) ≡ t → cornerPoint ring r i ≡ cornerPoint ring vs (m - 1 - i)
       unfolding backward
       back-point i l true b = point-of ring _ _ (read r (backward vs m) m e i l) ∙ rw b
       back-point i l false b = point-of ring _ _ (read r (backward vs m) m e i l) ∙ rw b
@@ -109,11 +109,11 @@ module _ (ring : List GridPoint) (vs : List Vertex) (m : ℕ) (ps : List GridPoi
       unfolding backward
       back-last = edge-of es _ _ (read r (backward vs m) m e (m - 1) (omega arith)) ∙ rw (le-ltb (m - 1) (m - 1) (omega arith)) (straight-edge es len 60 refl)
 
-      pub turned-part : nonNeg (polygonArea ps) ≡ false → partOf ring es r m ≡ makeSubPolygon (tab (pointAt ring vs) m) (tab (edgeAt es vs) (m - 1))
+      pub turned-part : nonNeg (polygonArea ps) ≡ false → partOf ring es r m ≡ makeSubPolygon (tab (cornerPoint ring vs) m) (tab (edgeAt es vs) (m - 1))
       unfolding makeSubPolygon oriented
       turned-part n =
-          let a : tab (pointAt ring r) m ≡ reverse (tab (pointAt ring vs) m) =
-          tab-ext (pointAt ring r) (λ i. pointAt ring vs (m - 1 - i)) m (λ i l. back-point i l (ltb i (m - 1)) refl) ∙ sym (reverse-of (pointAt ring vs) m) in
+          let a : tab (cornerPoint ring r) m ≡ reverse (tab (cornerPoint ring vs) m) =
+          tab-ext (cornerPoint ring r) (λ i. cornerPoint ring vs (m - 1 - i)) m (λ i l. back-point i l (ltb i (m - 1)) refl) ∙ sym (reverse-of (cornerPoint ring vs) m) in
           let c : tab (edgeAt es r) (m - 1) ≡ reverse (tab (edgeAt es vs) (m - 1)) =
           tab-ext (edgeAt es r) (λ i. edgeAt es vs (m - 1 - 1 - i)) (m - 1) back-edge ∙ sym (reverse-of (edgeAt es vs) (m - 1)) in
           let d : tab (edgeAt es r) m ≡ reverse (tab (edgeAt es vs) (m - 1)) ++ (Straight ∷ []) = last-more (edgeAt es r) m h ∙ (λ j. c j ++ (back-last j ∷ [])) in
@@ -126,8 +126,8 @@ module _ (vs r : List Vertex) (n v m : ℕ) (h : 1 ≤ m) (e : take m r ≡ tab 
   seg-at i l true b = ap (λ (c : Vertex). c .at) (read r (closing vs n v m) m e i l) ∙ rw b
   seg-at i l false b = ap (λ (c : Vertex). c .at) (read r (closing vs n v m) m e i l) ∙ rw b
 
-  seg-points : (ring : List GridPoint) → tab (pointAt ring r) m ≡ tab (λ i. pointAt ring vs ((v + i) % n)) m
-  seg-points ring = tab-ext (pointAt ring r) (λ i. pointAt ring vs ((v + i) % n)) m (λ i l. ap (λ (k : ℕ). getD ring k origin) (seg-at i l (ltb i (m - 1)) refl))
+  seg-points : (ring : List GridPoint) → tab (cornerPoint ring r) m ≡ tab (λ i. cornerPoint ring vs ((v + i) % n)) m
+  seg-points ring = tab-ext (cornerPoint ring r) (λ i. cornerPoint ring vs ((v + i) % n)) m (λ i l. ap (λ (k : ℕ). getD ring k origin) (seg-at i l (ltb i (m - 1)) refl))
 
   pub seg-straight : vertex r (m - 1) .edge ≡ 60
   unfolding closing
@@ -147,23 +147,23 @@ mod-shift v k i n =
 
 -- ---- the two parts of a cut
 module _ (ring : List GridPoint) (vs : List Vertex) (n v k : ℕ) (hv : v < n) (r : List Vertex) where
-  pub first-points : k < n → take (k + 1) r ≡ tab (closing vs n v (k + 1)) (k + 1) → tab (pointAt ring r) (k + 1) ≡ firstPoints (rotate v (tab (pointAt ring vs) n)) k
+  pub first-points : k < n → take (k + 1) r ≡ tab (closing vs n v (k + 1)) (k + 1) → tab (cornerPoint ring r) (k + 1) ≡ firstPoints (rotate v (tab (cornerPoint ring vs) n)) k
   first-points hk e =
       seg-points vs r n v (k + 1) (omega arith) e ring
-      ∙ sym (ap (λ (x : ℕ). take x (rotate v (tab (pointAt ring vs) n))) (sym (add-one k)) ∙ ap (take (k + 1)) (rotation-of (pointAt ring vs) n v hv origin) ∙ take-of (λ i. pointAt ring vs ((v + i) % n)) n origin (k + 1) (omega arith))
+      ∙ sym (ap (λ (x : ℕ). take x (rotate v (tab (cornerPoint ring vs) n))) (sym (add-one k)) ∙ ap (take (k + 1)) (rotation-of (cornerPoint ring vs) n v hv origin) ∙ take-of (λ i. cornerPoint ring vs ((v + i) % n)) n origin (k + 1) (omega arith))
 
-  pub second-points : 0 < k → k < n → take (n - k + 1) r ≡ tab (closing vs n ((v + k) % n) (n - k + 1)) (n - k + 1) → tab (pointAt ring r) (n - k + 1) ≡ secondPoints (rotate v (tab (pointAt ring vs) n)) k
+  pub second-points : 0 < k → k < n → take (n - k + 1) r ≡ tab (closing vs n ((v + k) % n) (n - k + 1)) (n - k + 1) → tab (cornerPoint ring r) (n - k + 1) ≡ secondPoints (rotate v (tab (cornerPoint ring vs) n)) k
   second-points hz hk e =
-      let f : ℕ → GridPoint = (λ i. pointAt ring vs ((v + i) % n)) in
-      let g : ℕ → GridPoint = (λ i. pointAt ring vs (((v + k) % n + i) % n)) in
-      let t = rotation-of (pointAt ring vs) n v hv origin in
+      let f : ℕ → GridPoint = (λ i. cornerPoint ring vs ((v + i) % n)) in
+      let g : ℕ → GridPoint = (λ i. cornerPoint ring vs (((v + k) % n + i) % n)) in
+      let t = rotation-of (cornerPoint ring vs) n v hv origin in
       let q : k + (n - k) ≡ n = omega arith in
       let w : (v + 0) % n ≡ ((v + k) % n + (n - k)) % n = ap (λ (x : ℕ). x % n) (add-zero v) ∙ sym (mod-shift v k (n - k) n ∙ ap (λ (x : ℕ). (v + x) % n) q ∙ add-mod-right v n) in
       seg-points vs r n ((v + k) % n) (n - k + 1) (omega arith) e ring
-      ∙ sym ((λ j. drop k (t j) ++ take 1 (t j)) ∙ round-of f n origin k hk g (λ i l. ap (pointAt ring vs) (sym (mod-shift v k i n))) (ap (pointAt ring vs) w))
+      ∙ sym ((λ j. drop k (t j) ++ take 1 (t j)) ∙ round-of f n origin k hk g (λ i l. ap (cornerPoint ring vs) (sym (mod-shift v k i n))) (ap (cornerPoint ring vs) w))
 
   module _ (es : List EdgeMark) where
-    pub first-is : k < n → take (k + 1) r ≡ tab (closing vs n v (k + 1)) (k + 1) → makeSubPolygon (tab (pointAt ring r) (k + 1)) (tab (edgeAt es r) (k + 1 - 1)) ≡ firstPart (partOf ring es vs n) v k
+    pub first-is : k < n → take (k + 1) r ≡ tab (closing vs n v (k + 1)) (k + 1) → makeSubPolygon (tab (cornerPoint ring r) (k + 1)) (tab (edgeAt es r) (k + 1 - 1)) ≡ firstPart (partOf ring es vs n) v k
     unfolding firstPart
     first-is hk e =
         let m : k + 1 - 1 ≡ k = omega arith in
@@ -173,7 +173,7 @@ module _ (ring : List GridPoint) (vs : List Vertex) (n v k : ℕ) (hv : v < n) (
         ∙ sym (ap (take k) (rotation-of (edgeAt es vs) n v hv Straight) ∙ take-of (λ i. edgeAt es vs ((v + i) % n)) n Straight k (omega arith)) in
         λ j. makeSubPolygon (a j) (b j)
 
-    pub second-is : 0 < k → k < n → take (n - k + 1) r ≡ tab (closing vs n ((v + k) % n) (n - k + 1)) (n - k + 1) → makeSubPolygon (tab (pointAt ring r) (n - k + 1)) (tab (edgeAt es r) (n - k + 1 - 1)) ≡ secondPart (partOf ring es vs n) v k
+    pub second-is : 0 < k → k < n → take (n - k + 1) r ≡ tab (closing vs n ((v + k) % n) (n - k + 1)) (n - k + 1) → makeSubPolygon (tab (cornerPoint ring r) (n - k + 1)) (tab (edgeAt es r) (n - k + 1 - 1)) ≡ secondPart (partOf ring es vs n) v k
     unfolding secondPart
     second-is hz hk e =
         let m : n - k + 1 - 1 ≡ n - k = omega arith in

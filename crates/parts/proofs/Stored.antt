@@ -15,20 +15,20 @@ use Rattle.vector.specs.declared.GridPoint.{GridPoint}
 use Rattle.marks.specs.declared.EdgeMark.{EdgeMark}
 use Rattle.parts.specs.declared.Vertex.{Vertex}
 use Rattle.parts.specs.declared.PartList.{PartList}
-use Rattle.parts.specs.Vertices.{noVertex, vertex, pointAt, edgeAt, partOf, Below}
-use Rattle.parts.specs.Layout.{end, partAt, nth, stackOf, listOf, Kept, Packed, Stored, Pushed}
+use Rattle.parts.specs.Vertices.{noVertex, vertex, cornerPoint, edgeAt, partOf, Below}
+use Rattle.parts.specs.Layout.{end, partAt, nth, stackOf, listOf, ValidParts, Packed, Stored, Pushed}
 use Rattle.parts.proofs.Segments.{read, point-of, edge-of}
 
 -- ---- parts whose corners agree
 pub same-part : (ring : List GridPoint) (es : List EdgeMark) (c vs : List Vertex) (a n : ℕ) → ((i : ℕ) → i < n → vertex c (a + i) ≡ vertex vs i) → partAt ring es c a n ≡ partOf ring es vs n
 same-part ring es c vs a n h =
-    let x = tab-ext (λ i. pointAt ring c (a + i)) (pointAt ring vs) n (λ i l. point-of ring _ _ (h i l)) in
+    let x = tab-ext (λ i. cornerPoint ring c (a + i)) (cornerPoint ring vs) n (λ i l. point-of ring _ _ (h i l)) in
     let y = tab-ext (λ i. edgeAt es c (a + i)) (edgeAt es vs) n (λ i l. edge-of es _ _ (h i l)) in
     λ j. record { points = x j; edges = y j }
 
 same-place : (ring : List GridPoint) (es : List EdgeMark) (c d : List Vertex) (a n : ℕ) → ((i : ℕ) → i < n → vertex c (a + i) ≡ vertex d (a + i)) → partAt ring es c a n ≡ partAt ring es d a n
 same-place ring es c d a n h =
-    let x = tab-ext (λ i. pointAt ring c (a + i)) (λ i. pointAt ring d (a + i)) n (λ i l. point-of ring _ _ (h i l)) in
+    let x = tab-ext (λ i. cornerPoint ring c (a + i)) (λ i. cornerPoint ring d (a + i)) n (λ i l. point-of ring _ _ (h i l)) in
     let y = tab-ext (λ i. edgeAt es c (a + i)) (λ i. edgeAt es d (a + i)) n (λ i l. edge-of es _ _ (h i l)) in
     λ j. record { points = x j; edges = y j }
 
@@ -41,7 +41,7 @@ pub rises : (p : PartList) (t : ℕ) → ((j : ℕ) → j < t → end p j ≤ en
 rises p t m zero j q = let z : j ≡ t = omega arith in rw z (omega arith)
 rises p t m (suc d) j q = let a = rises p t m d (suc j) (omega arith) in let b = m j (omega arith) in omega arith
 
-pub kept-rises : (p : PartList) → Kept p → (j : ℕ) → j < p .count → end p j ≤ end p (suc j)
+pub kept-rises : (p : PartList) → ValidParts p → (j : ℕ) → j < p .count → end p j ≤ end p (suc j)
 kept-rises p k j l = omega (arith, k .step j l .0)
 
 -- what lies below a store stays
@@ -87,7 +87,7 @@ module _ (vs ps out : List Vertex) (a i : ℕ) (l : a + i < length out) (s : Sto
   }
 
 -- ---- what a push gives
-module _ (p : PartList) (k : Kept p) (few : p .count < 33) (ps : List Vertex) (n : ℕ) (h3 : 3 ≤ n) (h60 : n ≤ 60) (room : end p (p .count) + n ≤ 124)
+module _ (p : PartList) (k : ValidParts p) (few : p .count < 33) (ps : List Vertex) (n : ℕ) (h3 : 3 ≤ n) (h60 : n ≤ 60) (room : end p (p .count) + n ≤ 124)
     (c : List Vertex) (s : Stored (p .corners) (end p (p .count)) ps n c) (b : Below c) (long : length c ≡ 124) where
   abbrev after : PartList
   after = record { corners = c; ends = set (p .ends) (p .count + 1) (end p (p .count) + n); count = p .count + 1 }
@@ -114,7 +114,7 @@ module _ (p : PartList) (k : Kept p) (few : p .count < 33) (ps : List Vertex) (n
       let y = new-suc in
       rw g (omega arith, omega arith)
 
-  is-kept : Kept after
+  is-kept : ValidParts after
   is-kept = record { few = omega arith; wide = simp length-set (k .wide); long = long; step = λ j q. step-at j q (ltb j (p .count)) refl; fits = rw new-end room; below = b }
 
   new-part : (ring : List GridPoint) (es : List EdgeMark) → nth ring es after (p .count) ≡ partOf ring es ps n

@@ -9,14 +9,14 @@ use Rattle.marks.specs.declared.EdgeMark.{EdgeMark}
 use Rattle.marks.specs.Part.{Part}
 use Rattle.parts.specs.declared.Vertex.{Vertex}
 use Rattle.parts.specs.declared.PartList.{PartList}
-use Rattle.parts.specs.Vertices.{blank, vertex, pointAt, edgeAt, partOf, Below}
+use Rattle.parts.specs.Vertices.{blank, vertex, cornerPoint, edgeAt, partOf, Below}
 
 abbrev pub end : PartList → ℕ → ℕ
 end p j = getD (p .ends) j 0
 
 -- the part of n corners from place a on
 abbrev pub partAt : List GridPoint → List EdgeMark → List Vertex → ℕ → ℕ → Part
-partAt ring es vs a n = record { points = tab (λ i. pointAt ring vs (a + i)) n; edges = tab (λ i. edgeAt es vs (a + i)) n }
+partAt ring es vs a n = record { points = tab (λ i. cornerPoint ring vs (a + i)) n; edges = tab (λ i. edgeAt es vs (a + i)) n }
 
 -- part j, and how many corners it has
 abbrev pub size : PartList → ℕ → ℕ
@@ -34,7 +34,7 @@ abbrev pub listOf : List GridPoint → List EdgeMark → PartList → ℕ → Li
 listOf ring es p t = tab (nth ring es p) t
 
 -- what the arrays have room for, and each part three corners or more and no more than 60
-pub record Kept (p : PartList) : Type 0 where
+pub record ValidParts (p : PartList) : Type 0 where
   pub few : p .count ≤ 33
   pub wide : length (p .ends) ≡ 34
   pub long : length (p .corners) ≡ 124
@@ -56,7 +56,7 @@ pub record Stored (vs : List Vertex) (a : ℕ) (ps : List Vertex) (n : ℕ) (r :
 
 -- r is p with one part more, the first n corners of ps
 pub record Pushed (p : PartList) (ps : List Vertex) (n : ℕ) (r : PartList) : Type 0 where
-  pub kept : Kept r
+  pub kept : ValidParts r
   pub count : r .count ≡ p .count + 1
   pub last : end r (r .count) ≡ end p (p .count) + n
   pub stack : (ring : List GridPoint) (es : List EdgeMark) → stackOf ring es r (r .count) ≡ partOf ring es ps n ∷ stackOf ring es p (p .count)

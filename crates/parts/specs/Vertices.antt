@@ -23,15 +23,15 @@ abbrev pub vertex : List Vertex → ℕ → Vertex
 vertex vs i = getD vs i noVertex
 
 -- the point of corner i, of the ring's points; and the mark of the edge that starts there, of the ring's marks: beyond them it is straight
-abbrev pub pointAt : List GridPoint → List Vertex → ℕ → GridPoint
-pointAt ring vs i = getD ring (vertex vs i .at) origin
+abbrev pub cornerPoint : List GridPoint → List Vertex → ℕ → GridPoint
+cornerPoint ring vs i = getD ring (vertex vs i .at) origin
 
 abbrev pub edgeAt : List EdgeMark → List Vertex → ℕ → EdgeMark
 edgeAt es vs i = getD es (vertex vs i .edge) Straight
 
 -- the part of the first m corners
 abbrev pub partOf : List GridPoint → List EdgeMark → List Vertex → ℕ → Part
-partOf ring es vs m = record { points = tab (pointAt ring vs) m; edges = tab (edgeAt es vs) m }
+partOf ring es vs m = record { points = tab (cornerPoint ring vs) m; edges = tab (edgeAt es vs) m }
 
 -- every place, used or not, holds the number of a point
 abbrev pub Below : List Vertex → Type 0

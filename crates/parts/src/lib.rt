@@ -56,7 +56,7 @@ pub fn load(vs: [Vertex; 124], a: usize, n: usize) -> [Vertex; 60]
 
 // One part more, of n corners.
 pub fn push(p: PartList, ps: [Vertex; 60], n: usize) -> PartList
-    requires { ⌜ Layout.Kept p × (p .count < 33) × (3 ≤ n) × (n ≤ 60) × (Layout.end p (p .count) + n ≤ 124) × Below ps ⌝ }
+    requires { ⌜ Layout.ValidParts p × (p .count < 33) × (3 ≤ n) × (n ≤ 60) × (Layout.end p (p .count) + n ≤ 124) × Below ps ⌝ }
     ensures { λ r. ⌜ Layout.Pushed p ps n r ⌝ }
 {
     let mut out = p;
@@ -73,7 +73,7 @@ pub fn push(p: PartList, ps: [Vertex; 60], n: usize) -> PartList
 
 // How many corners piece i has.
 pub fn piece_size(pieces: PartList, i: usize) -> usize
-    requires { ⌜ Layout.Kept pieces × (i < pieces .count) ⌝ }
+    requires { ⌜ Layout.ValidParts pieces × (i < pieces .count) ⌝ }
     ensures { λ r. ⌜ ((ring : List GridPoint) (es : List EdgeMark) → r ≡ length (pieceIn ring es pieces i .points)) × (r ≡ Layout.size pieces i) × (3 ≤ r) × (r ≤ 60) ⌝ }
 {
     let a = pieces.ends[i] as usize;
@@ -82,7 +82,7 @@ pub fn piece_size(pieces: PartList, i: usize) -> usize
 
 // The points of piece i, and the marks of its edges, in the first places. The places after them are zero, and straight.
 pub fn piece_points(ring: [GridPoint; 60], pieces: PartList, i: usize) -> [GridPoint; 60]
-    requires { ⌜ Layout.Kept pieces × (i < pieces .count) × AllOnSheet ring ⌝ }
+    requires { ⌜ Layout.ValidParts pieces × (i < pieces .count) × AllOnSheet ring ⌝ }
     ensures { λ r. ⌜ ((es : List EdgeMark) → take (Layout.size pieces i) r ≡ pieceIn ring es pieces i .points) × AllOnSheet r
         × ((j : ℕ) → Layout.size pieces i ≤ j → getD r j origin ≡ origin) ⌝ }
 {
@@ -99,7 +99,7 @@ pub fn piece_points(ring: [GridPoint; 60], pieces: PartList, i: usize) -> [GridP
 }
 
 pub fn piece_marks(marks: [Edge; 60], pieces: PartList, i: usize) -> [Edge; 60]
-    requires { ⌜ Layout.Kept pieces × (i < pieces .count) ⌝ }
+    requires { ⌜ Layout.ValidParts pieces × (i < pieces .count) ⌝ }
     ensures { λ r. ⌜ ((ring : List GridPoint) → marksOf (take (Layout.size pieces i) r) ≡ pieceIn ring (marksOf marks) pieces i .edges)
         × ((j : ℕ) → Layout.size pieces i ≤ j → getD r j straightEdge ≡ straightEdge) ⌝ }
 {

@@ -8,7 +8,7 @@ ghost use Rattle.laws.specs.Table.{tab};
 ghost use Rattle.vector.specs.Size.{AllOnSheet};
 ghost use Rattle.marks.specs.declared.EdgeMark.{EdgeMark};
 ghost use Rattle.parts.specs.Cut as Cut;
-ghost use Rattle.parts.specs.Vertices.{vertex, pointAt, edgeAt, Below, closing, backward, partOf};
+ghost use Rattle.parts.specs.Vertices.{vertex, cornerPoint, edgeAt, Below, closing, backward, partOf};
 use super::Vertex;
 use vector::GridPoint;
 
@@ -20,7 +20,7 @@ pub fn rotated_points(
     v: usize,
 ) -> [GridPoint; 60]
     requires { ⌜ (n ≤ 60) × (v < n) × Below vs × AllOnSheet ring ⌝ }
-    ensures { λ r. ⌜ (take n r ≡ tab (λ i. pointAt ring vs ((v + i) % n)) n) × AllOnSheet r ⌝ }
+    ensures { λ r. ⌜ (take n r ≡ tab (λ i. cornerPoint ring vs ((v + i) % n)) n) × AllOnSheet r ⌝ }
 {
     let mut out = [GridPoint::ORIGIN; 60];
     let mut j = v;
@@ -79,8 +79,8 @@ pub struct SubPolygon {
 // m corners that end with the diagonal, turned round if their area is negative.
 pub fn make_sub_polygon(ring: [GridPoint; 60], vs: [Vertex; 60], m: usize) -> SubPolygon
     requires { ⌜ (3 ≤ m) × (m ≤ 60) × Below vs × AllOnSheet ring × (vertex vs (m - 1) .edge ≡ 60) ⌝ }
-    ensures { λ r. ⌜ ((es : List EdgeMark) → length es ≡ 60 → partOf ring es (r .corners) m ≡ Cut.makeSubPolygon (tab (pointAt ring vs) m) (tab (edgeAt es vs) (m - 1)))
-        × (r .turned ≡ Cut.turnedArea (tab (pointAt ring vs) m)) × Below (r .corners) × (r .turned ≤ 2 ^ 53) ⌝ }
+    ensures { λ r. ⌜ ((es : List EdgeMark) → length es ≡ 60 → partOf ring es (r .corners) m ≡ Cut.makeSubPolygon (tab (cornerPoint ring vs) m) (tab (edgeAt es vs) (m - 1)))
+        × (r .turned ≡ Cut.turnedArea (tab (cornerPoint ring vs) m)) × Below (r .corners) × (r .turned ≤ 2 ^ 53) ⌝ }
 {
     let area = vector::polygon_area(rotated_points(ring, vs, m, 0), m);
     if 0 <= area {
@@ -105,7 +105,7 @@ pub fn first_part(
 ) -> SubPolygon
     requires { ⌜ (n ≤ 60) × (v < n) × (2 ≤ k) × (k + 2 ≤ n) × Below vs × AllOnSheet ring ⌝ }
     ensures { λ r. ⌜ ((es : List EdgeMark) → length es ≡ 60 → partOf ring es (r .corners) (k + 1) ≡ Cut.firstPart (partOf ring es vs n) v k)
-        × (r .turned ≡ Cut.turnedArea (Cut.firstPoints (Cut.rotate v (tab (pointAt ring vs) n)) k)) × Below (r .corners) × (r .turned ≤ 2 ^ 53) ⌝ }
+        × (r .turned ≡ Cut.turnedArea (Cut.firstPoints (Cut.rotate v (tab (cornerPoint ring vs) n)) k)) × Below (r .corners) × (r .turned ≤ 2 ^ 53) ⌝ }
 {
     make_sub_polygon(ring, segment(vs, n, v, k + 1), k + 1)
 }
@@ -120,7 +120,7 @@ pub fn second_part(
 ) -> SubPolygon
     requires { ⌜ (n ≤ 60) × (v < n) × (2 ≤ k) × (k + 2 ≤ n) × Below vs × AllOnSheet ring ⌝ }
     ensures { λ r. ⌜ ((es : List EdgeMark) → length es ≡ 60 → partOf ring es (r .corners) (n - k + 1) ≡ Cut.secondPart (partOf ring es vs n) v k)
-        × (r .turned ≡ Cut.turnedArea (Cut.secondPoints (Cut.rotate v (tab (pointAt ring vs) n)) k)) × Below (r .corners) × (r .turned ≤ 2 ^ 53) ⌝ }
+        × (r .turned ≡ Cut.turnedArea (Cut.secondPoints (Cut.rotate v (tab (cornerPoint ring vs) n)) k)) × Below (r .corners) × (r .turned ≤ 2 ^ 53) ⌝ }
 {
     let start = (v + k) % n;
     make_sub_polygon(ring, segment(vs, n, start, n - k + 1), n - k + 1)

@@ -22,7 +22,7 @@ use Rattle.parts.specs.Pieces.{pieceIn, marksOf}
 use Rattle.nodes.specs.Growth.{Grown, Anything, InRange, EachNode}
 use Rattle.nodes.specs.Flat.{nodesIn, over, Usable}
 use Rattle.nodes.specs.declared.nearby.Nearby.{Nearby}
-use Rattle.nodes.specs.Nearby.{Held}
+use Rattle.nodes.specs.Nearby.{ValidNearby}
 use Rattle.nodes.proofs.Collection.{held-over}
 use Rattle.nodes.proofs.Flat.{length-in, in-over, length-over, over-over, over-in}
 use Rattle.quads.specs.declared.Cell.{Cell}
@@ -31,10 +31,10 @@ use Rattle.quads.specs.Quads.{noCell}
 use Rattle.cells.specs.Cells.{Attempt, subdivide}
 use Rattle.cells.specs.Pieces.{Outcome, done, failed, onward, piecesTo}
 use Rattle.cells.specs.Stages.{nodesOf}
-use Rattle.cells.specs.Claims.{Fair, cornersTo, CellsOf}
+use Rattle.cells.specs.Claims.{ValidPiece, cornersTo, CellsOf}
 use Rattle.cells.specs.Asks.{Ask, ofRing, subdivideAsks, onwardAsks, asksTo}
 use Rattle.cells.specs.Rims.{rimsBy}
-use Rattle.cells.specs.Flat.{partIn, subdivideIn, subdivideAsksIn, triedOf, CanDivide}
+use Rattle.cells.specs.Flat.{partIn, subdivideIn, subdivideAsksIn, triedOf, CanSubdividePiece}
 use Rattle.quads.specs.Flat.{overCells}
 use Rattle.cells.proofs.Attempts.{onward-done, pieces-any, pieces-later, subdivide-any}
 use Rattle.cells.proofs.Ranges.{pieces-in-range}
@@ -144,7 +144,7 @@ module _ {share : Float} {l : List Float} {u : ℕ} {q : List ℕ} {first reserv
         (omega (arith, listed, rise i h, f .fits)) (omega (arith, listed, rise i h, f .room))
 
     -- what was collected of the nodes at first stays true of them
-    pub held : {c : Nearby} {numbers : List ℕ} {xs : List Float} → Held l u c numbers xs → Held m v c numbers xs
+    pub held : {c : Nearby} {numbers : List ℕ} {xs : List Float} → ValidNearby l u c numbers xs → ValidNearby m v c numbers xs
     held {c} {numbers} {xs} h =
         held-over l m u v (s .ns) c numbers xs (s .nodes) (s .used) (subst (λ (o : Outcome). Grown Anything (nodesIn l u) (nodesOf o)) (s .is) (pieces-any share ps (nodesIn l u) i)) h
 
@@ -186,7 +186,7 @@ module _ {share : Float} {l : List Float} {u : ℕ} {q : List ℕ} {first reserv
       ahead : length (s .cs) + n ≤ reserve
       ahead = let b : cornersTo ps i + length (P .points) ≤ reserve = below (suc i) (k .count) in omega (arith, b, made, corners)
 
-      pub can : CanDivide share m v xs ds n
+      pub can : CanSubdividePiece share m v xs ds n
       can =
           let z = ap (λ (t : Attempt). length (t .nodes)) divided-is in
           record {
@@ -194,7 +194,7 @@ module _ {share : Float} {l : List Float} {u : ℕ} {q : List ℕ} {first reserv
             some = omega (arith, k .some);
             few = k .few;
             long = k .long;
-            fair = subst Fair (sym part-is) (f .fair i (k .count));
+            fair = subst ValidPiece (sym part-is) (f .fair i (k .count));
             fits = omega (arith, z, grown, f .fits);
             room = omega (arith, z, grown, f .room, long-nodes (omega (arith, k .count)));
           }

@@ -9,7 +9,7 @@ use Rattle.marks.specs.declared.Edge.{Edge}
 use Rattle.marks.specs.declared.EdgeMark.{EdgeMark}
 use Rattle.marks.specs.Part.{Part}
 use Rattle.parts.specs.declared.PartList.{PartList}
-use Rattle.parts.specs.Layout.{Kept, listOf}
+use Rattle.parts.specs.Layout.{ValidParts, listOf}
 use Rattle.parts.specs.Pieces.{pieceIn, marksOf}
 use Rattle.nodes.specs.Nodes.{mostPlaces}
 use Rattle.nodes.specs.Flat.{nodesIn, Usable}
@@ -17,7 +17,7 @@ use Rattle.quads.specs.declared.Cell.{Cell}
 use Rattle.quads.specs.Quads.{noCell}
 use Rattle.cells.specs.Pieces.{Outcome, done, failed, piecesTo}
 use Rattle.cells.specs.Stages.{nodesOf}
-use Rattle.cells.specs.Claims.{Fair, cornersTo}
+use Rattle.cells.specs.Claims.{ValidPiece, cornersTo}
 use Rattle.cells.specs.Asks.{Ask, label, asksTo}
 use Rattle.quads.specs.Flat.{overCells}
 use Rattle.pieces.specs.declared.Subdivision.{Subdivision}
@@ -47,8 +47,8 @@ asksIn share l u ring es p = asksTo share (piecesIn ring es p) (labelledIn ring 
 pub record CanSubdivide (share : Float) (l : List Float) (u : ℕ) (q : List ℕ) (first reserve : ℕ) (ring : List GridPoint) (es : List Edge) (p : PartList) : Type 0 where
   pub usable : Usable l u
   pub sheet : AllOnSheet ring
-  pub kept : Kept p
-  pub fair : (i : ℕ) → i < p .count → Fair (pieceIn ring (marksOf es) p i)
+  pub kept : ValidParts p
+  pub fair : (i : ℕ) → i < p .count → ValidPiece (pieceIn ring (marksOf es) p i)
   pub fits : length (nodesOf (outcomeIn share l u ring es p)) ≤ mostPlaces
   pub room : length (nodesOf (outcomeIn share l u ring es p)) * 2 ≤ length l
   pub corners : cornersTo (piecesIn ring es p) (p .count) ≤ reserve
@@ -56,7 +56,7 @@ pub record CanSubdivide (share : Float) (l : List Float) (u : ℕ) (q : List ℕ
 
 -- ---- the answer
 -- 01, What is returned: the number of a row, its values, the count of nodes and the number of new cells
-pub record Row : Type 0 where
+pub record PiecesRow : Type 0 where
   pub code : ℕ
   pub corners : ℕ
   pub k : ℕ
@@ -64,12 +64,12 @@ pub record Row : Type 0 where
   pub cells : ℕ
 
 -- the row of each case. 0: "new counts"; 8: "corners of the piece, k", and "the new node count"
-abbrev pub row : Subdivision → Row
+abbrev pub row : Subdivision → PiecesRow
 row (Done nodes cells) = record { code = 0; corners = 0; k = 0; nodes = nodes; cells = cells }
 row (Failed corners k nodes) = record { code = 8; corners = corners; k = k; nodes = nodes; cells = 0 }
 
 -- the row of what pieces come to
-abbrev pub rowOf : Outcome → Row
+abbrev pub rowOf : Outcome → PiecesRow
 rowOf (done ns cs) = record { code = 0; corners = 0; k = 0; nodes = length ns; cells = length cs }
 rowOf (failed ns n k) = record { code = 8; corners = n; k = k; nodes = length ns; cells = 0 }
 

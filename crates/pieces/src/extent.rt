@@ -6,7 +6,7 @@
 
 ghost use Rattle.laws.specs.Within.{Within};
 ghost use Rattle.nodes.specs.Nearby.{Framed};
-ghost use Rattle.parts.specs.Layout.{Kept};
+ghost use Rattle.parts.specs.Layout.{ValidParts};
 use marks::Edge;
 use marks::EdgeMark;
 use nodes::Window;
@@ -79,7 +79,7 @@ impl Extent {
 
 // How far the corners of the pieces and the snap points of their edges reach.
 pub fn of_pieces(ring: [GridPoint; 60], marks: [Edge; 60], pieces: PartList) -> Extent
-    requires { ⌜ Kept pieces ⌝ }
+    requires { ⌜ ValidParts pieces ⌝ }
 {
     let count = pieces.count;
     let n = pieces.ends[count] as usize;

@@ -12,7 +12,7 @@ ghost use Prim.Native.Nat.{ℕ, _*_, _≤_, _<_};
 ghost use mathlib.Core.Bool.{false};
 ghost use lib.ListN.{length, getD, replicate};
 ghost use Rattle.vector.specs.declared.GridPoint.{GridPoint};
-ghost use Rattle.parts.specs.Layout.{Kept};
+ghost use Rattle.parts.specs.Layout.{ValidParts};
 ghost use Rattle.parts.specs.Pieces.{pieceIn};
 ghost use Rattle.nodes.specs.Flat.{over};
 ghost use Rattle.quads.specs.Quads.{noCell};
@@ -53,7 +53,7 @@ fn clear(cells: &mut [NodeNumber], n: usize)
 
 // Which edges of piece i are edges of the ring: the diagonal of a cut has the number 60.
 fn piece_sides(pieces: PartList, i: usize) -> [bool; 60]
-    requires { ⌜ Kept pieces × (i < pieces .count) ⌝ }
+    requires { ⌜ ValidParts pieces × (i < pieces .count) ⌝ }
     ensures { λ r. ⌜ ((ring : List GridPoint) (j : ℕ) → getD r j false ≡ ofRing (pieceIn ring everyMark pieces i) j) ⌝ }
 {
     let a = pieces.ends[i] as usize;

@@ -26,37 +26,37 @@ use Rattle.quads.specs.Flat.{overCells}
 use Rattle.cells.specs.Pieces.{Outcome, done, failed, piecesTo}
 use Rattle.cells.specs.Asks.{Ask, allMarked, asksTo}
 use Rattle.cells.specs.Rims.{rimsBy}
-use Rattle.table.specs.declared.Values.{Values}
+use Rattle.table.specs.declared.Row.{Row}
 use Rattle.table.specs.Refusals.{Refusal, firstOf, Passes, turnsAway}
 use Rattle.table.proofs.Refusals.{not-8}
 use Rattle.sets.specs.Sets.{withCuts, practiceSet}
 use Rattle.sets.proofs.Taken.{delivered-taken, practice-taken}
-use Rattle.demand.specs.Call.{Lists, usedIn, Call, listsOf, countsOut, over24, unitsOut, listsOut, nodeReserve, cellReserve, roomOut}
-use Rattle.demand.specs.Divide.{Answer, put, refused, refusedOr, ringTests, asked, rimsLeft, answered, core, ringOf, startOf}
-use Rattle.demand.specs.Lent.{allCells, Lent, callOf, odd, testsBy, testsFor, divideLent, dividePractice}
-use Rattle.demand.proofs.Tests.{passed}
-use Rattle.demand.proofs.Course.{by-tests, by-tests-both, refused-code, start-points}
+use Rattle.call.specs.Call.{Lists, usedIn, Call, listsOf, countsOut, over24, unitsOut, listsOut, nodeReserve, cellReserve, roomOut}
+use Rattle.call.specs.Divide.{CallAnswer, put, refused, refusedOr, ringTests, asked, rimsLeft, answered, core, cleanedRing, startOf}
+use Rattle.call.specs.Lent.{allCells, Lent, callOf, odd, testsBy, testsFor, divideLent, dividePractice}
+use Rattle.call.proofs.Tests.{passed}
+use Rattle.call.proofs.Course.{by-tests, by-tests-both, refused-code, start-points}
 use Rattle.rims.proofs.Edges.{marked-cuts}
 use Rattle.divider.specs.Promise as Examination
-use Rattle.practice.specs.Practice.{Promise, HoldsReserve, OnPaper, zeroed, Alike, Differ}
+use Rattle.practice.specs.Practice.{PracticePromise, HoldsReserve, OnPracticePaper, zeroed, SameAnswer, Differ}
 use Rattle.practice.proofs.FewerCuts.{same-split}
 
 -- ---- the core
 module _ (L M : Limits) (r : ℕ) (p : Part) (x : Lists) where
-  refused-alike : (n : ℕ) → T (turnsAway n) → Alike L M r x (refused x n) (refused x n)
+  refused-alike : (n : ℕ) → T (turnsAway n) → SameAnswer L M r x (refused x n) (refused x n)
   unfolding refused
   refused-alike n t = record { row = refl; nodes = refl; rims = refl; cells = λ e. refl; cells-8 = λ e. absurd (not-8 n t e) }
 
   marks-alike : asked M p (usedIn x) ≡ asked L p (usedIn x) → (v : ℕ) → rimsLeft M p x v ≡ rimsLeft L p x v
   marks-alike q v = ap (λ (qs : List Ask). rimsBy (x .nodeCount) v qs (x .rims)) q
 
-  answered-alike : asked M p (usedIn x) ≡ asked L p (usedIn x) → (s : Stack) (o : Outcome) → Alike L M r x (answered L r p x s o) (answered M r p x s o)
+  answered-alike : asked M p (usedIn x) ≡ asked L p (usedIn x) → (s : Stack) (o : Outcome) → SameAnswer L M r x (answered L r p x s o) (answered M r p x s o)
   unfolding answered
   answered-alike q s (done ns cs) = record { row = refl; nodes = refl; rims = marks-alike q (length ns); cells = λ e. refl; cells-8 = λ e. absurd (omega (arith, e)) }
   answered-alike q s (failed ns n i) = record { row = refl; nodes = refl; rims = marks-alike q (length ns); cells = λ e. absurd (e refl); cells-8 = λ e. (refl, refl) }
 
 -- what a ring comes to that is split into s
-abbrev laid : Limits → ℕ → Part → Lists → Stack → Answer
+abbrev laid : Limits → ℕ → Part → Lists → Stack → CallAnswer
 laid L r p x s = answered L r p x s (piecesTo (L .share) (s .pieces) (usedIn x) (length (s .pieces)))
 
 module _ (L : Limits) (k : ℕ) (h : k ≤ L .cuts) (r : ℕ) (p : Part) (x : Lists) (few : Passes (ringTests (p .points)) → splitBadVertices L p .cuts ≤ k) where
@@ -70,12 +70,12 @@ module _ (L : Limits) (k : ℕ) (h : k ≤ L .cuts) (r : ℕ) (p : Part) (x : Li
       let e = same-split L k (allMarked p) h (omega (arith, g, marked-cuts L p)) in
       λ j. asksTo (L .share) (d j .pieces) (e j .pieces) (usedIn x) (length (d j .pieces))
 
-  pub core-alike : Alike L fewer r x (core L r p x) (core fewer r p x)
+  pub core-alike : SameAnswer L fewer r x (core L r p x) (core fewer r p x)
   unfolding core
   core-alike =
-      by-tests-both x x (ringTests (p .points)) (laid L r p x (splitBadVertices L p)) (laid fewer r p x (splitBadVertices fewer p)) (Alike L fewer r x) tt
+      by-tests-both x x (ringTests (p .points)) (laid L r p x (splitBadVertices L p)) (laid fewer r p x (splitBadVertices fewer p)) (SameAnswer L fewer r x) tt
       (λ t. refused-alike L fewer r p x (firstOf (ringTests (p .points))) t)
-      (λ w. subst (λ (s : Stack). Alike L fewer r x (laid L r p x (splitBadVertices L p)) (laid fewer r p x s)) (sym (same-split L k p h (few w)))
+      (λ w. subst (λ (s : Stack). SameAnswer L fewer r x (laid L r p x (splitBadVertices L p)) (laid fewer r p x s)) (sym (same-split L k p h (few w)))
       (answered-alike L fewer r p x (asked-alike (few w)) (splitBadVertices L p) (piecesTo (L .share) (splitBadVertices L p .pieces) (usedIn x) (length (splitBadVertices L p .pieces)))))
 
 -- ---- the tests
@@ -97,7 +97,7 @@ min-less r = omega arith
 holds-less : (r : ℕ) (x : Lists) → HoldsReserve delivered r x → HoldsReserve practiceSet r x
 holds-less r x h = let m = min-less (r - 3) in record { nodes = omega (arith, m, h .nodes); cells = omega (arith, m, h .cells) }
 
-module _ (l : Lent) (o : OnPaper (callOf l)) where
+module _ (l : Lent) (o : OnPracticePaper (callOf l)) where
   abbrev c : Call
   c = callOf l
 
@@ -131,13 +131,13 @@ module _ (l : Lent) (o : OnPaper (callOf l)) where
       let free = room-free delivered r x (o .reserve) in
       (λ j. order (over j) (practice-taken j) (less j)) ∙ sym (λ j. order false (delivered-taken j) (free j))
 
-  pub as-examined : Alike delivered practiceSet r x (divideLent delivered l) (dividePractice l)
+  pub as-examined : SameAnswer delivered practiceSet r x (divideLent delivered l) (dividePractice l)
   unfolding divideLent dividePractice
   as-examined =
       let a = core delivered r (startOf c) x in
       let b = core practiceSet r (startOf c) x in
-      subst (λ (n : ℕ). Alike delivered practiceSet r x (refusedOr x examination a) (cond (eqb n 0) b (refused x n))) (sym same-first)
-      (by-tests-both x x examination a b (Alike delivered practiceSet r x) tt
+      subst (λ (n : ℕ). SameAnswer delivered practiceSet r x (refusedOr x examination a) (cond (eqb n 0) b (refused x n))) (sym same-first)
+      (by-tests-both x x examination a b (SameAnswer delivered practiceSet r x) tt
       (λ t. refused-alike delivered practiceSet r (startOf c) x (firstOf examination) t)
       (λ w. core-alike delivered 12 (omega arith) r (startOf c) x (λ g. o .cuts (subst (λ ps. Passes (ringTests ps)) (start-points c) g))))
 
@@ -204,7 +204,7 @@ passed-8 l =
     (λ t e. absurd (not-8 (firstOf rs) t (sym (refused-code x (firstOf rs)) ∙ e)))
     (λ h e. passed delivered c (h .1) .ready .stored)
 
-module _ (l : Lent) (o : OnPaper (callOf l)) where
+module _ (l : Lent) (o : OnPracticePaper (callOf l)) where
   abbrev n : ℕ
   n = length (callOf l .ring)
 
@@ -221,12 +221,12 @@ module _ (l : Lent) (o : OnPaper (callOf l)) where
       (zeros-differ (y .cells) (y .cellCount) (cellReserve practiceSet n) (cellReserve delivered n) (omega (arith, few)) (omega (arith, o .reserve .cells, passed-8 l e))))
 
   -- the examination entry returned v and left the nodes m, the rim marks r and the cells p; the practice entry w, k, t and q
-  pub both-entries : (v w : Values) (m k : List Float) (r t p q : List ℕ) → Examination.Promise delivered l v m r p → Promise l w k t q
+  pub both-entries : (v w : Row) (m k : List Float) (r t p q : List ℕ) → Examination.Promise delivered l v m r p → PracticePromise l w k t q
       → (w ≡ v) × (k ≡ m) × (t ≡ r) × ((v .code ≡ 8 → ⊥) → q ≡ p)
       × (v .code ≡ 8 → (p ≡ overCells (l .cells) (zeroed delivered n y)) × (q ≡ overCells (l .cells) (zeroed practiceSet n y)))
   both-entries v w m k r t p q g h =
       let a = as-examined l o in
-      let e = ap (λ (v : Values). v .code) (g .leaves .values) in (
+      let e = ap (λ (v : Row). v .code) (g .leaves .values) in (
         h .leaves .values ∙ a .row ∙ sym (g .leaves .values),
         h .leaves .nodes ∙ ap (over (l .nodes)) (a .nodes) ∙ sym (g .leaves .nodes),
         h .leaves .rims ∙ a .rims ∙ sym (g .leaves .rims),

@@ -1,5 +1,5 @@
 -- The practice call by its own test: where 16 is due it is refused (`practice-refused`), and else it is the divider call with the practice set (`practice-divided`), each with
--- the promise of the entry. As a call of a list of calls it leaves what demand/specs/LentCalls says (`as-called`).
+-- the promise of the entry. As a call of a list of calls it leaves what call/specs/LentCalls says (`as-called`).
 use Prim.Native.Nat.{ℕ, _-_, _/_}
 use native.Mathlib.Omega.{arith}
 use mathlib.Core.Path.{_≡_, refl, sym, ap, _∙_, subst}
@@ -10,20 +10,20 @@ use lib.Dec.{T, eqb}
 use lib.Ieee.{Float}
 use Rattle.laws.proofs.Table.{length-tab}
 use Rattle.corner.specs.declared.Limits.{Limits}
-use Rattle.table.specs.declared.Values.{Values}
+use Rattle.table.specs.declared.Row.{Row}
 use Rattle.table.specs.Answers.{refusedRow}
 use Rattle.table.specs.Refusals.{Refusal, firstOf}
 use Rattle.sets.specs.Sets.{limitsOut, practiceSet}
-use Rattle.demand.specs.Call.{Call, listsOf, countsOut, over24, unitsOut, listsOut, roomOut}
-use Rattle.demand.specs.Divide.{Answer, refused, core, startOf}
-use Rattle.demand.specs.Demand.{Demand3}
-use Rattle.demand.specs.Lent.{pointIn, allCells, Lent, callOf, odd, testsFor, divideLent, dividePractice}
-use Rattle.demand.specs.LentCalls.{Given, practice, Pool, lend, answerOf, leaves}
-use Rattle.demand.proofs.Course.{turned-away}
+use Rattle.call.specs.Call.{Call, listsOf, countsOut, over24, unitsOut, listsOut, roomOut}
+use Rattle.call.specs.Divide.{CallAnswer, refused, core, startOf}
+use Rattle.call.specs.Demand.{AcceptedCall}
+use Rattle.call.specs.Lent.{pointIn, allCells, Lent, callOf, odd, testsFor, divideLent, dividePractice}
+use Rattle.call.specs.LentCalls.{Given, practice, Pool, lend, answerOf, leaves}
+use Rattle.call.proofs.Course.{turned-away}
 use Rattle.divider.specs.Promise as Examination
 use Rattle.divider.specs.Promise.{Leaves}
 use Rattle.divider.proofs.Leaving.{refused-leaves}
-use Rattle.practice.specs.Practice.{Promise}
+use Rattle.practice.specs.Practice.{PracticePromise}
 
 -- ---- 1 by either of its tests, then 16
 due : (o b q : Bool) (n : ℕ) → not (o || b) && q ≡ true → cond o 1 (cond b 1 (cond q 16 n)) ≡ 16
@@ -63,7 +63,7 @@ module _ (l : Lent) where
   abbrev practised : List Refusal
   practised = testsFor over24 allCells practiceSet l
 
-  abbrev divided : Answer
+  abbrev divided : CallAnswer
   divided = core practiceSet (length (c .ring)) (startOf c) (listsOf c)
 
   is-16 : overPaper ≡ true → firstOf practised ≡ 16
@@ -73,10 +73,10 @@ module _ (l : Lent) where
   unfolding dividePractice
   away e = turned-away (listsOf c) practised divided (λ f. absurd (omega (arith, f, is-16 e))) ∙ ap (refused (listsOf c)) (is-16 e)
 
-  pub practice-refused : overPaper ≡ true → Promise l (refusedRow 16 (l .nodeCount) (l .cellCount)) (l .nodes) (l .rims) (l .cells)
+  pub practice-refused : overPaper ≡ true → PracticePromise l (refusedRow 16 (l .nodeCount) (l .cellCount)) (l .nodes) (l .rims) (l .cells)
   practice-refused e =
       record {
-        leaves = subst (λ (a : Answer). Leaves a (refusedRow 16 (l .nodeCount) (l .cellCount)) (l .nodes) (l .nodes) (l .rims) (l .cells) (l .cells)) (sym (away e))
+        leaves = subst (λ (a : CallAnswer). Leaves a (refusedRow 16 (l .nodeCount) (l .cellCount)) (l .nodes) (l .nodes) (l .rims) (l .cells) (l .cells)) (sym (away e))
             (refused-leaves (l .nodes) (l .nodeCount) (l .rims) (l .cells) (l .cellCount) 16);
         accepted = λ z. absurd (omega (arith, z));
       }
@@ -88,14 +88,14 @@ module _ (l : Lent) where
       (not-due (odd (l .ring) || odd (l .chain)) (countsOut (length (c .ring)) (length (c .chain))) (over24 (length (c .ring)) (length (c .chain))) later (of-points false e))
 
   -- the set by another name
-  pub practice-divided : overPaper ≡ false → (L : Limits) → L ≡ practiceSet → (v : Values) (m : List Float) (t p : List ℕ) → Examination.Promise L l v m t p → Promise l v m t p
+  pub practice-divided : overPaper ≡ false → (L : Limits) → L ≡ practiceSet → (v : Row) (m : List Float) (t p : List ℕ) → Examination.Promise L l v m t p → PracticePromise l v m t p
   practice-divided e L d v m t p h =
       let g = subst (λ (L : Limits). Examination.Promise L l v m t p) d h in
       record {
-        leaves = subst (λ (a : Answer). Leaves a v (l .nodes) m t (l .cells) p) (sym (on e)) (g .leaves);
-        accepted = λ z. subst (Demand3 practiceSet (startOf c) (listsOf c)) (sym (on e)) (g .accepted z);
+        leaves = subst (λ (a : CallAnswer). Leaves a v (l .nodes) m t (l .cells) p) (sym (on e)) (g .leaves);
+        accepted = λ z. subst (AcceptedCall practiceSet (startOf c) (listsOf c)) (sym (on e)) (g .accepted z);
       }
 
 -- ---- the node list and the rim marks that it leaves are those of a list of calls
-pub as-called : (s : Pool) (g : Given ℕ) (v : Values) (m : List Float) (t p : List ℕ) → Promise (lend s g) v m t p → _≡_ {A = Pool} (record { doubles = m; count = v .nodes; rims = t }) (leaves s (answerOf s (practice g)))
+pub as-called : (s : Pool) (g : Given ℕ) (v : Row) (m : List Float) (t p : List ℕ) → PracticePromise (lend s g) v m t p → _≡_ {A = Pool} (record { doubles = m; count = v .nodes; rims = t }) (leaves s (answerOf s (practice g)))
 as-called s g v m t p h = λ j. record { doubles = h .leaves .nodes j; count = h .leaves .values j .nodes; rims = h .leaves .rims j }

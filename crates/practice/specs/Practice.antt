@@ -8,19 +8,19 @@ use Rattle.corner.specs.declared.Limits.{Limits}
 use Rattle.corner.specs.Limits.{delivered}
 use Rattle.quads.specs.declared.Cell.{Cell}
 use Rattle.quads.specs.Quads.{noCell}
-use Rattle.table.specs.declared.Values.{Values}
+use Rattle.table.specs.declared.Row.{Row}
 use Rattle.table.specs.Refusals.{Passes}
 use Rattle.sets.specs.Sets.{practiceSet}
-use Rattle.demand.specs.Call.{Lists, Call, listsOf, nodeReserve, cellReserve}
-use Rattle.demand.specs.Divide.{Answer, put, ringTests, ringOf, startOf}
-use Rattle.demand.specs.Demand.{stackOf, Demand3}
-use Rattle.demand.specs.Lent.{Lent, callOf, dividePractice}
+use Rattle.call.specs.Call.{Lists, Call, listsOf, nodeReserve, cellReserve}
+use Rattle.call.specs.Divide.{CallAnswer, put, ringTests, cleanedRing, startOf}
+use Rattle.call.specs.Demand.{splitOf, AcceptedCall}
+use Rattle.call.specs.Lent.{Lent, callOf, dividePractice}
 use Rattle.divider.specs.Promise.{Leaves}
 
 -- the practice call over what the caller lent returned v and left the nodes m, the rim marks t and the cells p; demand 3 of an accepted ring, with 12 cuts
-pub record Promise (l : Lent) (v : Values) (m : List Float) (t : List ℕ) (p : List ℕ) : Type 0 where
+pub record PracticePromise (l : Lent) (v : Row) (m : List Float) (t : List ℕ) (p : List ℕ) : Type 0 where
   pub leaves : Leaves (dividePractice l) v (l .nodes) m t (l .cells) p
-  pub accepted : v .code ≡ 0 → Demand3 practiceSet (startOf (callOf l)) (listsOf (callOf l)) (dividePractice l)
+  pub accepted : v .code ≡ 0 → AcceptedCall practiceSet (startOf (callOf l)) (listsOf (callOf l)) (dividePractice l)
 
 -- ---- the calls of which the card speaks
 -- "the lists hold the examination reserve": that of the set L for a ring of r points
@@ -30,10 +30,10 @@ pub record HoldsReserve (L : Limits) (r : ℕ) (x : Lists) : Type 0 where
 
 -- "A ring of at most 24 points, with a chain of at most 24, in which the examination entry makes 12 cuts or fewer .. where the lists hold the examination reserve".
 -- A ring that 5 to 7 refuse is not cut
-pub record OnPaper (c : Call) : Type 0 where
+pub record OnPracticePaper (c : Call) : Type 0 where
   pub ring : length (c .ring) ≤ 24
   pub chain : length (c .chain) ≤ 24
-  pub cuts : Passes (ringTests (ringOf c)) → stackOf delivered c .cuts ≤ 12
+  pub cuts : Passes (ringTests (cleanedRing c)) → splitOf delivered c .cuts ≤ 12
   pub reserve : HoldsReserve delivered (length (c .ring)) (listsOf c)
 
 -- ---- what it is to divide alike
@@ -43,7 +43,7 @@ zeroed L r x = put (x .cells) (x .cellCount) (replicate (cellReserve L r) noCell
 
 -- the answers a, with the set L, and b, with the set M, to a ring of r points over the lists x are alike: the whole row, the nodes and the rim marks are the same, and so are
 -- the cells, except with 8: "With 8, the cell places left zero follow each entry's own reserve"
-pub record Alike (L M : Limits) (r : ℕ) (x : Lists) (a b : Answer) : Type 0 where
+pub record SameAnswer (L M : Limits) (r : ℕ) (x : Lists) (a b : CallAnswer) : Type 0 where
   pub row : b .row ≡ a .row
   pub nodes : b .nodes ≡ a .nodes
   pub rims : b .rims ≡ a .rims

@@ -8,8 +8,8 @@ ghost use mathlib.Core.Bool.{_&&_, _||_, not};
 ghost use Prim.Native.Nat.{_/_, _%_};
 ghost use lib.Dec.{eqb};
 ghost use Rattle.table.specs.Answers as Answers;
-ghost use Rattle.demand.specs.Call as Call;
-ghost use Rattle.practice.specs.Practice.{Promise};
+ghost use Rattle.call.specs.Call as Call;
+ghost use Rattle.practice.specs.Practice.{PracticePromise};
 use nodes::NodeNumber;
 use table::Answer;
 
@@ -37,7 +37,7 @@ pub fn divide_practice(
     cells: &mut [NodeNumber],
     cell_count: usize,
 ) -> Answer
-    ensures { λ a. ⌜ Promise (record { ring = now (ring .entry); chain = now (chain .entry); size = size; nodes = now (nodes .entry); nodeCount = «node_count»; rims = now (rims .entry); cells = now (cells .entry); cellCount = «cell_count» })
+    ensures { λ a. ⌜ PracticePromise (record { ring = now (ring .entry); chain = now (chain .entry); size = size; nodes = now (nodes .entry); nodeCount = «node_count»; rims = now (rims .entry); cells = now (cells .entry); cellCount = «cell_count» })
         (Answers.values a) (now (nodes .exit)) (now (rims .exit)) (now (cells .exit)) ⌝ }
 {
     if over_paper(ring.len(), chain.len()) {

@@ -9,7 +9,7 @@ ghost use mathlib.Core.List.{_++_};
 ghost use Prim.Native.Nat.{ℕ, _+_, _*_, _≤_, _<_};
 ghost use lib.ListN.{length, getD, take, drop};
 ghost use Rattle.laws.specs.Bounded.{first};
-ghost use Rattle.nodes.specs.Flat.{pointAt, nodesIn};
+ghost use Rattle.nodes.specs.Flat.{nodeIn, nodesIn};
 ghost use Rattle.quads.specs.Quads as Quads;
 ghost use Rattle.quads.specs.Quads.{noCell};
 ghost use Rattle.quads.specs.Flat.{Listed, ListedTo, middleOf, positive, four, overCells};
@@ -106,7 +106,7 @@ fn all_distinct(c: Cell) -> bool
 
 pub fn node_at(nodes: &[f64], i: NodeNumber) -> Point
     requires { ⌜ i * 2 + 2 ≤ length (now nodes) ⌝ }
-    ensures { λ r. ⌜ r ≡ pointAt (now (nodes .entry)) i ⌝ }
+    ensures { λ r. ⌜ r ≡ nodeIn (now (nodes .entry)) i ⌝ }
 {
     let at = i as usize * 2;
     Point {
@@ -133,7 +133,7 @@ fn holds(nodes: &[f64], used: usize, c: Cell) -> bool
 // The mean of the listed corners, summed from 0.0 in their order.
 pub fn mean(nodes: &[f64], vs: [NodeNumber; 60], n: usize) -> Point
     requires { ⌜ (0 < n) × (n ≤ 60) × ((j : ℕ) → j < n → getD vs j 0 * 2 + 2 ≤ length (now nodes)) ⌝ }
-    ensures { λ r. ⌜ r ≡ Quads.mean (λ i. pointAt (now (nodes .entry)) (getD vs i 0)) n ⌝ }
+    ensures { λ r. ⌜ r ≡ Quads.mean (λ i. nodeIn (now (nodes .entry)) (getD vs i 0)) n ⌝ }
 {
     let mut x = 0.0;
     let mut y = 0.0;

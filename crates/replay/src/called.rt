@@ -1,7 +1,7 @@
 // The entry that a call is of: the examination, one that takes a set of limits, or the practice paper.
 
 use nodes::NodeNumber;
-use table::Values;
+use table::Row;
 
 // The kind of the record: 2 the examination, 7 with a set, and its five values, 8 the practice paper.
 pub struct Entry {
@@ -51,7 +51,7 @@ pub fn divided(
     rims: &mut [u8],
     cells: &mut [NodeNumber],
     cell_count: usize,
-) -> Values {
+) -> Row {
     if e.kind == 8 {
         return exports::ring_divide_practice(
             ring,
@@ -97,7 +97,7 @@ pub fn divided_marked(
     rims: &mut [u8],
     cells: &mut [NodeNumber],
     cell_count: usize,
-) -> Values {
+) -> Row {
     if e.kind == 7 {
         return exports::ring_divide_marked_set(
             e.corner,

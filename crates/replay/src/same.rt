@@ -2,9 +2,9 @@
 
 use blocks::Block;
 use blocks::Reading;
-use table::Values;
+use table::Row;
 
-pub fn same_row(fd: i32, v: Values) -> bool {
+pub fn same_row(fd: i32, v: Row) -> bool {
     let mut same = v.code == words::word(fd) as u64;
     same = same & (v.corners == words::word(fd) as u64);
     same = same & (v.k == words::word(fd) as u64);
@@ -98,7 +98,7 @@ pub fn same_rims(fd: i32, rims: &[u8], before: &[u8]) -> bool {
 // All that a call leaves: its row and every place of its lists, of which `before` and `marks` are what it found.
 pub fn same_left(
     fd: i32,
-    v: Values,
+    v: Row,
     nodes: &[f64],
     before: &[f64],
     used: usize,

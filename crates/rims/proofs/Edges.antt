@@ -16,9 +16,9 @@ use Rattle.corner.specs.declared.Limits.{Limits}
 use Rattle.split.specs.Split.{Cut, splitBadVertices}
 use Rattle.cuts.specs.Counts.{Sound}
 use Rattle.cuts.specs.Provenance.{Side, diagonal}
-use Rattle.cells.specs.Stages.{marksOf}
-use Rattle.cells.specs.Cover.{Ends, Diagonal, noDiagonal, EdgeFrom, side, across}
-use Rattle.demand.proofs.PiecesFrom.{diagonalsOf, cut-from}
+use Rattle.cells.specs.Stages.{markAt}
+use Rattle.cells.specs.Cover.{Ends, CutLine, noCutLine, EdgeFrom, side, across}
+use Rattle.call.proofs.PiecesFrom.{diagonalsOf, cut-from}
 use Rattle.cells.specs.Asks.{label, allMarked, isMarked, ofRing}
 use Rattle.rims.specs.Edges as Edges
 use Rattle.rims.specs.Edges.{Source, pieceOf, labelsOf, Labelled}
@@ -39,13 +39,13 @@ ring-marked (e ∷ es) zero h = refl
 ring-marked (e ∷ es) (suc k) h = ring-marked es k (omega (arith, h))
 
 -- a cut of one log with the diagonal of a cut of the other
-record Cutting (l : List Cut) (d : Diagonal) : Type 0 where
+record Cutting (l : List Cut) (d : CutLine) : Type 0 where
   pub c : Cut
   pub one : List·Memᴰ c l
   pub a : diagonal c .a ≡ d .a
   pub b : diagonal c .b ≡ d .b
 
-cutting : (R : EdgeMark → EdgeMark → Type 0) (l m : List Cut) → Both (Across R) l m → (j : ℕ) → j < length (diagonalsOf l) → Cutting m (getD (diagonalsOf l) j noDiagonal)
+cutting : (R : EdgeMark → EdgeMark → Type 0) (l m : List Cut) → Both (Across R) l m → (j : ℕ) → j < length (diagonalsOf l) → Cutting m (getD (diagonalsOf l) j noCutLine)
 cutting R [] [] h j k = absurd (omega (arith, k))
 cutting R [] (d ∷ m) h j k = absurd h
 cutting R (c ∷ l) [] h j k = absurd h
@@ -85,16 +85,16 @@ module _ (L : Limits) (ring : Part) (s : Sound ring) where
   many : length (splitBadVertices L (allMarked ring) .pieces) ≡ length (splitBadVertices L ring .pieces)
   many = both-length (Twin Plain) (splitBadVertices L (allMarked ring) .pieces) (splitBadVertices L ring .pieces) (twin .pieces)
 
-  plain : (i k : ℕ) → ofRing (labelsOf L ring i) k ≡ false → marksOf (pieceOf L ring i) k ≡ Straight
+  plain : (i k : ℕ) → ofRing (labelsOf L ring i) k ≡ false → markAt (pieceOf L ring i) k ≡ Straight
   plain i k = both-at Plain (labelsOf L ring i .edges) (pieceOf L ring i .edges) k Straight (pair i .edges) (λ u. refl)
 
-  ring-is : (j : ℕ) → j < length (ring .points) → isMarked (marksOf (allMarked ring) j) ≡ true
+  ring-is : (j : ℕ) → j < length (ring .points) → isMarked (markAt (allMarked ring) j) ≡ true
   ring-is j h = ap (λ (es : List EdgeMark). isMarked (getD es j Straight)) marked-edges ∙ ring-marked (ring .edges) j (omega (arith, h, s .edged))
 
   -- by the label b
   told : (i k : ℕ) (p q : GridPoint) (b : Bool) → ofRing (labelsOf L ring i) k ≡ b
-      → EdgeFrom (allMarked ring) (diagonalsOf (splitBadVertices L (allMarked ring) .log)) p q (marksOf (labelsOf L ring i) k)
-      → Source ring (splitBadVertices L ring .log) p q (marksOf (pieceOf L ring i) k) b
+      → EdgeFrom (allMarked ring) (diagonalsOf (splitBadVertices L (allMarked ring) .log)) p q (markAt (labelsOf L ring i) k)
+      → Source ring (splitBadVertices L ring .log) p q (markAt (pieceOf L ring i) k) b
   told i k p q true e (side j h u m) = Edges.side j (subst (λ (r : List GridPoint). j < length r) marked-points h) (subst (λ (r : List GridPoint). Ends p q (at r j) (at r (suc j))) marked-points u)
   told i k p q false e (side j h u m) =
       let z : true ≡ false = sym (ring-is j (subst (λ (r : List GridPoint). j < length r) marked-points h)) ∙ ap isMarked (sym m) ∙ e in
@@ -106,7 +106,7 @@ module _ (L : Limits) (ring : Part) (s : Sound ring) where
       absurd (omega arith)
   told i k p q false e (across j h u m) =
       let w = cutting Plain (splitBadVertices L (allMarked ring) .log) (splitBadVertices L ring .log) (twin .log) j h in
-      Edges.across (w .c) (w .one) (subst (λ (x : GridPoint). Ends p q x (diagonal (w .c) .b)) (sym (w .a)) (subst (λ (x : GridPoint). Ends p q (getD (diagonalsOf (splitBadVertices L (allMarked ring) .log)) j noDiagonal .a) x) (sym (w .b)) u)) (plain i k e)
+      Edges.across (w .c) (w .one) (subst (λ (x : GridPoint). Ends p q x (diagonal (w .c) .b)) (sym (w .a)) (subst (λ (x : GridPoint). Ends p q (getD (diagonalsOf (splitBadVertices L (allMarked ring) .log)) j noCutLine .a) x) (sym (w .b)) u)) (plain i k e)
 
   pub labelled : Labelled L ring
   labelled =
@@ -117,6 +117,6 @@ module _ (L : Limits) (ring : Part) (s : Sound ring) where
             let p = pair i .points in
             let f = cut-from L (allMarked ring) sound .from i (omega (arith, h, many)) in
             told i k (at (pieceOf L ring i .points) k) (at (pieceOf L ring i .points) (suc k)) (ofRing (labelsOf L ring i) k) refl
-            (subst (λ (r : List GridPoint). EdgeFrom (allMarked ring) (diagonalsOf (splitBadVertices L (allMarked ring) .log)) (at r k) (at r (suc k)) (marksOf (labelsOf L ring i) k)) p
+            (subst (λ (r : List GridPoint). EdgeFrom (allMarked ring) (diagonalsOf (splitBadVertices L (allMarked ring) .log)) (at r k) (at r (suc k)) (markAt (labelsOf L ring i) k)) p
             (f .edge k (omega (arith, l, ap length p))));
       }

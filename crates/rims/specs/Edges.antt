@@ -13,7 +13,7 @@ use Rattle.marks.specs.Part.{Part, noPart}
 use Rattle.corner.specs.declared.Limits.{Limits}
 use Rattle.split.specs.Split.{Cut, splitBadVertices}
 use Rattle.cuts.specs.Provenance.{diagonal}
-use Rattle.cells.specs.Stages.{marksOf}
+use Rattle.cells.specs.Stages.{markAt}
 use Rattle.cells.specs.Cover.{Ends}
 use Rattle.cells.specs.Asks.{allMarked, ofRing}
 
@@ -34,4 +34,4 @@ pub record Labelled (L : Limits) (ring : Part) : Type 0 where
   pub many : length (splitBadVertices L (allMarked ring) .pieces) ≡ length (splitBadVertices L ring .pieces)
   pub points : (i : ℕ) → labelsOf L ring i .points ≡ pieceOf L ring i .points
   pub from : (i k : ℕ) → i < length (splitBadVertices L ring .pieces) → k < length (pieceOf L ring i .points)
-      → Source ring (splitBadVertices L ring .log) (at (pieceOf L ring i .points) k) (at (pieceOf L ring i .points) (suc k)) (marksOf (pieceOf L ring i) k) (ofRing (labelsOf L ring i) k)
+      → Source ring (splitBadVertices L ring .log) (at (pieceOf L ring i .points) k) (at (pieceOf L ring i .points) (suc k)) (markAt (pieceOf L ring i) k) (ofRing (labelsOf L ring i) k)

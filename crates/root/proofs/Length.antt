@@ -84,9 +84,9 @@ sum-plus (pos a) (negsuc b) = refl
 sum-plus (negsuc a) (pos b) = refl
 sum-plus (negsuc a) (negsuc b) = refl
 
-square-mm-within : (z : ℤ) → minusSign z ≡ false → natAbs z ≤ 2 ^ 49 → Signed false (Units.mm² z) × Within (2 ^ 24) (Units.mm² z)
+in-square-mm-within : (z : ℤ) → minusSign z ≡ false → natAbs z ≤ 2 ^ 49 → Signed false (Units.mm² z) × Within (2 ^ 24) (Units.mm² z)
 unfolding Units.mm²
-square-mm-within z p h =
+in-square-mm-within z p h =
     let e = mm²-is z (omega arith) in (
       rw e (subst (λ (s : Bool). Signed s (scaled binary64 z (2 ^ 26))) p (round-signed binary64 (minusSign z) (natAbs z) (2 ^ 26))),
       rw e (value-within (2 ^ 24) (scaled binary64 z (2 ^ 26)) (minusSign z) (natAbs z) (2 ^ 26) (pow-pos 26)
@@ -99,7 +99,7 @@ gridNorm-within v s =
     let x = v .x in
     let y = v .y in
     let h : natAbs (x *ℤ x +ℤ y *ℤ y) ≤ 2 ^ 49 = omega (arith, natAbs-add (x *ℤ x) (y *ℤ y), product x x (s .x) (s .x), product y y (s .y) (s .y)) in
-    let w = square-mm-within (x *ℤ x +ℤ y *ℤ y) (sum-plus x y) h in
+    let w = in-square-mm-within (x *ℤ x +ℤ y *ℤ y) (sum-plus x y) h in
     root-within (Units.mm² (x *ℤ x +ℤ y *ℤ y)) (w .0) (w .1)
 
 pub gridDist-within : (a b : GridPoint) → OnSheet a → OnSheet b → Within (2 ^ 14) (gridDist a b)

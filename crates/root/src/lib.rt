@@ -120,7 +120,7 @@ pub fn grid_norm(v: GridPoint) -> f64
     requires { ⌜ Step v ⌝ }
     ensures { λ r. ⌜ r ≡ Norm.gridNorm v ⌝ }
 {
-    root(vector::square_mm(v.dot(v)))
+    root(vector::in_square_mm(v.dot(v)))
 }
 
 pub fn grid_dist(a: GridPoint, b: GridPoint) -> f64
@@ -155,5 +155,5 @@ pub fn grid_dist_at_most(a: GridPoint, b: GridPoint, t: f64) -> bool
     ensures { λ r. ⌜ r ≡ (Norm.gridDist a b ≤f t) ⌝ }
 {
     let v = a.sub(b);
-    root_at_most(vector::square_mm(v.dot(v)), t)
+    root_at_most(vector::in_square_mm(v.dot(v)), t)
 }

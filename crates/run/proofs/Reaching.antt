@@ -20,7 +20,7 @@ use Rattle.job.specs.Step.{Step, stepOf, Steps, CanStep}
 use Rattle.job.specs.Run.{Bytes, start, noPoints, noNodes, noRims, onward, ran, blockAt, readTo, printed}
 use Rattle.job.proofs.Runs.{Went, Held, outcome, number-below, not-both, goes, ran-held, read-more, read-added, joined-bytes}
 use Rattle.job.proofs.Printed.{one-more, prints, counted, in-time}
-use Rattle.run.specs.Reached.{Reached, Owed, Finished, Listed}
+use Rattle.run.specs.Reached.{Reached, Owed, Finished, EndedWith}
 
 -- before the first block
 begun : Reached start noPoints noNodes noRims 0
@@ -45,7 +45,7 @@ module _ (s : State) (ps : List ℤ) (l : List Float) (rs : List ℕ) (sent : �
   pub finished : s .ended ≡ true → Finished sent
   finished e = record { input = r .input; bytes = r .bytes; all = r .text ∙ ap length (prints (r .input) (r .blocks) (ap (λ (z : State). z .ended) (sym (r .state)) ∙ e)) }
 
-  pub listed : s .ended ≡ true → Listed (s .used) l
+  pub listed : s .ended ≡ true → EndedWith (s .used) l
   listed e =
       let f : ran (readTo (r .input) (r .blocks)) .state .ended ≡ true = ap (λ (z : State). z .ended) (sym (r .state)) ∙ e in
       record { input = r .input; blocks = r .blocks; bytes = r .bytes; ended = f; count = ap (λ (z : State). z .used) (r .state); nodes = r .nodes }

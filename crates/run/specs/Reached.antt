@@ -46,7 +46,7 @@ pub record Finished (sent : ℕ) : Type 0 where
   pub all : sent ≡ length (printed input)
 
 -- the run of an input has ended, and left so many nodes in the list l
-pub record Listed (used : ℕ) (l : List Float) : Type 0 where
+pub record EndedWith (used : ℕ) (l : List Float) : Type 0 where
   pub input : List ℕ
   pub blocks : ℕ
   pub bytes : Bytes input

@@ -50,7 +50,7 @@ pub fn limits_out(limits: Limits) -> bool
 pub fn practice() -> Limits
     ensures { λ r. ⌜ r ≡ Sets.practiceSet ⌝ }
 {
-    let delivered = Limits::new();
+    let delivered = Limits::on_delivery();
     Limits {
         cuts: 12,
         corner: delivered.corner,

@@ -5,7 +5,7 @@
 // has ended, which `print_sheet` asks for. The lines are written one at a time: a whole sheet would not fit the controller.
 
 ghost use mathlib.Core.Path.{_≡_};
-ghost use Rattle.run.specs.Reached.{Listed};
+ghost use Rattle.run.specs.Reached.{EndedWith};
 use job::State;
 use libc::STDERR_FILENO;
 use libc::STDIN_FILENO;
@@ -14,7 +14,7 @@ use report::MOST_TEXT;
 
 // Writes the lines of the first `used` nodes. That a run's nodes are in range is not proved here but tested once.
 fn print_sheet(nodes: &[f64], used: usize) -> bool
-    requires { ⌜ Listed used (now nodes) ⌝ }
+    requires { ⌜ EndedWith used (now nodes) ⌝ }
 {
     if listing::nodes_out(nodes, used) {
         return false;

@@ -20,16 +20,16 @@ use Rattle.split.specs.Split.{Stack, splitBadVertices}
 use Rattle.nodes.proofs.Flat.{length-in}
 use Rattle.cells.specs.Pieces.{Outcome, done, failed, piecesTo}
 use Rattle.table.specs.Refusals.{Refusal, firstOf, turnsAway}
-use Rattle.demand.specs.Call.{Lists, usedIn, Call, listsOf, countsOut, unitsOut, usable, rimsOut, listsOver, listsOut, nodeReserve, cellReserve, roomOut, mostPlaces}
-use Rattle.demand.specs.Divide.{Answer, refused, refusedOr, ringTests, answered, core, startOf}
-use Rattle.demand.specs.Lent.{Lent, callOf, divideLent, odd, allCells, testsBy, pointIn, cellIn}
-use Rattle.demand.proofs.Course.{by-tests-both, refused-code}
+use Rattle.call.specs.Call.{Lists, usedIn, Call, listsOf, countsOut, unitsOut, usable, rimsOut, listsOver, listsOut, nodeReserve, cellReserve, roomOut, mostPlaces}
+use Rattle.call.specs.Divide.{CallAnswer, refused, refusedOr, ringTests, answered, core, startOf}
+use Rattle.call.specs.Lent.{Lent, callOf, divideLent, odd, allCells, testsBy, pointIn, cellIn}
+use Rattle.call.proofs.Course.{by-tests-both, refused-code}
 use Rattle.sets.specs.Sets.{limitsOut}
 use Rattle.smallest.specs.Choice.{numberOf, trialLent}
 use Rattle.smallest.specs.Smallest.{points}
 use Rattle.smallest.specs.Empty.{Empty, Anywhere}
 
-abbrev SameCode : Answer → Answer → Type 0
+abbrev SameCode : CallAnswer → CallAnswer → Type 0
 SameCode a b = a .row .code ≡ b .row .code
 
 -- ---- the core, over two pairs of lists that have the same used nodes

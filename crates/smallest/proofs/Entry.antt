@@ -19,11 +19,11 @@ use Rattle.laws.proofs.Booleans.{is-true}
 use Rattle.corner.specs.declared.Limits.{Limits}
 use Rattle.corner.specs.Limits.{delivered}
 use Rattle.table.specs.Refusals.{Refusal, firstOf, Passes}
-use Rattle.demand.specs.Call.{listsOf}
-use Rattle.demand.specs.Divide.{core, startOf}
-use Rattle.demand.specs.Lent.{Lent, callOf, divideLent, odd, allCells, testsBy, pointIn}
-use Rattle.demand.proofs.Tests.{or-no, passed}
-use Rattle.demand.proofs.Course.{by-tests, refused-code}
+use Rattle.call.specs.Call.{listsOf}
+use Rattle.call.specs.Divide.{core, startOf}
+use Rattle.call.specs.Lent.{Lent, callOf, divideLent, odd, allCells, testsBy, pointIn}
+use Rattle.call.proofs.Tests.{or-no, passed}
+use Rattle.call.proofs.Course.{by-tests, refused-code}
 use Rattle.smallest.specs.Choice.{chosen, numberOf, trialOf, trialLent}
 use Rattle.smallest.specs.Search.{IsLeast}
 use Rattle.smallest.specs.Smallest.{refused, points, choiceOf, found, smallestOf, smallestRefused, Shown}

@@ -7,7 +7,7 @@ use lib.Dec.{eqb}
 use lib.IntN.{ℤ, pos}
 use Rattle.laws.specs.Double.{naught}
 use Rattle.corner.specs.Limits.{delivered}
-use Rattle.demand.specs.Lent.{Lent, divideLent}
+use Rattle.call.specs.Lent.{Lent, divideLent}
 
 -- the points chosen by c among the first n of a ring, x and y in turn
 unfoldable pub chosen : List ℤ → ℕ → ℕ → List ℤ

@@ -4,8 +4,8 @@ use Prim.Native.Nat.{_-_, _/_, _≤_}
 use mathlib.Core.Path.{_≡_}
 use lib.ListN.{length}
 use Rattle.corner.specs.Limits.{delivered}
-use Rattle.demand.specs.Call.{nodeReserve, cellReserve, mostPlaces}
-use Rattle.demand.specs.Lent.{Lent, divideLent}
+use Rattle.call.specs.Call.{nodeReserve, cellReserve, mostPlaces}
+use Rattle.call.specs.Lent.{Lent, divideLent}
 use Rattle.smallest.specs.Choice.{numberOf}
 use Rattle.smallest.specs.Smallest.{points}
 

@@ -13,7 +13,7 @@ ghost use Rattle.smallest.specs.Choice as Choice;
 ghost use Rattle.smallest.specs.Search as Search;
 ghost use Rattle.smallest.specs.Smallest as Rule;
 use nodes::NodeNumber;
-use table::Values;
+use table::Row;
 
 // 0 with the number that both rings get, the choice and how many points it has; or 1, 2, 18, 19 and zeros.
 #[repr(C)]
@@ -58,7 +58,7 @@ fn number(ring: &[i32], chain: &[i32], size: u32) -> u64
     let mut rims = [0u8; 55];
     let mut cells: [NodeNumber; 120] = [0; 120];
     let a = divider::divide(ring, chain, size, &mut nodes, 0, &mut rims, &mut cells, 0);
-    let v = Values::new(a);
+    let v = Row::new(a);
     v.code
 }
 

@@ -8,7 +8,7 @@ mod text;
 ghost use Prim.Native.Nat.{_^_, _≤_};
 ghost use lib.IntN.{natAbs};
 ghost use Rattle.vector.specs.Size.{AllOnSheet};
-ghost use Rattle.parts.specs.Layout.{Kept};
+ghost use Rattle.parts.specs.Layout.{ValidParts};
 use chain::Simplified;
 use corner::Limits;
 use libc::STDIN_FILENO;
@@ -113,7 +113,7 @@ fn print_piece(points: [GridPoint; 60], edges: [Edge; 60], n: usize)
 }
 
 fn print_pieces(ring: [GridPoint; 60], edges: [Edge; 60], pieces: PartList)
-    requires { ⌜ Kept pieces × AllOnSheet ring ⌝ }
+    requires { ⌜ ValidParts pieces × AllOnSheet ring ⌝ }
 {
     let k = pieces.count;
     for i in 0..k {
@@ -129,7 +129,7 @@ fn print_pieces(ring: [GridPoint; 60], edges: [Edge; 60], pieces: PartList)
 fn print_split(ring: [GridPoint; 60], edges: [Edge; 60], n: usize)
     requires { ⌜ (3 ≤ n) × (n ≤ 60) × AllOnSheet ring ⌝ }
 {
-    let s = split::split_bad_vertices(Limits::new(), ring, n);
+    let s = split::split_bad_vertices(Limits::on_delivery(), ring, n);
     text::number(b"cuts ", s.cuts as u64);
     text::number(b" turned ", s.turned);
     text::end();
@@ -145,7 +145,7 @@ fn print_marked(ring: [GridPoint; 60], n: usize, simple: bool, s: Simplified)
     let area = vector::polygon_area(ring, n);
     text::area(area);
     let w = corner::worst(ring, n);
-    text::worst(w, w.is_bad(Limits::new()));
+    text::worst(w, w.is_bad(Limits::on_delivery()));
     if simple {
         if 0 < area {
             print_split(ring, edges, n);

@@ -33,7 +33,7 @@ pub enum Answer {
 
 // A row of the table: the number, and every value that it may have.
 #[repr(C)]
-pub struct Values {
+pub struct Row {
     pub code: u64,
     pub corners: u64,
     pub k: u64,
@@ -46,9 +46,9 @@ pub struct Values {
     pub cells: u64,
 }
 
-impl Values {
+impl Row {
     // The row of an answer.
-    pub fn new(a: Answer) -> Values
+    pub fn new(a: Answer) -> Row
         ensures { λ r. ⌜ r ≡ Answers.values a ⌝ }
     {
         match a {
@@ -61,7 +61,7 @@ impl Values {
                 area,
                 nodes,
                 cells,
-            } => Values {
+            } => Row {
                 code: 0,
                 corners: corners as u64,
                 k: 0,
@@ -73,27 +73,21 @@ impl Values {
                 nodes: nodes as u64,
                 cells: cells as u64,
             },
-            Answer::Refused { code, nodes, cells } => Values::counts(
-                code as u64,
-                0,
-                0,
-                nodes,
-                cells,
-            ),
+            Answer::Refused { code, nodes, cells } => Row::counts(code as u64, 0, 0, nodes, cells),
             Answer::Failed {
                 corners,
                 k,
                 nodes,
                 cells,
-            } => Values::counts(8, corners, k, nodes, cells),
+            } => Row::counts(8, corners, k, nodes, cells),
         }
     }
 
     // The row of a ring that was not divided: zeros for the rest.
-    fn counts(code: u64, corners: usize, k: usize, nodes: usize, cells: usize) -> Values
+    fn counts(code: u64, corners: usize, k: usize, nodes: usize, cells: usize) -> Row
         ensures { λ r. ⌜ r ≡ Answers.undivided code corners k nodes cells ⌝ }
     {
-        Values {
+        Row {
             code: code,
             corners: corners as u64,
             k: k as u64,

@@ -25,9 +25,9 @@ use Rattle.cells.specs.Pieces as Pieces
 use Rattle.cells.specs.Asks as Asks
 use Rattle.cells.specs.Rims as Rims
 use Rattle.sets.specs.Sets as Sets
-use Rattle.demand.specs.Call as Call
-use Rattle.demand.specs.Divide as Divide
-use Rattle.demand.specs.Lent as Lent
+use Rattle.call.specs.Call as Call
+use Rattle.call.specs.Divide as Divide
+use Rattle.call.specs.Lent as Lent
 use Rattle.laws.specs.Table as Table
 use Rattle.quads.specs.Flat as QuadsFlat
 use Rattle.nodes.specs.Flat as NodesFlat

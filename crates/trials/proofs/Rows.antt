@@ -14,13 +14,13 @@ use Rattle.nodes.specs.Nodes.{nodeAt}
 use Rattle.corner.specs.declared.Limits.{Limits}
 use Rattle.quads.specs.declared.Cell.{Cell}
 use Rattle.table.specs.Refusals.{turnsAway}
-use Rattle.demand.specs.Call.{Call, listsOf, entry}
-use Rattle.demand.specs.Divide.{Answer, refused, startOf, divide}
+use Rattle.call.specs.Call.{Call, listsOf, entry}
+use Rattle.call.specs.Divide.{CallAnswer, refused, startOf, divide}
 use Rattle.report.specs.Text.{bytes}
 use Rattle.job.specs.Run.{printed}
 use Rattle.trials.proofs.Compute.{computing}
-use Rattle.trials.specs.Trials.{values, bits, newCells, Row, answers, gives, node, refuses, enters, corner, root, leaves, rims, prints, Holds}
-use Rattle.demand.proofs.Course.{refused-as, divide-course}
+use Rattle.trials.specs.Trials.{values, bits, newCells, Trial, answers, gives, node, refuses, enters, corner, root, leaves, rims, prints, Holds}
+use Rattle.call.proofs.Course.{refused-as, divide-course}
 
 -- ---- tests of lists and cells
 unfoldable pub sameList : {A : Type 0} → (A → A → Bool) → List A → List A → Bool
@@ -76,14 +76,14 @@ refused-by L c n e t = refused-as L (length (c .ring)) (startOf c) (listsOf c) (
 
 -- ---- the test of a row, and what it says
 -- of an answer, the three parts of what a row of whole answers expects
-unfoldable pub told : Call → Answer → List ℕ → List ℕ → List Cell → Bool
+unfoldable pub told : Call → CallAnswer → List ℕ → List ℕ → List Cell → Bool
 told c a vs bs ks = sameList eqb (values a) vs && (sameList eqb (bits (take (a .row .nodes) (a .nodes))) bs && sameList sameCell (newCells c a) ks)
 
 -- and of lists as they are left, every place
-unfoldable pub leftAs : Answer → List ℕ → List ℕ → List ℕ → List Cell → Bool
+unfoldable pub leftAs : CallAnswer → List ℕ → List ℕ → List ℕ → List Cell → Bool
 leftAs a vs bs ts ks = sameList eqb (values a) vs && (sameList eqb (bits (a .nodes)) bs && (sameList eqb (a .rims) ts && sameList sameCell (a .cells) ks))
 
-unfoldable pub test : Row → Bool
+unfoldable pub test : Trial → Bool
 test (answers c vs) = sameList eqb (values (divide delivered c)) vs
 test (gives c vs bs ks) = told c (divide delivered c) vs bs ks
 test (node c i x y) = sameList eqb (bits (nodeAt (divide delivered c .nodes) i ∷ [])) (x ∷ y ∷ [])
@@ -95,7 +95,7 @@ test (leaves c vs bs ts ks) = leftAs (divide delivered c) vs bs ts ks
 test (rims c ts) = sameList eqb (divide delivered c .rims) ts
 test (prints b t) = sameList eqb (printed b) (bytes t)
 
-right : (r : Row) → T (test r) → Holds r
+right : (r : Trial) → T (test r) → Holds r
 unfolding test told leftAs
 right (answers c vs) t = numbers-same (values (divide delivered c)) vs t
 right (gives c vs bs ks) t =
@@ -123,11 +123,11 @@ right (leaves c vs bs ts ks) t =
 right (rims c ts) t = numbers-same (divide delivered c .rims) ts t
 right (prints b t) h = numbers-same (printed b) (bytes t) h
 
-unfoldable pub tests : List Row → Bool
+unfoldable pub tests : List Trial → Bool
 tests [] = true
 tests (r ∷ rs) = test r && tests rs
 
-pub all-right : (rs : List Row) → T (tests rs) → All Holds rs
+pub all-right : (rs : List Trial) → T (tests rs) → All Holds rs
 unfolding tests
 all-right [] t = tt
 all-right (r ∷ rs) t = (right r (and-l (test r) (tests rs) t), all-right rs (and-r (test r) (tests rs) t))

@@ -5,7 +5,7 @@ use mathlib.Core.List.{List, [], _∷_}
 use lib.ListN.{replicate}
 use lib.Count.{ones, onesIn}
 use lib.IntN.{ℤ, pos, negsuc}
-use Rattle.demand.specs.Lent.{divideLent}
+use Rattle.call.specs.Lent.{divideLent}
 use Rattle.smallest.specs.Choice.{chosen, numberOf}
 use Rattle.smallest.specs.Search.{firstOf, leastOf}
 use Rattle.smallest.specs.Smallest.{refused, smallestOf, smallestRefused}

@@ -2,10 +2,10 @@
 -- cells. proofs/Traps proves that every row holds; a divider that falls into the trap answers otherwise. The answers are those that the Rust gave (oracle/).
 use mathlib.Core.List.{List, [], _∷_}
 use lib.IntN.{pos, negsuc}
-use Rattle.trials.specs.Trials.{units, sized, fresh, cell, Row, gives}
+use Rattle.trials.specs.Trials.{units, sized, fresh, cell, Trial, gives}
 
 -- of equal worst corners, the last
-unfoldable pub equalWorst : Row
+unfoldable pub equalWorst : Trial
 equalWorst =
     gives
     (fresh
@@ -19,7 +19,7 @@ equalWorst =
     (cell 6 3 1 4 ∷ cell 6 4 2 5 ∷ cell 6 5 0 3 ∷ cell 10 8 7 9 ∷ cell 10 9 0 5 ∷ cell 10 5 2 8 ∷ [])
 
 -- the centre is the mean of the corners, not the area's
-unfoldable pub trapezoid : Row
+unfoldable pub trapezoid : Trial
 trapezoid =
     gives
     (fresh
@@ -32,7 +32,7 @@ trapezoid =
     (cell 8 4 1 5 ∷ cell 8 5 2 6 ∷ cell 8 6 3 7 ∷ cell 8 7 0 4 ∷ [])
 
 -- one far snap leaves the other edges their snap points
-unfoldable pub farSnap : Row
+unfoldable pub farSnap : Trial
 farSnap =
     gives
     (fresh
@@ -48,7 +48,7 @@ farSnap =
     (cell 8 4 1 5 ∷ cell 8 5 2 6 ∷ cell 8 6 3 7 ∷ cell 8 7 0 4 ∷ [])
 
 -- a part that is turned round has its marks turned with it
-unfoldable pub turnedMarks : Row
+unfoldable pub turnedMarks : Trial
 turnedMarks =
     gives
     (fresh
@@ -65,7 +65,7 @@ turnedMarks =
     cell 10 5 0 3 ∷ [])
 
 -- collinear points are dropped together, not one by one
-unfoldable pub collinear : Row
+unfoldable pub collinear : Trial
 collinear =
     gives
     (sized 2048
@@ -79,7 +79,7 @@ collinear =
     (cell 8 4 1 5 ∷ cell 8 5 2 6 ∷ cell 8 6 3 7 ∷ cell 8 7 0 4 ∷ [])
 
 -- the part pushed last is popped first
-unfoldable pub popOrder : Row
+unfoldable pub popOrder : Trial
 popOrder =
     gives
     (fresh
@@ -93,7 +93,7 @@ popOrder =
     (cell 6 3 1 4 ∷ cell 6 4 2 5 ∷ cell 6 5 0 3 ∷ cell 10 8 7 9 ∷ cell 10 9 0 5 ∷ cell 10 5 2 8 ∷ [])
 
 -- a retry is on straight middles
-unfoldable pub retried : Row
+unfoldable pub retried : Trial
 retried =
     gives
     (fresh
@@ -107,7 +107,7 @@ retried =
     (cell 6 7 1 4 ∷ cell 6 4 2 5 ∷ cell 6 5 0 7 ∷ cell 11 9 8 10 ∷ cell 11 10 0 5 ∷ cell 11 5 2 9 ∷ [])
 
 -- the k of an 8 is that of the retry
-unfoldable pub retryFails : Row
+unfoldable pub retryFails : Trial
 retryFails =
     gives
     (fresh
@@ -121,7 +121,7 @@ retryFails =
     []
 
 -- a part is turned round, and its area counts twice
-unfoldable pub turnedPart : Row
+unfoldable pub turnedPart : Trial
 turnedPart =
     gives
     (fresh
@@ -136,7 +136,7 @@ turnedPart =
     (cell 9 4 1 5 ∷ cell 9 5 2 6 ∷ cell 9 6 0 7 ∷ cell 9 7 3 8 ∷ cell 9 8 2 6 ∷ cell 9 6 0 4 ∷ cell 10 4 1 5 ∷ cell 10 5 2 6 ∷ cell 10 6 0 4 ∷ [])
 
 -- where 01 says doubles, exact arithmetic would answer otherwise
-unfoldable pub inDoubles : Row
+unfoldable pub inDoubles : Trial
 inDoubles =
     gives
     (sized 625
@@ -150,7 +150,7 @@ inDoubles =
     (cell 6 3 1 4 ∷ cell 6 4 2 5 ∷ cell 6 5 0 3 ∷ cell 10 8 7 9 ∷ cell 10 9 0 5 ∷ cell 10 5 2 8 ∷ [])
 
 -- and another
-unfoldable pub inDoublesAgain : Row
+unfoldable pub inDoublesAgain : Trial
 inDoublesAgain =
     gives
     (fresh
@@ -167,7 +167,7 @@ inDoublesAgain =
     cell 14 11 0 5 ∷ [])
 
 -- and another
-unfoldable pub inDoublesWide : Row
+unfoldable pub inDoublesWide : Trial
 inDoublesWide =
     gives
     (fresh
@@ -187,7 +187,7 @@ inDoublesWide =
     cell 18 16 14 17 ∷ cell 18 17 1 3 ∷ cell 18 3 0 15 ∷ [])
 
 -- and one with corners on one line, whose answer needs the doubles also where Card 11 refuses the diagonals over a corner
-unfoldable pub inDoublesOver : Row
+unfoldable pub inDoublesOver : Trial
 inDoublesOver =
     gives
     (fresh
@@ -203,7 +203,7 @@ inDoublesOver =
     []
 
 -- a diagonal that runs over a third corner is refused, from (2,1) to (2,4) over (2,3): with it the ring would be 8
-unfoldable pub thirdCorner : Row
+unfoldable pub thirdCorner : Trial
 thirdCorner =
     gives
     (fresh
@@ -218,7 +218,7 @@ thirdCorner =
     (cell 6 3 1 4 ∷ cell 6 4 2 5 ∷ cell 6 5 0 3 ∷ cell 12 9 8 10 ∷ cell 12 10 0 11 ∷ cell 12 11 7 9 ∷ cell 14 5 2 13 ∷ cell 14 13 7 11 ∷ cell 14 11 0 5 ∷ [])
 
 -- another, which touches itself: from (0,1) to (2,1) over (1,1), in units; accepted with 3 cuts where it would be 8 with corners 5
-unfoldable pub thirdCornerAccepts : Row
+unfoldable pub thirdCornerAccepts : Trial
 thirdCornerAccepts =
     gives
     (fresh
@@ -234,7 +234,7 @@ thirdCornerAccepts =
     (cell 6 3 1 4 ∷ cell 6 4 2 5 ∷ cell 6 5 0 3 ∷ cell 10 8 7 9 ∷ cell 10 9 0 5 ∷ cell 10 5 2 8 ∷ cell 14 12 7 8 ∷ cell 14 8 2 13 ∷ cell 14 13 11 12 ∷
     cell 16 4 1 15 ∷ cell 16 15 11 13 ∷ cell 16 13 2 4 ∷ [])
 
-abbrev pub traps : List Row
+abbrev pub traps : List Trial
 traps =
     equalWorst ∷ trapezoid ∷ farSnap ∷ turnedMarks ∷ collinear ∷ popOrder ∷ retried ∷ retryFails ∷ turnedPart ∷ inDoubles ∷
     inDoublesAgain ∷ inDoublesWide ∷ inDoublesOver ∷ thirdCorner ∷ thirdCornerAccepts ∷ []

@@ -16,8 +16,8 @@ use Rattle.corner.specs.Corner.{measure, bad}
 use Rattle.nodes.specs.Nodes.{noNode, nodeAt}
 use Rattle.quads.specs.declared.Cell.{Cell}
 use Rattle.quads.specs.Quads.{noCell}
-use Rattle.demand.specs.Call.{Call, listsOf, entry}
-use Rattle.demand.specs.Divide.{Answer, refused, divide}
+use Rattle.call.specs.Call.{Call, listsOf, entry}
+use Rattle.call.specs.Divide.{CallAnswer, refused, divide}
 use Rattle.report.specs.Text.{bytes}
 use Rattle.job.specs.Run.{printed}
 
@@ -40,7 +40,7 @@ abbrev pub cell : ℕ → ℕ → ℕ → ℕ → Cell
 cell a b c d = record { a = a; b = b; c = c; d = d }
 
 -- what comes back: the table's number, n, c, s, pieces, turned area, area, k, nodes listed, cells listed
-abbrev pub values : Answer → List ℕ
+abbrev pub values : CallAnswer → List ℕ
 values a = let v = a .row in v .code ∷ v .corners ∷ v .marked ∷ v .cuts ∷ v .pieces ∷ v .turned ∷ v .area ∷ v .k ∷ v .nodes ∷ v .cells ∷ []
 
 -- the bits of nodes, x and y in turn
@@ -48,34 +48,34 @@ abbrev pub bits : List Point → List ℕ
 bits [] = []
 bits (p ∷ ps) = toBits binary64 (p .x) ∷ toBits binary64 (p .y) ∷ bits ps
 
-abbrev pub newCells : Call → Answer → List Cell
+abbrev pub newCells : Call → CallAnswer → List Cell
 newCells c a = drop (c .cellCount) (take (a .row .cells) (a .cells))
 
 -- ---- a row: its input and what is expected
-pub data Row : Type 0 where
+pub data Trial : Type 0 where
   -- the values that come back
-  answers : Call → List ℕ → Row
+  answers : Call → List ℕ → Trial
   -- the values, the bits of every used node, and the new cells
-  gives : Call → List ℕ → List ℕ → List Cell → Row
+  gives : Call → List ℕ → List ℕ → List Cell → Trial
   -- node i has these bits
-  node : Call → ℕ → ℕ → ℕ → Row
+  node : Call → ℕ → ℕ → ℕ → Trial
   -- the number with which the call is refused, all as found
-  refuses : Call → ℕ → Row
+  refuses : Call → ℕ → Trial
   -- no test of the entry refuses the call
-  enters : Call → Row
+  enters : Call → Trial
   -- whether the corner between two steps is bad
-  corner : GridPoint → GridPoint → Bool → Row
+  corner : GridPoint → GridPoint → Bool → Trial
   -- the root of a double, both by their bits
-  root : ℕ → ℕ → Row
+  root : ℕ → ℕ → Trial
   -- the values, the bits of every place of the node list, every rim mark, and every place of the cell list
-  leaves : Call → List ℕ → List ℕ → List ℕ → List Cell → Row
+  leaves : Call → List ℕ → List ℕ → List ℕ → List Cell → Trial
   -- every rim mark
-  rims : Call → List ℕ → Row
+  rims : Call → List ℕ → Trial
   -- the bytes that the program reads, and the text that it prints
-  prints : List ℕ → String → Row
+  prints : List ℕ → String → Trial
 
 -- a row holds
-abbrev pub Holds : Row → Type 0
+abbrev pub Holds : Trial → Type 0
 Holds (answers c vs) = values (divide delivered c) ≡ vs
 Holds (gives c vs bs ks) = (values (divide delivered c) ≡ vs) × (bits (take (divide delivered c .row .nodes) (divide delivered c .nodes)) ≡ bs) × (newCells c (divide delivered c) ≡ ks)
 Holds (node c i x y) = bits (nodeAt (divide delivered c .nodes) i ∷ []) ≡ x ∷ y ∷ []
@@ -130,7 +130,7 @@ squareBlocks =
     (1 ∷ 4 ∷ 0 ∷ 0 ∷ []) ++ nil ++ nil ++ mm ++ nil ++ mm ++ mm ++ nil ++ mm ++ replicate 448 0 ++ (1 ∷ 0 ∷ []) ++ replicate 22 0 ++ (238 ∷ 13 ∷ 0 ∷ 0 ∷ []) ++
     (2 ∷ 0 ∷ 1 ∷ 0 ∷ []) ++ replicate 504 0 ++ (5 ∷ 0 ∷ 0 ∷ 0 ∷ [])
 
-abbrev pub starred : List Row
+abbrev pub starred : List Trial
 starred =
     -- the square, from its blocks to its six lines
     prints squareBlocks "ring 0 corners 4 cuts 0 turned 0 area 100\nnodes 9 new 9\nquad 8 4 1 5\nquad 8 5 2 6\nquad 8 6 3 7\nquad 8 7 0 4\n" ∷
@@ -206,7 +206,7 @@ middleListed =
       cellCount = 0;
     }
 
-abbrev pub inUse : List Row
+abbrev pub inUse : List Trial
 inUse =
     leaves twoOfOneKey (0 ∷ 3 ∷ 0 ∷ 0 ∷ 1 ∷ 0 ∷ 8192 * 8192 ∷ 0 ∷ 9 ∷ 4 ∷ [])
     (0x3ff0_0000_0044_b830 ∷ 0 ∷ 0x3ff0_0000_0000_0000 ∷ 0 ∷ 0x4014_0000_0000_0000 ∷ 0x4014_0000_0000_0000 ∷ 0 ∷ 0 ∷ 0 ∷ 0x3ff0_0000_0000_0000 ∷ 0x3fe0_0000_0044_b830 ∷ 0 ∷ 0x3fe0_0000_0044_b830 ∷ 0x3fe0_0000_0000_0000 ∷ 0 ∷ 0x3fe0_0000_0000_0000 ∷ 0x3fd5_5555_55b0_f595 ∷ 0x3fd5_5555_5555_5555 ∷ 0x401c_0000_0000_0000 ∷ 0x4020_0000_0000_0000 ∷ 0x401c_0000_0000_0000 ∷ 0x4020_0000_0000_0000 ∷ 0x401c_0000_0000_0000 ∷ 0x4020_0000_0000_0000 ∷ 0x401c_0000_0000_0000 ∷ 0x4020_0000_0000_0000 ∷ 0x401c_0000_0000_0000 ∷ 0x4020_0000_0000_0000 ∷ [])
@@ -231,7 +231,7 @@ again =
     marking (whole (pos 8) (pos 3) ∷ whole (pos 7) (pos 3) ∷ whole (pos 3) (pos 8) ∷ whole (pos 2) (pos 1) ∷ [])
     (whole (pos 2) (pos 1) ∷ whole (pos 4) (pos 2) ∷ whole (pos 8) (pos 3) ∷ []) (replicate 16 7) 0
 
-abbrev pub rimmed : List Row
+abbrev pub rimmed : List Trial
 rimmed =
     -- the dart, one cut: 5 is the middle of the cut, 6 and 10 are the centres
     rims (marking (dart .ring) [] (replicate 16 7) 0) (1 ∷ 1 ∷ 1 ∷ 1 ∷ 1 ∷ 0 ∷ 0 ∷ 1 ∷ 1 ∷ 1 ∷ 0 ∷ replicate 5 7) ∷

@@ -12,25 +12,25 @@ use Rattle.corner.specs.declared.Limits.{Limits}
 use Rattle.quads.specs.declared.Cell.{Cell}
 use Rattle.table.specs.Refusals.{Refusal, firstOf, Passes, numbered}
 use Rattle.table.proofs.Refusals.{not-0}
-use Rattle.demand.specs.Call.{Lists, listsOf, noTest}
-use Rattle.demand.specs.Divide.{Answer, refusedOr, core, startOf}
-use Rattle.demand.specs.Lent.{LentOf, callBy, testsFor, divideFor, allCells, divideLent, divideRecords}
-use Rattle.demand.specs.Marked.{LentMarked, allPoints, markedLists, markedStart, markedTests, divideMarked}
-use Rattle.demand.specs.LentCalls as LentCalls
-use Rattle.demand.specs.LentCalls.{Pool, LentCall, numbers, records, marked, practice, lend, lendMarked}
-use Rattle.demand.proofs.Tests.{passed-by}
-use Rattle.demand.proofs.Course.{by-tests, refused-code}
-use Rattle.demand.proofs.Demand.{demand3-lent, demand3-records, demand3-practice}
-use Rattle.demand.proofs.Marked.{marked-passed, demand3-marked}
+use Rattle.call.specs.Call.{Lists, listsOf, noTest}
+use Rattle.call.specs.Divide.{CallAnswer, refusedOr, core, startOf}
+use Rattle.call.specs.Lent.{LentOf, callBy, testsFor, divideFor, allCells, divideLent, divideRecords}
+use Rattle.call.specs.Marked.{LentMarked, allPoints, markedLists, markedStart, markedTests, divideMarked}
+use Rattle.call.specs.LentCalls as LentCalls
+use Rattle.call.specs.LentCalls.{Pool, LentCall, numbers, records, marked, practice, lend, lendMarked}
+use Rattle.call.proofs.Tests.{passed-by}
+use Rattle.call.proofs.Course.{by-tests, refused-code}
+use Rattle.call.proofs.Demand.{demand3-lent, demand3-records, demand3-practice}
+use Rattle.call.proofs.Marked.{marked-passed, demand3-marked}
 use Rattle.wear.specs.Answers as Answers
 use Rattle.wear.specs.Answers.{Fair, last, zeros, valuesFor}
 use Rattle.wear.proofs.Rings.{follows}
 use Rattle.worn.specs.Worn.{Ring, answerOf, answersOf, RingsFollow}
 
 -- an answer with 0 passed every test, 15 among them
-taken : (L : Limits) (x : Lists) (rs : List Refusal) (a : Answer) → T (numbered rs) → (Passes rs → L .cuts ≤ 32) → refusedOr x rs a .row .code ≡ 0 → L .cuts ≤ 32
+taken : (L : Limits) (x : Lists) (rs : List Refusal) (a : CallAnswer) → T (numbered rs) → (Passes rs → L .cuts ≤ 32) → refusedOr x rs a .row .code ≡ 0 → L .cuts ≤ 32
 taken L x rs a n h =
-    by-tests x rs a (λ (b : Answer). b .row .code ≡ 0 → L .cuts ≤ 32) n
+    by-tests x rs a (λ (b : CallAnswer). b .row .code ≡ 0 → L .cuts ≤ 32) n
     (λ t z. absurd (not-0 (firstOf rs) t (sym (refused-code x (firstOf rs)) ∙ z)))
     (λ p z. h p)
 

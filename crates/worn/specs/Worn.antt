@@ -2,8 +2,8 @@
 -- accepted, or for all where fewer, and all zero where there are none." The calls are those of all entries, in any mixture; whatever lists each is lent.
 use mathlib.Core.Path.{_≡_}
 use mathlib.Core.List.{List, [], _∷_, _++_, map}
-use Rattle.demand.specs.LentCalls as LentCalls
-use Rattle.demand.specs.LentCalls.{Pool, LentCall}
+use Rattle.call.specs.LentCalls as LentCalls
+use Rattle.call.specs.LentCalls.{Pool, LentCall}
 use Rattle.wear.specs.Answers.{Answer, last, reply, valuesFor, zeros}
 
 -- a ring: a call of an entry, and the node list that it gets. A wheel outlasts a node list, so that nothing is asked of one between two calls

@@ -15,8 +15,8 @@ use borrow.Rule.Slice.PartMut.{putMid}
 use Rattle.laws.specs.Bounded.{any}
 use Rattle.laws.proofs.Search.{any-none}
 use Rattle.laws.proofs.Booleans.{neither, is-false, is-true, not-of}
-use Rattle.demand.specs.Call.{beyond, outside, anyOutside, countsOut, unitsOut}
-use Rattle.demand.specs.Lent.{pointIn, pointsIn, odd}
+use Rattle.call.specs.Call.{beyond, outside, anyOutside, countsOut, unitsOut}
+use Rattle.call.specs.Lent.{pointIn, pointsIn, odd}
 use Rattle.entry.proofs.Tests.{outsideAt, any-outside-is}
 use Rattle.blocks.specs.Writing.{blockBytes, Writable}
 use Rattle.blocks.proofs.Words.{past, length-block, part-back}

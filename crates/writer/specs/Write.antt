@@ -8,8 +8,8 @@ use lib.Dec.{ltb, eqb}
 use lib.IntN.{ℤ, pos}
 use Rattle.laws.specs.Table.{tab}
 use Rattle.table.specs.Refusals.{firstOf, _when_}
-use Rattle.demand.specs.Call.{countsOut, unitsOut}
-use Rattle.demand.specs.Lent.{pointsIn, odd}
+use Rattle.call.specs.Call.{countsOut, unitsOut}
+use Rattle.call.specs.Lent.{pointsIn, odd}
 use Rattle.blocks.specs.declared.Block.the-variants.{Ring, Chain}
 use Rattle.blocks.specs.Blocks.{readBlock}
 use Rattle.blocks.specs.Writing.{blockBytes}

@@ -33,8 +33,8 @@ returns-2 c =
 dot-requires : tie.Need-dot-requires
 dot-requires c κs = search needs
 
-square-mm-requires : tie.Need-square-mm-requires
-square-mm-requires c κs = let h = c .dot .ensures .1 in signed.small64 (c .dot .result) _ (lit< tt) (omega arith)
+in-square-mm-requires : tie.Need-in-square-mm-requires
+in-square-mm-requires c κs = let h = c .dot .ensures .1 in signed.small64 (c .dot .result) _ (lit< tt) (omega arith)
 
 clamp-requires : tie.Need-clamp-requires
 clamp-requires c κs = search needs
@@ -44,7 +44,7 @@ unfolding Cosine.cosine ofBits ofInt sub
 returns-3 c =
     let s = c .before .before .before .before .before .before .before in
     let d = c .before .before .dot in
-    let e = c .before .square-mm .ensures ∙ ap Units.mm² (signed.back (d .result) (omega (arith, d .ensures .1)) ∙ d .ensures .0) in
+    let e = c .before .in-square-mm .ensures ∙ ap Units.mm² (signed.back (d .result) (omega (arith, d .ensures .1)) ∙ d .ensures .0) in
     let p = s .pre .2 in
     let q = s .pre .3 in
     let f : c .clamp .result
@@ -57,4 +57,4 @@ returns-3 c =
 pub cosine-spec : {M : Type 1} → statement M
 cosine-spec =
     tie.close
-    (tie.spec is-zero-requires returns is-zero-requires-2 returns-2 dot-requires square-mm-requires clamp-requires returns-3)
+    (tie.spec is-zero-requires returns is-zero-requires-2 returns-2 dot-requires in-square-mm-requires clamp-requires returns-3)

@@ -3,8 +3,8 @@ use borrow.Author.Needs.{needs}
 use Rattle.divider.proofs.divide.Statement.{statement}
 use Rattle.divider.proofs.divide.Tie as tie
 
-new-requires : tie.Need-new-requires
-new-requires c κs = search needs
+on-delivery-requires : tie.Need-on-delivery-requires
+on-delivery-requires c κs = search needs
 
 divide-set-requires : tie.Need-divide-set-requires
 divide-set-requires c κs = search needs
@@ -19,8 +19,8 @@ same-length-3 : tie.Need-same-length-3
 same-length-3 c = search needs
 
 returns : tie.Need-returns
-returns c = rw (← c .before .before .before .before .before .before .before .before .before .before .new .ensures) (c .before .before .before .before .before .before .divide-set .ensures)
+returns c = rw (← c .before .before .before .before .before .before .before .before .before .before .on-delivery .ensures) (c .before .before .before .before .before .before .divide-set .ensures)
 
 pub divide-spec : {M : Type 1} → statement M
 divide-spec =
-    tie.close (tie.spec new-requires divide-set-requires same-length same-length-2 same-length-3 returns)
+    tie.close (tie.spec on-delivery-requires divide-set-requires same-length same-length-2 same-length-3 returns)

@@ -15,8 +15,8 @@ returns c =
     let n = c .before .ring-refusal in
     core-refused (a .limits) (a .own) (partIn (a .ring)) (a .nodes .now) (a .node-count) (a .rims .now) (a .cells .now) (a .cell-count) (n .result) (n .ensures) (c .if1 .taken)
 
-laid-out-requires : tie.Need-laid-out-requires
-laid-out-requires c κs =
+lay-out-requires : tie.Need-lay-out-requires
+lay-out-requires c κs =
     let s = c .before .before .before .before .before .before .before .before .before in
     let a = s .args in
     let n = c .before .before .before .before .ring-refusal in
@@ -35,9 +35,9 @@ returns-2 : tie.Need-returns-2
 returns-2 c =
     let a = c .before .before .before .before .before .before .before .before .before .before .before .before .before .before .before .before .args in
     let n = c .before .before .before .before .before .before .before .before .before .before .before .ring-refusal in
-    core-laid (a .limits) (a .own) (partIn (a .ring)) (a .nodes .now) (a .node-count) (a .rims .now) (a .cells .now) (a .cell-count) (n .result) (n .ensures) (c .before .before .before .before .before .before .before .before .before .before .if1 .left) _ _ _ _ (c .before .before .before .before .before .before .laid-out .ensures)
+    core-laid (a .limits) (a .own) (partIn (a .ring)) (a .nodes .now) (a .node-count) (a .rims .now) (a .cells .now) (a .cell-count) (n .result) (n .ensures) (c .before .before .before .before .before .before .before .before .before .before .if1 .left) _ _ _ _ (c .before .before .before .before .before .before .lay-out .ensures)
 
 pub divide-core-spec : {M : Type 1} → statement M
 divide-core-spec =
     tie.close
-    (tie.spec ring-refusal-requires returns laid-out-requires same-length same-length-2 same-length-3 returns-2)
+    (tie.spec ring-refusal-requires returns lay-out-requires same-length same-length-2 same-length-3 returns-2)

@@ -1,6 +1,6 @@
 -- `divide_set` keeps its promise: it is the call with the set that came, its cells written where they were lent. Assumes nothing.
 use borrow.Author.Needs.{needs}
-use Rattle.demand.specs.Lent.{allCells, Lent}
+use Rattle.call.specs.Lent.{allCells, Lent}
 use Rattle.divider.proofs.Calling.{own-promise, cell-places}
 use Rattle.divider.proofs.divide_set.Statement.{statement}
 use Rattle.divider.proofs.divide_set.Tie as tie

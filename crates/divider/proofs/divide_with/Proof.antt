@@ -6,7 +6,7 @@ use lib.ListN.{length, replicate, length-replicate}
 use borrow.Author.Needs.{needs}
 use Rattle.quads.specs.declared.Cell.{Cell}
 use Rattle.quads.specs.Quads.{noCell}
-use Rattle.demand.specs.Lent.{LentRecords}
+use Rattle.call.specs.Lent.{LentRecords}
 use Rattle.divider.proofs.Calling.{call-refused, ring-read, chain-read, can-divide, call-divided}
 use Rattle.divider.proofs.divide_with.Statement.{statement}
 use Rattle.divider.proofs.divide_with.Tie as tie

@@ -8,7 +8,7 @@ use lib.ListN.{length}
 use borrow.Author.Tests.{eq-eqb, ne-eqb}
 use Rattle.laws.specs.Bounded.{any}
 use Rattle.laws.proofs.Search.{any-pass, any-hit}
-use Rattle.demand.specs.Marked.{calledFor}
+use Rattle.call.specs.Marked.{calledFor}
 use Rattle.given.proofs.Scans.{any-zero, calls}
 use Rattle.given.proofs.called_for.Statement.{statement}
 use Rattle.given.proofs.called_for.Tie as tie

@@ -3,7 +3,7 @@ use native.Mathlib.Omega.{arith}
 use borrow.Author.Needs.{needs}
 use borrow.Author.Tests.{eq-eqb, ne-eqb}
 use mathlib.Core.Path.{_≡_, sym, ap, _∙_}
-use Rattle.demand.specs.Marked.{markOf, leadPoint}
+use Rattle.call.specs.Marked.{markOf, leadPoint}
 use Rattle.vector.specs.declared.Point.{Point}
 use Rattle.outline.specs.Outline.{nearestBoundaryPoint}
 use Rattle.quads.specs.Quads.{middle}

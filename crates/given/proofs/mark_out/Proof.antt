@@ -4,8 +4,8 @@ use borrow.Author.Needs.{needs}
 use mathlib.Core.Path.{sym, ap, _∙_}
 use borrow.Author.Tests.{eq-eqb, ne-eqb, lt-ltb, le-ltb}
 use Rattle.nodes.specs.Flat as Flat
-use Rattle.demand.specs.Call.{held}
-use Rattle.demand.specs.Marked.{markOut}
+use Rattle.call.specs.Call.{held}
+use Rattle.call.specs.Marked.{markOut}
 use mathlib.Core.Bool.{not}
 use Rattle.given.proofs.mark_out.Statement.{statement}
 use Rattle.given.proofs.mark_out.Tie as tie

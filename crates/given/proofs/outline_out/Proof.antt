@@ -5,7 +5,7 @@ use mathlib.Core.Path.{sym, _∙_, subst}
 use lib.Dec.{T}
 use Rattle.laws.proofs.Booleans.{is-true, is-false}
 use borrow.Author.Tests.{eq-eqb, ne-eqb, lt-ltb, le-ltb}
-use Rattle.demand.specs.Marked.{outlineOut}
+use Rattle.call.specs.Marked.{outlineOut}
 use Rattle.given.proofs.outline_out.Statement.{statement}
 use Rattle.given.proofs.outline_out.Tie as tie
 

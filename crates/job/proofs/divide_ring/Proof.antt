@@ -2,7 +2,7 @@
 use Prim.Native.Nat.{_*_}
 use mathlib.Core.Path.{refl, sym, subst}
 use lib.ListN.{length, take}
-use Rattle.table.specs.declared.Values.{Values}
+use Rattle.table.specs.declared.Row.{Row}
 use Rattle.job.specs.Row.{Shown}
 use Rattle.job.specs.Step.{lentBy}
 use Rattle.job.proofs.Rows.{part-length, shown}
@@ -46,7 +46,7 @@ print-row-requires c κs =
     let d = c .before .before .before .before .before .before .before .before .before .divide in
     let p = d .last .1 .1 .1 .1 .1 .1 .0 in
     let k = d .kept .1 .1 .1 .1 .1 .1 .0 in
-    (subst (λ (w : Values). Shown (a .s .used) w p) (sym (c .before .before .before .new .ensures)) (shown (lentBy (a .s) (a .ring .now) (a .nodes .now) (a .rims .now) (take (a .run * 2) (a .chain .now))) _ _ _ p (d .ensures) k), omega arith, s .pre .0 .room)
+    (subst (λ (w : Row). Shown (a .s .used) w p) (sym (c .before .before .before .new .ensures)) (shown (lentBy (a .s) (a .ring .now) (a .nodes .now) (a .rims .now) (take (a .run * 2) (a .chain .now))) _ _ _ p (d .ensures) k), omega arith, s .pre .0 .room)
 
 add-next : tie.Need-add-next
 add-next c = omega (arith, c .before .before .before .before .before .before .before .before .before .before .before .before .before .before .before .before .before .before .before .before .before .before .before .pre .1)

@@ -3,8 +3,8 @@ use borrow.Author.Needs.{needs}
 use Rattle.marked.proofs.divide_marked.Statement.{statement}
 use Rattle.marked.proofs.divide_marked.Tie as tie
 
-new-requires : tie.Need-new-requires
-new-requires c κs = search needs
+on-delivery-requires : tie.Need-on-delivery-requires
+on-delivery-requires c κs = search needs
 
 divide-marked-set-requires : tie.Need-divide-marked-set-requires
 divide-marked-set-requires c κs = search needs
@@ -19,8 +19,8 @@ same-length-3 : tie.Need-same-length-3
 same-length-3 c = search needs
 
 returns : tie.Need-returns
-returns c = let d = c .before .before .before .before .before .before in rw (← d .before .before .before .before .new .ensures) (d .divide-marked-set .ensures)
+returns c = let d = c .before .before .before .before .before .before in rw (← d .before .before .before .before .on-delivery .ensures) (d .divide-marked-set .ensures)
 
 pub divide-marked-spec : {M : Type 1} → statement M
 divide-marked-spec =
-    tie.close (tie.spec new-requires divide-marked-set-requires same-length same-length-2 same-length-3 returns)
+    tie.close (tie.spec on-delivery-requires divide-marked-set-requires same-length same-length-2 same-length-3 returns)

@@ -2,7 +2,7 @@
 use native.Mathlib.Omega.{arith}
 use borrow.Author.Needs.{needs}
 use mathlib.Core.Path.{refl}
-use Rattle.demand.specs.Marked.{LentMarked}
+use Rattle.call.specs.Marked.{LentMarked}
 use Rattle.marked.proofs.Calling.{call-refused, tested, can-divide, call-divided, promised}
 use Rattle.marked.proofs.divide_marked_set.Statement.{statement}
 use Rattle.marked.proofs.divide_marked_set.Tie as tie

@@ -1,7 +1,7 @@
 -- `marked_ring` meets its contract.
 use native.Mathlib.Omega.{arith}
 use borrow.Author.Needs.{needs}
-use Rattle.demand.specs.Marked.{Marking}
+use Rattle.call.specs.Marked.{Marking}
 use Rattle.divider.proofs.Preparing.{asks, read}
 use Rattle.marked.proofs.Preparing.{marks-of, prepares}
 use Rattle.marked.proofs.marked_ring.Statement.{statement}

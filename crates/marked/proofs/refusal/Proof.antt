@@ -11,11 +11,11 @@ use Rattle.nodes.proofs.Flat.{length-in}
 use Rattle.quads.specs.Quads.{noCell}
 use Rattle.table.specs.Refusals.{firstOf}
 use Rattle.sets.specs.Sets.{limitsOut}
-use Rattle.demand.specs.Call.{Lists, countsOut, unitsOut, roomOut}
-use Rattle.demand.specs.Lent.{allCells, odd}
-use Rattle.demand.specs.Marked.{allPoints, marksOut, outlineOut, LentMarked, markedTests}
-use Rattle.demand.proofs.Tests as Tests
-use Rattle.demand.proofs.Tests.{or-no, counts-in}
+use Rattle.call.specs.Call.{Lists, countsOut, unitsOut, roomOut}
+use Rattle.call.specs.Lent.{allCells, odd}
+use Rattle.call.specs.Marked.{allPoints, marksOut, outlineOut, LentMarked, markedTests}
+use Rattle.call.proofs.Tests as Tests
+use Rattle.call.proofs.Tests.{or-no, counts-in}
 use Rattle.divider.proofs.Calling.{cell-places}
 use Rattle.marked.proofs.Refusing.{no-chain, first, second, thirteenth, fourteenth, fifteenth, third, fourth}
 use Rattle.marked.proofs.refusal.Statement.{statement}

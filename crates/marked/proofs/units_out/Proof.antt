@@ -4,7 +4,7 @@ use borrow.Author.Needs.{needs}
 use mathlib.Core.Path.{sym, _∙_}
 use borrow.Author.Tests.{eq-eqb, ne-eqb}
 use Rattle.laws.specs.Bounded.{any}
-use Rattle.demand.specs.Call.{anyOutside, unitsOut}
+use Rattle.call.specs.Call.{anyOutside, unitsOut}
 use Rattle.marked.proofs.units_out.Statement.{statement}
 use Rattle.marked.proofs.units_out.Tie as tie
 

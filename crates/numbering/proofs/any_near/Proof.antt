@@ -5,13 +5,13 @@ use mathlib.Core.Path.{_≡_, refl, ap, _∙_}
 use borrow.Author.Needs.{needs}
 use Rattle.laws.specs.Bounded.{any}
 use Rattle.laws.proofs.Search.{any-next}
-use Rattle.nodes.specs.Flat.{pointAt}
+use Rattle.nodes.specs.Flat.{nodeIn}
 use Rattle.keys.specs.Keys.{near}
 use Rattle.numbering.proofs.any_near.Statement.{statement}
 use Rattle.numbering.proofs.any_near.Tie as tie
 
 abbrev Inv-loop : tie.InvT-loop
-Inv-loop nodes i kx found₀ j₀ found j = (j ≤ 16) × (found ≡ any (λ k. near (kx .scaled) (pointAt nodes (i + k) .x)) j)
+Inv-loop nodes i kx found₀ j₀ found j = (j ≤ 16) × (found ≡ any (λ k. near (kx .scaled) (nodeIn nodes (i + k) .x)) j)
 
 abbrev μ-loop : tie.MeasureT-loop
 μ-loop nodes i kx found₀ j₀ found j = 16 - j

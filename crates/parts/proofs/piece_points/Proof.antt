@@ -9,7 +9,7 @@ use Rattle.laws.proofs.Lists.{all-same, all-set}
 use Rattle.vector.specs.Grid.{origin}
 use Rattle.vector.specs.Size.{OnSheet, AllOnSheet}
 use Rattle.vector.proofs.Sheet.{origin-on}
-use Rattle.parts.specs.Vertices.{pointAt}
+use Rattle.parts.specs.Vertices.{cornerPoint}
 use Rattle.parts.specs.Layout.{end, size}
 use Rattle.parts.proofs.Pieces as Pieces
 use borrow.Author.Needs.{needs}
@@ -19,7 +19,7 @@ use Rattle.parts.proofs.piece_points.Tie as tie
 
 abbrev Inv-loop : tie.InvT-loop
 Inv-loop i ring pieces a n out₀ j₀ out j =
-    (j ≤ n) × (n ≤ 60) × (a + n ≤ 124) × (length out ≡ 60) × (take j out ≡ tab (λ k. pointAt ring (pieces .corners) (a + k)) j) × AllOnSheet out
+    (j ≤ n) × (n ≤ 60) × (a + n ≤ 124) × (length out ≡ 60) × (take j out ≡ tab (λ k. cornerPoint ring (pieces .corners) (a + k)) j) × AllOnSheet out
     × ((k : ℕ) → j ≤ k → getD out k origin ≡ origin)
 
 abbrev μ-loop : tie.MeasureT-loop
@@ -94,8 +94,8 @@ loop-again c =
       search needs,
       search needs,
       simp length-set (o .inv .3),
-      more (λ k. pointAt ring (p .corners) (a + k)) (o .out) (o .j) (pointAt ring (p .corners) (a + o .j)) (omega (arith, o .inv .3)) (o .inv .4) refl,
-      all-set OnSheet origin (o .out) (o .j) (pointAt ring (p .corners) (a + o .j)) (o .inv .5) (s .pre .2 _),
+      more (λ k. cornerPoint ring (p .corners) (a + k)) (o .out) (o .j) (cornerPoint ring (p .corners) (a + o .j)) (omega (arith, o .inv .3)) (o .inv .4) refl,
+      all-set OnSheet origin (o .out) (o .j) (cornerPoint ring (p .corners) (a + o .j)) (o .inv .5) (s .pre .2 _),
       λ k h. getD-set-other (o .out) (o .j) k _ origin (λ e. omega (arith, e)) ∙ o .inv .6 k (omega arith),
     )
 

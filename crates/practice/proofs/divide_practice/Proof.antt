@@ -1,7 +1,7 @@
 -- `divide_practice` keeps its promise: 16 where it is due, and else the divider call with the practice set. Assumes nothing.
 use mathlib.Core.Path.{sym, _∙_}
 use borrow.Author.Needs.{needs}
-use Rattle.demand.specs.Lent.{Lent}
+use Rattle.call.specs.Lent.{Lent}
 use Rattle.practice.proofs.Calling.{practice-refused, practice-divided}
 use Rattle.practice.proofs.divide_practice.Statement.{statement}
 use Rattle.practice.proofs.divide_practice.Tie as tie

@@ -1,7 +1,7 @@
 -- `over_paper` meets its contract. Assumes nothing.
 use borrow.Author.Needs.{needs}
 use borrow.Author.Tests.{lt-ltb, le-ltb}
-use Rattle.demand.specs.Call.{over24}
+use Rattle.call.specs.Call.{over24}
 use Rattle.practice.proofs.over_paper.Statement.{statement}
 use Rattle.practice.proofs.over_paper.Tie as tie
 

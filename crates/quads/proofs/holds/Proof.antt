@@ -2,7 +2,7 @@
 use mathlib.Core.Path.{_≡_, sym, _∙_}
 use Prim.Native.Nat.{ℕ, _<_}
 use mathlib.Core.Bool.{_&&_}
-use Rattle.nodes.specs.Flat.{pointAt, nodesIn}
+use Rattle.nodes.specs.Flat.{nodeIn, nodesIn}
 use Rattle.nodes.proofs.Flat.{node-in}
 use Rattle.quads.specs.Quads as Quads
 use Rattle.quads.specs.Flat.{positive}
@@ -41,7 +41,7 @@ tests c =
     let d = c .before in
     let s = d .before .before .before .before .before in
     let h = s .pre .1 in
-    let g : (k : ℕ) → k < s .args .used → pointAt (s .args .nodes .now) k ≡ _ = λ k h. sym (node-in (s .args .nodes .now) (s .args .used) k h) in
+    let g : (k : ℕ) → k < s .args .used → nodeIn (s .args .nodes .now) k ≡ _ = λ k h. sym (node-in (s .args .nodes .now) (s .args .used) k h) in
     cell.holds-is _ (s .args .c) (d .before .before .before .node-at .ensures ∙ g _ (h .a)) (d .before .before .node-at2 .ensures ∙ g _ (h .b)) (d .before .node-at3 .ensures ∙ g _ (h .c)) (d .node-at4 .ensures ∙ g _ (h .d))
 
 returns : tie.Need-returns

@@ -9,7 +9,7 @@ use lib.Ieee.{binary64, ofBits, ofInt, round}
 use Rattle.laws.specs.Double.{nat, _/f_}
 use Rattle.laws.proofs.Signed.{cast-asks}
 use Rattle.vector.specs.declared.Point.{Point}
-use Rattle.nodes.specs.Flat.{pointAt}
+use Rattle.nodes.specs.Flat.{nodeIn}
 use Rattle.quads.specs.Quads as Quads
 use Rattle.quads.specs.Quads.{total}
 use Rattle.quads.proofs.Turns.{total-next}
@@ -19,7 +19,7 @@ use Rattle.quads.proofs.mean.Statement.{statement}
 use Rattle.quads.proofs.mean.Tie as tie
 
 abbrev Inv-loop : tie.InvT-loop
-Inv-loop nodes n vs x₀ y₀ i₀ x y i = (i ≤ n) × (x ≡ total (λ (k : ℕ). pointAt nodes (getD vs k 0) .x) i) × (y ≡ total (λ (k : ℕ). pointAt nodes (getD vs k 0) .y) i)
+Inv-loop nodes n vs x₀ y₀ i₀ x y i = (i ≤ n) × (x ≡ total (λ (k : ℕ). nodeIn nodes (getD vs k 0) .x) i) × (y ≡ total (λ (k : ℕ). nodeIn nodes (getD vs k 0) .y) i)
 
 abbrev μ-loop : tie.MeasureT-loop
 μ-loop nodes n vs x₀ y₀ i₀ x y i = n - i
@@ -59,8 +59,8 @@ returns c =
     let l = c .before .before .loop in
     let e : l .i ≡ s .args .n = omega arith in
     λ j. record {
-      x = (l .inv .1 ∙ ap (total (λ (k : ℕ). pointAt (s .args .nodes .now) (getD (s .args .t2) k 0) .x)) e) j /f nat (s .args .n);
-      y = (l .inv .2 ∙ ap (total (λ (k : ℕ). pointAt (s .args .nodes .now) (getD (s .args .t2) k 0) .y)) e) j /f nat (s .args .n);
+      x = (l .inv .1 ∙ ap (total (λ (k : ℕ). nodeIn (s .args .nodes .now) (getD (s .args .t2) k 0) .x)) e) j /f nat (s .args .n);
+      y = (l .inv .2 ∙ ap (total (λ (k : ℕ). nodeIn (s .args .nodes .now) (getD (s .args .t2) k 0) .y)) e) j /f nat (s .args .n);
     }
 
 pub mean-spec : {M : Type 1} → statement M

@@ -20,8 +20,8 @@ sub-requires c κs = search needs
 dot-requires : tie.Need-dot-requires
 dot-requires c κs = search needs
 
-square-mm-requires : tie.Need-square-mm-requires
-square-mm-requires c κs = small64 (c .dot .result) _ (lit< tt) (omega (arith, c .dot .ensures .1))
+in-square-mm-requires : tie.Need-in-square-mm-requires
+in-square-mm-requires c κs = small64 (c .dot .result) _ (lit< tt) (omega (arith, c .dot .ensures .1))
 
 root-at-most-requires : tie.Need-root-at-most-requires
 root-at-most-requires c κs = search needs
@@ -32,7 +32,7 @@ returns c =
     let d = c .before .before .dot in
     let e = back (d .result) (omega (arith, d .ensures .1)) ∙ d .ensures .0
     ∙ ap (λ (v : GridPoint). Grid.dot v v) (c .before .before .before .sub .ensures .0) in
-    c .root-at-most .ensures ∙ (λ i. rootOf ((c .before .square-mm .ensures ∙ ap mm² e) i) ≤f c .before .before .before .before .args .t)
+    c .root-at-most .ensures ∙ (λ i. rootOf ((c .before .in-square-mm .ensures ∙ ap mm² e) i) ≤f c .before .before .before .before .args .t)
 
 pub grid-dist-at-most-spec : {M : Type 1} → statement M
-grid-dist-at-most-spec = tie.close (tie.spec sub-requires dot-requires square-mm-requires root-at-most-requires returns)
+grid-dist-at-most-spec = tie.close (tie.spec sub-requires dot-requires in-square-mm-requires root-at-most-requires returns)

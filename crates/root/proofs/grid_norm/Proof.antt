@@ -13,8 +13,8 @@ use Rattle.root.proofs.grid_norm.Tie as tie
 dot-requires : tie.Need-dot-requires
 dot-requires c κs = search needs
 
-square-mm-requires : tie.Need-square-mm-requires
-square-mm-requires c κs = small64 (c .dot .result) _ (lit< tt) (omega (arith, c .dot .ensures .1))
+in-square-mm-requires : tie.Need-in-square-mm-requires
+in-square-mm-requires c κs = small64 (c .dot .result) _ (lit< tt) (omega (arith, c .dot .ensures .1))
 
 root-requires : tie.Need-root-requires
 root-requires c κs = search needs
@@ -23,7 +23,7 @@ returns : tie.Need-returns
 unfolding Norm.gridNorm
 returns c =
     let d = c .before .before .dot in
-    c .root .ensures ∙ ap rootOf (c .before .square-mm .ensures ∙ ap mm² (back (d .result) (omega (arith, d .ensures .1)) ∙ d .ensures .0))
+    c .root .ensures ∙ ap rootOf (c .before .in-square-mm .ensures ∙ ap mm² (back (d .result) (omega (arith, d .ensures .1)) ∙ d .ensures .0))
 
 pub grid-norm-spec : {M : Type 1} → statement M
-grid-norm-spec = tie.close (tie.spec dot-requires square-mm-requires root-requires returns)
+grid-norm-spec = tie.close (tie.spec dot-requires in-square-mm-requires root-requires returns)

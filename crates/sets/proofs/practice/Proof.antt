@@ -4,11 +4,11 @@ use Rattle.sets.specs.Sets.{withCuts}
 use Rattle.sets.proofs.practice.Statement.{statement}
 use Rattle.sets.proofs.practice.Tie as tie
 
-new-requires : tie.Need-new-requires
-new-requires c κs = search needs
+on-delivery-requires : tie.Need-on-delivery-requires
+on-delivery-requires c κs = search needs
 
 returns : tie.Need-returns
-returns c = ap (withCuts 12) (c .new .ensures)
+returns c = ap (withCuts 12) (c .on-delivery .ensures)
 
 pub practice-spec : {M : Type 1} → statement M
-practice-spec = tie.close (tie.spec new-requires returns)
+practice-spec = tie.close (tie.spec on-delivery-requires returns)

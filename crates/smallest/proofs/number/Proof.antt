@@ -1,6 +1,6 @@
 -- `number` meets its contract.
 use lib.Ieee.{ofBits}
-use Rattle.table.specs.declared.Values.{Values}
+use Rattle.table.specs.declared.Row.{Row}
 use mathlib.Core.Path.{ap, _∙_}
 use Rattle.smallest.specs.Choice.{numberOf}
 use borrow.Author.Needs.{needs}
@@ -24,7 +24,7 @@ new-requires c κs = search needs
 
 returns : tie.Need-returns
 unfolding numberOf ofBits
-returns c = ap (λ (v : Values). v .code) (c .new .ensures ∙ c .before .before .before .before .divide .ensures .leaves .values)
+returns c = ap (λ (v : Row). v .code) (c .new .ensures ∙ c .before .before .before .before .divide .ensures .leaves .values)
 
 pub number-spec : {M : Type 1} → statement M
 number-spec =

@@ -9,14 +9,14 @@ use borrow.Author.Needs.{needs}
 use Rattle.marks.specs.declared.EdgeMark.{EdgeMark}
 use Rattle.split.specs.Split as Split
 use Rattle.split.specs.Split.{Stack}
-use Rattle.split.specs.State.{Follows, Within}
+use Rattle.split.specs.State.{Follows, ProgressInvariant}
 use Rattle.split.proofs.Popped.{follows-start, follows-next, follows-empty}
 use Rattle.split.proofs.pops.Statement.{statement}
 use Rattle.split.proofs.pops.Tie as tie
 
 abbrev Inv-loop : tie.InvT-loop
 Inv-loop limits ring s₀ most i₀ s i =
-    (i ≤ most) × (most ≡ 2 * limits .cuts + 1) × Within s
+    (i ≤ most) × (most ≡ 2 * limits .cuts + 1) × ProgressInvariant s
     × ((es : List EdgeMark) → length es ≡ 60 → (t : Stack) → Follows ring es s₀ t → Follows ring es s (Split.pops limits i t))
 
 abbrev μ-loop : tie.MeasureT-loop

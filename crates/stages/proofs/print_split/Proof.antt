@@ -5,12 +5,12 @@ use borrow.Author.Needs.{needs}
 use Rattle.stages.proofs.print_split.Statement.{statement}
 use Rattle.stages.proofs.print_split.Tie as tie
 
-new-requires : tie.Need-new-requires
-new-requires c κs = search needs
+on-delivery-requires : tie.Need-on-delivery-requires
+on-delivery-requires c κs = search needs
 
 split-bad-vertices-requires : tie.Need-split-bad-vertices-requires
 split-bad-vertices-requires c κs =
-    let e : c .new .result .cuts ≡ 32 = ap (λ l. l .cuts) (c .new .ensures) in
+    let e : c .on-delivery .result .cuts ≡ 32 = ap (λ l. l .cuts) (c .on-delivery .ensures) in
     (search needs, search needs, search needs, omega arith)
 
 slice-aggregate-number : tie.Need-slice-aggregate-number
@@ -38,7 +38,7 @@ pub print-split-spec : {M : Type 1} → statement M
 print-split-spec =
     tie.close
     (tie.spec
-    new-requires
+    on-delivery-requires
     split-bad-vertices-requires
     slice-aggregate-number
     number-requires

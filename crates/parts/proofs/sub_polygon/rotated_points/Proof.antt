@@ -8,14 +8,14 @@ use Rattle.vector.proofs.Sheet.{origin-on}
 use Rattle.laws.specs.Table.{tab}
 use Rattle.laws.proofs.Table.{more, tab-none, start-mod, step-mod}
 use Rattle.laws.proofs.Lists.{all-same, all-set}
-use Rattle.parts.specs.Vertices.{pointAt, Below}
+use Rattle.parts.specs.Vertices.{cornerPoint, Below}
 use borrow.Author.Needs.{needs}
 use native.Mathlib.Omega.{arith}
 use Rattle.parts.proofs.sub_polygon.rotated_points.Statement.{statement}
 use Rattle.parts.proofs.sub_polygon.rotated_points.Tie as tie
 
 abbrev Inv-loop : tie.InvT-loop
-Inv-loop n v ring vs out₀ j₀ i₀ out j i = (i ≤ n) × (n ≤ 60) × (length out ≡ 60) × (j < n) × (j ≡ (v + i) % n) × (take i out ≡ tab (λ i. pointAt ring vs ((v + i) % n)) i) × AllOnSheet out × Below vs × AllOnSheet ring
+Inv-loop n v ring vs out₀ j₀ i₀ out j i = (i ≤ n) × (n ≤ 60) × (length out ≡ 60) × (j < n) × (j ≡ (v + i) % n) × (take i out ≡ tab (λ i. cornerPoint ring vs ((v + i) % n)) i) × AllOnSheet out × Below vs × AllOnSheet ring
 
 abbrev μ-loop : tie.MeasureT-loop
 μ-loop n v ring vs out₀ j₀ i₀ out j i = n - i
@@ -64,8 +64,8 @@ loop-again c =
       simp length-set (l .inv .2),
       c .next .ensures .1,
       step-mod (s .args .v) (l .i) (s .args .n) (l .j) (c .next .result) (l .inv .4) (c .next .ensures .0),
-      more (λ i. pointAt ring vs ((s .args .v + i) % s .args .n)) (l .out) (l .i) (pointAt ring vs (l .j)) (omega (arith, l .inv .2)) (l .inv .5) (ap (pointAt ring vs) (l .inv .4)),
-      all-set OnSheet origin (l .out) (l .i) (pointAt ring vs (l .j)) (l .inv .6) (l .inv .8 _),
+      more (λ i. cornerPoint ring vs ((s .args .v + i) % s .args .n)) (l .out) (l .i) (cornerPoint ring vs (l .j)) (omega (arith, l .inv .2)) (l .inv .5) (ap (cornerPoint ring vs) (l .inv .4)),
+      all-set OnSheet origin (l .out) (l .i) (cornerPoint ring vs (l .j)) (l .inv .6) (l .inv .8 _),
       l .inv .7,
       l .inv .8,
     )
