@@ -41,7 +41,7 @@ pub fn read(text: &str) -> Vec<Given> {
     lists
 }
 
-fn set(words: &[&str]) -> Set {
+pub(crate) fn set(words: &[&str]) -> Set {
     Set {
         corner: double(words[0]),
         least: double(words[1]),
@@ -105,10 +105,10 @@ fn marked(entry: Entry, words: &[&str]) -> Call {
     }
 }
 
-fn number(word: &str) -> usize {
+pub(crate) fn number(word: &str) -> usize {
     word.parse().expect("a whole number")
 }
 
-fn double(word: &str) -> f64 {
+pub(crate) fn double(word: &str) -> f64 {
     f64::from_bits(u64::from_str_radix(word, 16).expect("the bits of a double"))
 }

@@ -13,8 +13,9 @@
 
 use crate::blocks::Jobs;
 use crate::call::{Answer, Cell, NodeList, NO_MARK, UNTOUCHED};
+use crate::calls::{double, number, set};
 use crate::forms::{self, answer_line, line, run_with, Run, CELL_PLACES, NODE_PLACES};
-use crate::job::{Entry, Job, Marking, Set};
+use crate::job::{Entry, Job, Marking};
 use crate::meeting;
 use crate::smallest::{Answer as Least, Case};
 
@@ -126,27 +127,9 @@ fn called(name: &str, values: &[&str]) -> Called {
     call
 }
 
-fn set(words: &[&str]) -> Set {
-    Set {
-        corner: double(words[0]),
-        least: double(words[1]),
-        greatest: double(words[2]),
-        cuts: number(words[3]) as u32,
-        share: double(words[4]),
-    }
-}
-
 fn whole(words: &[&str]) -> Vec<i32> {
     let parsed = words.iter().map(|w| w.parse().expect("a coordinate"));
     parsed.collect()
-}
-
-fn number(word: &str) -> usize {
-    word.parse().expect("a whole number")
-}
-
-fn double(word: &str) -> f64 {
-    f64::from_bits(u64::from_str_radix(word, 16).expect("the bits of a double"))
 }
 
 impl Called {
