@@ -4,7 +4,7 @@ use mathlib.Core.Path.{_≡_, refl}
 use mathlib.Core.List.{List, [], _∷_}
 use lib.IntN.{ℤ, pos, negsuc}
 use Rattle.laws.specs.Bounded.{any, first}
-use Rattle.report.specs.Text.{bytes}
+use Rattle.text.specs.Text.{bytes}
 use Rattle.numeral.specs.Numeral.{scaled, more, scanTo, scanned, whole, signs, read, units, held, signed}
 use Rattle.lines.specs.Line.{blank, start, end, same, sizeGood, ringLine, chainLine, pointOf, pointLine, words, heard}
 use Rattle.drawing.specs.Drawing.{fails, stays, closes, begins, chainOf, chains, cornerOf, runOf, joined, points, takes}

@@ -16,7 +16,7 @@ use Rattle.corner.specs.Limits.{delivered}
 use Rattle.call.specs.Lent.{divideLent}
 use Rattle.table.specs.declared.Row.{Row}
 use Rattle.divider.specs.Promise.{Promise}
-use Rattle.report.specs.Text.{put}
+use Rattle.text.specs.Text.{put}
 use Rattle.report.specs.Report.{mostText, Printed, holds, refusedBlock}
 use Rattle.job.specs.declared.State.{State}
 use Rattle.job.specs.declared.Stepped.{Stepped}

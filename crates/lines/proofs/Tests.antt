@@ -7,7 +7,7 @@ use native.Mathlib.Omega.{arith}
 use lib.ListN.{length, getD, take, drop}
 use lib.Dec.{ltb, leb, eqb}
 use borrow.Author.Tests.{leb-true, lt-ltb, le-ltb, eq-eqb, ne-eqb}
-use Rattle.report.specs.Text.{bytes}
+use Rattle.text.specs.Text.{bytes}
 use Rattle.numeral.specs.Numeral.{read}
 use Rattle.lines.specs.declared.Heard.{Heard}
 use Rattle.laws.specs.Bounded.{any, first}

@@ -6,7 +6,7 @@ use mathlib.Core.List.{List}
 use lib.ListN.{length, getD, take, drop}
 use lib.Dec.{ltb, leb, eqb}
 use Rattle.laws.specs.Bounded.{any, first}
-use Rattle.report.specs.Text.{bytes}
+use Rattle.text.specs.Text.{bytes}
 use Rattle.numeral.specs.declared.Said.{Said}
 use Rattle.numeral.specs.Numeral.{read, held}
 use Rattle.lines.specs.declared.Heard.{Heard}

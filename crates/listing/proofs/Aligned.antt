@@ -5,8 +5,8 @@ use mathlib.Core.List.{List, [], _∷_, _++_}
 use native.Mathlib.Omega.{arith}
 use lib.ListN.{length, getD}
 use lib.Ieee.{Float, nan}
-use Rattle.report.specs.Text.{decimal, Written}
-use Rattle.report.proofs.Writing.{shorter, join, room}
+use Rattle.text.specs.Text.{decimal, Written}
+use Rattle.text.proofs.Writing.{shorter, join, room}
 use Rattle.listing.specs.Sheet.{shown, right, line}
 use Rattle.listing.proofs.Texts.{spaces, right-long, number-most, shown-most, line-long}
 

@@ -15,7 +15,7 @@ use lib.Ieee.{Float, nan, fin, up, down}
 use lib.Ieee.Fits.{down-pos}
 use lib.Ieee.Scale.{finite}
 use Rattle.laws.specs.Within.{Within}
-use Rattle.report.specs.Text.{decimal, put}
+use Rattle.text.specs.Text.{decimal, put}
 use Rattle.nodes.specs.Flat.{Usable}
 use Rattle.listing.specs.Rounded.{tenThousandths, minus, negative}
 use Rattle.listing.specs.Nearest.{NearestShown}

@@ -10,8 +10,8 @@ use lib.Dec.{eqb}
 use lib.ListN.{length, length-replicate}
 use lib.Seq.{take-at, drop-at}
 use borrow.Author.Tests.{le-leb, ne-eqb}
-use Rattle.report.specs.Text.{decimal}
-use Rattle.report.proofs.Decimal.{one-digit, more-digits}
+use Rattle.text.specs.Text.{decimal}
+use Rattle.text.proofs.Decimal.{one-digit, more-digits}
 use Rattle.listing.specs.Read.{isDigit, readFrom, has, RightAligned}
 use Rattle.listing.specs.Sheet.{decimals, right}
 use Rattle.listing.proofs.Texts.{spaces, sign, point, digit, decimals-is}

@@ -14,7 +14,7 @@ use Rattle.laws.specs.Within.{Within}
 use Rattle.laws.proofs.Between.{tested-1024}
 use Rattle.laws.proofs.Booleans.{neither, not-not, is-true}
 use Rattle.laws.proofs.Search.{any-none}
-use Rattle.report.specs.Text.{Written}
+use Rattle.text.specs.Text.{Written}
 use Rattle.nodes.specs.Nodes.{mostPlaces}
 use Rattle.nodes.specs.Flat.{Usable, held, allHeld}
 use Rattle.nodes.proofs.Ranged.{held-is}

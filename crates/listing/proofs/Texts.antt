@@ -7,8 +7,8 @@ use native.Mathlib.Numerals.{add-one}
 use native.Mathlib.Omega.{arith}
 use lib.ListN.{length, getD, replicate, length-append, length-replicate, replicate-append-replicate}
 use lib.Ieee.{Float, nan}
-use Rattle.report.specs.Text.{bytes, decimal, marks, part, filledTo, filled}
-use Rattle.report.proofs.Decimal.{one-digit, more-digits, at-most-20, at-most}
+use Rattle.text.specs.Text.{bytes, decimal, marks, part, filledTo, filled}
+use Rattle.text.proofs.Decimal.{one-digit, more-digits, at-most-20, at-most}
 use Rattle.listing.specs.Rounded.{tenThousandths, minus}
 use Rattle.listing.specs.Sheet.{decimals, shown, right, line, lines}
 

@@ -5,7 +5,7 @@ use mathlib.Core.Bool.{true, false}
 use mathlib.Core.List.{[], _∷_}
 use lib.IntN.{pos, negsuc}
 use lib.Ieee.{fin}
-use Rattle.report.specs.Text.{bytes, digits, decimal, marks, part, filledTo, filled}
+use Rattle.text.specs.Text.{bytes, digits, decimal, marks, part, filledTo, filled}
 use Rattle.listing.specs.Rounded.{halfEven, tenThousandths, minus}
 use Rattle.listing.specs.Sheet.{decimals, shown, right, line, lines}
 

@@ -7,7 +7,7 @@ use lib.Dec.{ltb, eqb}
 use lib.Ieee.{Float, nan}
 use Rattle.nodes.specs.Nodes.{mostPlaces}
 use Rattle.nodes.specs.Flat.{allHeld}
-use Rattle.report.specs.Text.{bytes, decimal, filled, put}
+use Rattle.text.specs.Text.{bytes, decimal, filled, put}
 use Rattle.listing.specs.Rounded.{tenThousandths, minus}
 
 -- "with four decimals": n ten-thousandths, m with a minus

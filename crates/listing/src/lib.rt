@@ -10,7 +10,7 @@ ghost use lib.ListN.{length, getD, replicate};
 ghost use lib.Ieee.{nan};
 ghost use Rattle.laws.specs.Within.{Within};
 ghost use Rattle.nodes.specs.Flat.{Usable};
-ghost use Rattle.report.specs.Text.{decimal, Written};
+ghost use Rattle.text.specs.Text.{decimal, Written};
 ghost use Rattle.listing.specs.Rounded as Rounded;
 ghost use Rattle.listing.specs.Sheet as Sheet;
 use nodes::MOST_PLACES;
@@ -77,7 +77,7 @@ fn put_spaces(out: &mut [u8], at: usize, n: usize) -> usize
 {
     let mut next = at;
     for i in 0..n {
-        next = report::put_byte(out, next, b' ');
+        next = text::put_byte(out, next, b' ');
     }
     next
 }
@@ -88,7 +88,7 @@ fn put_number(out: &mut [u8], at: usize, i: u64) -> usize
     ensures { λ r. ⌜ Written (now (out .entry)) at (Sheet.right 8 (decimal i)) r (now (out .exit)) ⌝ }
 {
     let start = put_spaces(out, at, 8 - width(i));
-    report::put_decimal(out, start, i)
+    text::put_decimal(out, start, i)
 }
 
 // n ten-thousandths with four decimals.
@@ -98,9 +98,9 @@ fn put_decimals(out: &mut [u8], at: usize, m: bool, n: u64) -> usize
 {
     let numbers = [n / 10000, n / 1000 % 10, n / 100 % 10, n / 10 % 10, n % 10];
     if m {
-        return report::put_filled(out, at, b"-#.####", &numbers);
+        return text::put_filled(out, at, b"-#.####", &numbers);
     }
-    report::put_filled(out, at, b"#.####", &numbers)
+    text::put_filled(out, at, b"#.####", &numbers)
 }
 
 // How many columns that takes.
@@ -134,7 +134,7 @@ pub fn put_line(out: &mut [u8], at: usize, nodes: &[f64], i: usize) -> usize
     let x = put_number(out, at, i as u64);
     let y = put_coordinate(out, x, nodes[i * 2]);
     let end = put_coordinate(out, y, nodes[i * 2 + 1]);
-    report::put_byte(out, end, b'\n')
+    text::put_byte(out, end, b'\n')
 }
 
 fn put_lines(out: &mut [u8], nodes: &[f64], count: usize) -> usize

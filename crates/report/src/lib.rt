@@ -1,15 +1,13 @@
 // Report: the printed lines of an answer, as bytes in a list that the caller lends; the last step in the way of a ring.
 //
-// Each function that writes takes the place to write at and returns the place after it. The three that print write from
-// the front and return the count of bytes: a list of 6,400 bytes holds every text.
+// The lines are forms of crate text. The three functions that print write from the front and return the count of bytes: a
+// list of 6,400 bytes holds every text.
 
 ghost use mathlib.Core.Path.{_≡_};
-ghost use mathlib.Core.Bool.{_&&_, cond};
-ghost use mathlib.Core.List.{[], _∷_};
+ghost use mathlib.Core.Bool.{_&&_};
 ghost use Prim.Native.Nat.{_+_, _*_, _/_, _≤_, _<_};
-ghost use lib.ListN.{length, getD};
-ghost use lib.Dec.{eqb};
-ghost use Rattle.report.specs.Text.{decimal, part, filled, Written};
+ghost use lib.ListN.{length};
+ghost use Rattle.text.specs.Text.{Written};
 ghost use Rattle.report.specs.Report as Report;
 ghost use Rattle.report.specs.Report.{Printed, holds, fewCells};
 
@@ -28,78 +26,6 @@ pub struct Divided {
     pub added: u64,
 }
 
-pub fn put_byte(out: &mut [u8], at: usize, b: u8) -> usize
-    requires { ⌜ at < length (now out) ⌝ }
-    ensures { λ r. ⌜ Written (now (out .entry)) at (b ∷ []) r (now (out .exit)) ⌝ }
-{
-    out[at] = b;
-    at + 1
-}
-
-fn digit(n: u64) -> u8
-    requires { ⌜ n < 10 ⌝ }
-    ensures { λ r. ⌜ r ≡ 48 + n ⌝ }
-{
-    48 + n as u8
-}
-
-// The digits before the last, and the last.
-pub fn put_decimal(out: &mut [u8], at: usize, n: u64) -> usize
-    requires { ⌜ at + length (decimal n) ≤ length (now out) ⌝ }
-    ensures { λ r. ⌜ Written (now (out .entry)) at (decimal n) r (now (out .exit)) ⌝ }
-{
-    if n < 10 {
-        return put_byte(out, at, digit(n));
-    }
-    let next = put_decimal(out, at, n / 10);
-    put_byte(out, next, digit(n % 10))
-}
-
-// What one byte of a form stands for: a '#' for the number n, any other byte for itself.
-fn put_part(out: &mut [u8], at: usize, b: u8, n: u64) -> usize
-    requires { ⌜ at + length (part b n) ≤ length (now out) ⌝ }
-    ensures { λ r. ⌜ Written (now (out .entry)) at (part b n) r (now (out .exit)) ⌝ }
-{
-    if b == b'#' {
-        return put_decimal(out, at, n);
-    }
-    put_byte(out, at, b)
-}
-
-// How many numbers a byte of a form takes.
-fn taken(b: u8) -> usize
-    ensures { λ r. ⌜ (r ≡ cond (eqb b 35) 1 0) × (r ≤ 1) ⌝ }
-{
-    if b == b'#' {
-        return 1;
-    }
-    0
-}
-
-fn number(numbers: &[u64], k: usize) -> u64
-    ensures { λ r. ⌜ r ≡ getD (now (numbers .entry)) k 0 ⌝ }
-{
-    if k < numbers.len() {
-        return numbers[k];
-    }
-    0
-}
-
-// The form with the numbers in place of its '#', in order.
-pub fn put_filled(out: &mut [u8], at: usize, form: &[u8], numbers: &[u64]) -> usize
-    requires { ⌜ at + length (filled (now form) (now numbers)) ≤ length (now out) ⌝ }
-    ensures { λ r. ⌜ Written (now (out .entry)) at (filled (now (form .entry)) (now (numbers .entry))) r (now (out .exit)) ⌝ }
-{
-    let mut next = at;
-    let mut k = 0;
-    for i in 0..form.len() {
-        let b = form[i];
-        next = put_part(out, next, b, number(numbers, k));
-        k += taken(b);
-    }
-    next
-}
-
 // To the nearest, halves up; in two steps, so that no area is too large for 64 bits.
 fn hundredths(area: u64) -> u64
     ensures { λ r. ⌜ r ≡ Report.hundredths area ⌝ }
@@ -112,7 +38,7 @@ fn put_ring(out: &mut [u8], at: usize, a: Divided) -> usize
     ensures { λ r. ⌜ Written (now (out .entry)) at (Report.ringLine a) r (now (out .exit)) ⌝ }
 {
     let numbers = [a.ring, a.corners, a.cuts, a.turned, hundredths(a.area)];
-    put_filled(
+    text::put_filled(
         out,
         at,
         b"ring # corners # cuts # turned # area #\n",
@@ -125,7 +51,7 @@ fn put_nodes(out: &mut [u8], at: usize, nodes: u64, added: u64) -> usize
     ensures { λ r. ⌜ Written (now (out .entry)) at (Report.nodesLine nodes added) r (now (out .exit)) ⌝ }
 {
     let numbers = [nodes, added];
-    put_filled(out, at, b"nodes # new #\n", &numbers)
+    text::put_filled(out, at, b"nodes # new #\n", &numbers)
 }
 
 fn wide(x: u32) -> u64
@@ -145,7 +71,7 @@ fn put_quad(out: &mut [u8], at: usize, cells: &[u32], i: usize) -> usize
         wide(cells[j + 2]),
         wide(cells[j + 3]),
     ];
-    put_filled(out, at, b"quad # # # #\n", &numbers)
+    text::put_filled(out, at, b"quad # # # #\n", &numbers)
 }
 
 fn put_quads(out: &mut [u8], at: usize, cells: &[u32]) -> usize
@@ -183,7 +109,7 @@ pub fn print_refused_ring(out: &mut [u8], ring: u64, code: u64, corners: u64, k:
         return 0;
     }
     let numbers = [ring, code, corners, k];
-    put_filled(out, 0, b"ring # refused # # #\n", &numbers)
+    text::put_filled(out, 0, b"ring # refused # # #\n", &numbers)
 }
 
 pub fn print_refused_block(out: &mut [u8], block: u64, code: u64) -> usize
@@ -193,5 +119,5 @@ pub fn print_refused_block(out: &mut [u8], block: u64, code: u64) -> usize
         return 0;
     }
     let numbers = [block, code];
-    put_filled(out, 0, b"block # refused #\n", &numbers)
+    text::put_filled(out, 0, b"block # refused #\n", &numbers)
 }

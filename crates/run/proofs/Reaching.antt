@@ -13,7 +13,7 @@ use lib.IntN.{ℤ}
 use lib.Ieee.{Float, binary64, ofBits}
 use Rattle.laws.specs.Double.{naught}
 use Rattle.report.specs.Report.{mostText}
-use Rattle.report.specs.Text.{put}
+use Rattle.text.specs.Text.{put}
 use Rattle.job.specs.declared.State.{State}
 use Rattle.job.specs.declared.Stepped.{Stepped}
 use Rattle.job.specs.Step.{Step, stepOf, Steps, CanStep}

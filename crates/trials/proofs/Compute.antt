@@ -33,7 +33,7 @@ use Rattle.quads.specs.Flat as QuadsFlat
 use Rattle.nodes.specs.Flat as NodesFlat
 use Rattle.blocks.specs.Fields as Fields
 use Rattle.blocks.specs.Blocks as Blocks
-use Rattle.report.specs.Text as Text
+use Rattle.text.specs.Text as Text
 use Rattle.report.specs.Report as Report
 use Rattle.job.specs.Row as JobRow
 use Rattle.job.specs.Step as Step

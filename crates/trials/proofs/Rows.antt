@@ -16,7 +16,7 @@ use Rattle.quads.specs.declared.Cell.{Cell}
 use Rattle.table.specs.Refusals.{turnsAway}
 use Rattle.call.specs.Call.{Call, listsOf, entry}
 use Rattle.call.specs.Divide.{CallAnswer, refused, startOf, divide}
-use Rattle.report.specs.Text.{bytes}
+use Rattle.text.specs.Text.{bytes}
 use Rattle.job.specs.Run.{printed}
 use Rattle.trials.proofs.Compute.{computing}
 use Rattle.trials.specs.Trials.{values, bits, newCells, Trial, answers, gives, node, refuses, enters, corner, root, leaves, rims, prints, Holds}

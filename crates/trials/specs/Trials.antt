@@ -18,7 +18,7 @@ use Rattle.quads.specs.declared.Cell.{Cell}
 use Rattle.quads.specs.Quads.{noCell}
 use Rattle.call.specs.Call.{Call, listsOf, entry}
 use Rattle.call.specs.Divide.{CallAnswer, refused, divide}
-use Rattle.report.specs.Text.{bytes}
+use Rattle.text.specs.Text.{bytes}
 use Rattle.job.specs.Run.{printed}
 
 -- ---- the words of a row

@@ -1,6 +1,6 @@
 -- `hear_words` meets its contract. Laws in proofs/Tests.
 use Rattle.lines.proofs.Tests.{ring-words, chain-words, point-words}
-use Rattle.report.specs.Text.{bytes}
+use Rattle.text.specs.Text.{bytes}
 use mathlib.Core.Path.{sym, _∙_}
 use native.Mathlib.Omega.{arith}
 use borrow.Author.Needs.{needs}

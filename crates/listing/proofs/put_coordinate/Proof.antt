@@ -5,7 +5,7 @@ use mathlib.Core.Bool.{Bool}
 use mathlib.Core.List.{List}
 use lib.ListN.{length}
 use lib.Ieee.{Float}
-use Rattle.report.specs.Text.{Written}
+use Rattle.text.specs.Text.{Written}
 use Rattle.listing.specs.Rounded.{tenThousandths, minus}
 use Rattle.listing.specs.Sheet.{decimals, shown, right}
 use Rattle.listing.proofs.Texts.{decimals-most}

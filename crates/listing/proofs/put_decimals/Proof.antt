@@ -3,7 +3,7 @@ use Prim.Native.Nat.{_+_, _≤_}
 use mathlib.Core.Path.{sym, subst}
 use mathlib.Core.Bool.{Bool}
 use lib.ListN.{length}
-use Rattle.report.specs.Text.{bytes, Written}
+use Rattle.text.specs.Text.{bytes, Written}
 use Rattle.listing.specs.Sheet.{decimals}
 use borrow.Author.Needs.{needs}
 use Rattle.listing.proofs.put_decimals.Statement.{statement}

@@ -2,8 +2,8 @@
 use Prim.Native.Nat.{ℕ, _+_, _-_, _≤_, _<_}
 use mathlib.Core.Path.{_≡_, refl, _∙_, subst}
 use lib.ListN.{length}
-use Rattle.report.specs.Text.{Written}
-use Rattle.report.proofs.Writing.{nothing, turn-room, turn-written}
+use Rattle.text.specs.Text.{Written}
+use Rattle.text.proofs.Writing.{nothing, turn-room, turn-written}
 use Rattle.nodes.specs.Flat.{Usable}
 use Rattle.listing.specs.Sheet.{line, lines}
 use Rattle.listing.proofs.Texts.{line-long, lines-long}

@@ -1,6 +1,6 @@
 -- `put_number`: spaces up to the number's length, then the number, fill 8 columns.
 use mathlib.Core.Path.{_∙_}
-use Rattle.report.specs.Text.{decimal}
+use Rattle.text.specs.Text.{decimal}
 use Rattle.listing.proofs.Texts.{number-most}
 use Rattle.listing.proofs.Aligned.{right-room, right-written}
 use native.Mathlib.Omega.{arith}

@@ -3,8 +3,8 @@ use Prim.Native.Nat.{ℕ, _+_, _-_, _≤_}
 use mathlib.Core.Path.{_≡_, _∙_, subst}
 use mathlib.Core.List.{List, [], _∷_}
 use lib.ListN.{length, length-replicate}
-use Rattle.report.specs.Text.{Written}
-use Rattle.report.proofs.Writing.{nothing, turn-room, turn-written}
+use Rattle.text.specs.Text.{Written}
+use Rattle.text.proofs.Writing.{nothing, turn-room, turn-written}
 use Rattle.listing.proofs.Texts.{spaces, more-spaces}
 use borrow.Author.Needs.{needs}
 use native.Mathlib.Omega.{arith}

@@ -2,8 +2,8 @@
 use Prim.Native.Nat.{_+_, _^_, _<_}
 use mathlib.Core.Path.{_≡_}
 use lib.ListN.{length}
-use Rattle.report.specs.Text.{decimal}
-use Rattle.report.proofs.Decimal.{at-most-20}
+use Rattle.text.specs.Text.{decimal}
+use Rattle.text.proofs.Decimal.{at-most-20}
 use Rattle.listing.proofs.Texts.{one-long, tenth-long}
 use borrow.Author.Needs.{needs}
 use native.Mathlib.Omega.{arith}

@@ -1,0 +1,2 @@
+-- Text as bytes, numbers in decimal, forms, and what writing leaves.
+pub mod Text
