@@ -10,8 +10,7 @@ use native.Mathlib.Omega.{arith}
 use native.Mathlib.Decide.{decLe}
 use native.Mathlib.Numerals.{add-one}
 use lib.ListN.{length, drop, take, length-drop, length-take}
-use Rattle.job.specs.Step.{Step}
-use Rattle.job.specs.Run.{Bytes, onward, ran, blockAt, readTo, printed}
+use Rattle.job.specs.Run.{Bytes, Course, onward, ran, blockAt, readTo, printed}
 use Rattle.job.proofs.Runs.{known, not-both, stays, short-ends, numbered, block-bytes}
 
 module _ (l : List ℕ) where
@@ -34,14 +33,14 @@ module _ (l : List ℕ) where
     settled (suc k) =
         let q = settled k in
         let a : suc k + n ≡ suc (k + n) = omega arith in
-        ap (λ (m : ℕ). ran (readTo l m)) a ∙ one-more (k + n) ∙ ap (λ (r : Step). onward r (blockAt l (k + n))) q ∙ stays (ran (readTo l n)) (blockAt l (k + n)) e
+        ap (λ (m : ℕ). ran (readTo l m)) a ∙ one-more (k + n) ∙ ap (λ (r : Course). onward r (blockAt l (k + n))) q ∙ stays (ran (readTo l n)) (blockAt l (k + n)) e
 
     later : (m : ℕ) → n ≤ m → ran (readTo l m) ≡ ran (readTo l n)
     later m h = let q : (m - n) + n ≡ m = omega arith in subst (λ (k : ℕ). ran (readTo l k) ≡ ran (readTo l n)) q (settled (m - n))
 
   pub prints : (n : ℕ) → ran (readTo l n) .state .ended ≡ true → ran (readTo l n) .text ≡ printed l
   unfolding printed
-  prints n e = ap (λ (r : Step). r .text) (go (decLe n (length l / 512 + 1)))
+  prints n e = ap (λ (r : Course). r .text) (go (decLe n (length l / 512 + 1)))
     where
       go : Dec (n ≤ length l / 512 + 1) → ran (readTo l n) ≡ ran (readTo l (length l / 512 + 1))
       go (yes h) = sym (later n e (length l / 512 + 1) h)
@@ -54,7 +53,7 @@ module _ (l : List ℕ) where
   -- while it goes on, the number of the next block is that of the reads, and at most 65,536
   pub counted : (n : ℕ) → ran (readTo l n) .state .ended ≡ false → ran (readTo l n) .state .block ≡ n
   counted zero e = first-number
-  counted (suc n) e = rw (one-more n) (numbered (ran (readTo l n)) (blockAt l n) n (counted n) (subst (λ (r : Step). r .state .ended ≡ false) (one-more n) e) .0)
+  counted (suc n) e = rw (one-more n) (numbered (ran (readTo l n)) (blockAt l n) n (counted n) (subst (λ (r : Course). r .state .ended ≡ false) (one-more n) e) .0)
 
   pub in-time : Bytes l → (n : ℕ) → 65537 ≤ n → ran (readTo l n) .state .ended ≡ true
   in-time f n h = go (known (ran (readTo l n) .state .ended))
@@ -62,7 +61,7 @@ module _ (l : List ℕ) where
       too-far : (k : ℕ) → 65537 ≤ k → ran (readTo l k) .state .ended ≡ false → ⊥
       too-far zero h e = absurd (omega arith)
       too-far (suc k) h e =
-          omega (arith, numbered (ran (readTo l k)) (blockAt l k) k (counted k) (subst (λ (r : Step). r .state .ended ≡ false) (one-more k) e) .1 (block-bytes l k f))
+          omega (arith, numbered (ran (readTo l k)) (blockAt l k) k (counted k) (subst (λ (r : Course). r .state .ended ≡ false) (one-more k) e) .1 (block-bytes l k f))
 
       go : (ran (readTo l n) .state .ended ≡ true) ⊎ (ran (readTo l n) .state .ended ≡ false) → ran (readTo l n) .state .ended ≡ true
       go (inl e) = e

@@ -19,8 +19,10 @@ use Rattle.blocks.specs.declared.Block.the-variants.{Ring, Chain, Refused}
 use Rattle.blocks.specs.Fields.{pair}
 use Rattle.blocks.specs.Blocks.{countOf, sizeOf, refusal, refusedBlock, acceptedBlock, readBlock}
 use Rattle.job.specs.declared.State.{State}
-use Rattle.job.specs.Step.{Step, ends, waits, divides, taken, stepOf}
-use Rattle.job.specs.Run.{Bytes, onward, ran, blockAt, readTo}
+use Rattle.told.specs.declared.Told.{Told}
+use Rattle.told.specs.declared.Told.the-variants as Told
+use Rattle.job.specs.Step.{Step, textOf, ends, waits, divides, taken, stepOf}
+use Rattle.job.specs.Run.{Bytes, Course, onward, ran, blockAt, readTo}
 
 -- ---- a step
 -- the step e took a whole block with the number of the state, and the run goes on to the next
@@ -31,9 +33,9 @@ pub record Went (s : State) (b : List ℕ) (e : Step) : Type 0 where
   pub going : e .state .ended ≡ false
 
 -- the ring that waits is within its places
-pub record Held (e : Step) : Type 0 where
-  pub few : e .state .count ≤ 60
-  pub long : length (e .points) ≡ 120
+pub record Held (s : State) (ps : List ℤ) : Type 0 where
+  pub few : s .count ≤ 60
+  pub long : length ps ≡ 120
 
 either : {A : Type 0} (p : A → Type 0) (t : Bool) (x y : A) → p x → p y → p (cond t x y)
 either p true x y a b = a
@@ -50,16 +52,16 @@ module _ (s : State) (ps : List ℤ) (l : List Float) (rs : List ℕ) where
   unfolding taken ends
   refused-ends k n qs = refl
 
-  ends-ended : (t : List ℕ) → ends s ps l rs t .state .ended ≡ true
+  ends-ended : (t : Told) → ends s ps l rs t .state .ended ≡ true
   unfolding ends
   ends-ended t = refl
 
   module _ (few : s .count ≤ 60) (long : length ps ≡ 120) where
-    ends-held : (t : List ℕ) → Held (ends s ps l rs t)
+    ends-held : (t : Told) → Held (ends s ps l rs t .state) (ends s ps l rs t .points)
     unfolding ends
     ends-held t = record { few = few; long = long }
 
-    taken-held : (qs : List ℤ) (a : Block) → points a ≤ 60 → length qs ≡ 120 → Held (taken s ps l rs qs a)
+    taken-held : (qs : List ℤ) (a : Block) → points a ≤ 60 → length qs ≡ 120 → Held (taken s ps l rs qs a .state) (taken s ps l rs qs a .points)
     unfolding taken waits divides ends
     taken-held qs (Ring count size) f g = record { few = f; long = g }
     taken-held qs (Chain count) f g = record { few = few; long = long }
@@ -82,13 +84,13 @@ module _ (s : State) (ps : List ℤ) (l : List Float) (rs : List ℕ) where
     pub outcome : (stepOf s ps l rs b .state .ended ≡ true) ⊎ Went s b (stepOf s ps l rs b)
     unfolding stepOf
     outcome =
-        either (λ (e : Step). (e .state .ended ≡ true) ⊎ Went s b e) (eqb (s .block % 2) 0 && eqb (length b) 0) (ends s ps l rs []) goesOn (inl (ends-ended []))
+        either (λ (e : Step). (e .state .ended ≡ true) ⊎ Went s b e) (eqb (s .block % 2) 0 && eqb (length b) 0) (ends s ps l rs Told.Nothing) goesOn (inl (ends-ended Told.Nothing))
         (by-answer (decLe (refusal b (s .block)) 0))
 
-    pub step-held : s .count ≤ 60 → length ps ≡ 120 → Held (stepOf s ps l rs b)
+    pub step-held : s .count ≤ 60 → length ps ≡ 120 → Held (stepOf s ps l rs b .state) (stepOf s ps l rs b .points)
     unfolding stepOf
     step-held f g =
-        either Held (eqb (s .block % 2) 0 && eqb (length b) 0) (ends s ps l rs []) goesOn (ends-held f g [])
+        either (λ (e : Step). Held (e .state) (e .points)) (eqb (s .block % 2) 0 && eqb (length b) 0) (ends s ps l rs Told.Nothing) goesOn (ends-held f g Told.Nothing)
         (taken-held f g (readBlock b (s .block) .points) (readBlock b (s .block) .block) (few-points b (s .block) (readBlock b (s .block)) refl) (all-places b (s .block) (readBlock b (s .block)) refl))
 
     -- a number of two bytes
@@ -104,22 +106,22 @@ known false = inr refl
 pub not-both : {A : Type 0} (t : Bool) → t ≡ true → t ≡ false → A
 not-both t e f = let z : _≡_ {A = ℕ} 0 1 = cc in absurd (omega arith)
 
-module _ (r : Step) (b : List ℕ) where
+module _ (r : Course) (b : List ℕ) where
   -- a run that has ended stays as it is
   pub stays : r .state .ended ≡ true → onward r b ≡ r
   unfolding onward
   stays e = rw e
 
-  pub goes : r .state .ended ≡ false → onward r b ≡ record { state = stepOf (r .state) (r .points) (r .nodes) (r .rims) b .state; points = stepOf (r .state) (r .points) (r .nodes) (r .rims) b .points; nodes = stepOf (r .state) (r .points) (r .nodes) (r .rims) b .nodes; rims = stepOf (r .state) (r .points) (r .nodes) (r .rims) b .rims; text = r .text ++ stepOf (r .state) (r .points) (r .nodes) (r .rims) b .text }
+  pub goes : r .state .ended ≡ false → onward r b ≡ record { state = stepOf (r .state) (r .points) (r .nodes) (r .rims) b .state; points = stepOf (r .state) (r .points) (r .nodes) (r .rims) b .points; nodes = stepOf (r .state) (r .points) (r .nodes) (r .rims) b .nodes; rims = stepOf (r .state) (r .points) (r .nodes) (r .rims) b .rims; text = r .text ++ textOf (stepOf (r .state) (r .points) (r .nodes) (r .rims) b) }
   unfolding onward
   goes e = rw e
 
   goes-state : r .state .ended ≡ false → onward r b .state ≡ stepOf (r .state) (r .points) (r .nodes) (r .rims) b .state
-  goes-state e = ap (λ (x : Step). x .state) (goes e)
+  goes-state e = ap (λ (x : Course). x .state) (goes e)
 
-  onward-held : Held r → Held (onward r b)
+  onward-held : Held (r .state) (r .points) → Held (onward r b .state) (onward r b .points)
   unfolding onward
-  onward-held h = let k = step-held (r .state) (r .points) (r .nodes) (r .rims) b (h .few) (h .long) in either Held (r .state .ended) r _ h (record { few = k .few; long = k .long })
+  onward-held h = either (λ (e : Course). Held (e .state) (e .points)) (r .state .ended) r _ h (step-held (r .state) (r .points) (r .nodes) (r .rims) b (h .few) (h .long))
 
   -- a short block ends it
   pub short-ends : length b < 512 → onward r b .state .ended ≡ true
@@ -130,7 +132,7 @@ module _ (r : Step) (b : List ℕ) where
       by (inr w) = absurd (omega (arith, w .whole))
 
       go : (r .state .ended ≡ true) ⊎ (r .state .ended ≡ false) → onward r b .state .ended ≡ true
-      go (inl e) = ap (λ (x : Step). x .state .ended) (stays e) ∙ e
+      go (inl e) = ap (λ (x : Course). x .state .ended) (stays e) ∙ e
       go (inr e) = ap (λ (x : State). x .ended) (goes-state e) ∙ by (outcome (r .state) (r .points) (r .nodes) (r .rims) b)
 
   -- one that goes on has the next number, and that is no higher than 65,536
@@ -142,11 +144,11 @@ module _ (r : Step) (b : List ℕ) where
       by e (inr w) = (omega (arith, ap (λ (z : State). z .block) (goes-state e), w .next, h e), λ q. omega (arith, number-below (r .state) (r .points) (r .nodes) (r .rims) b q w, h e))
 
       go : (r .state .ended ≡ true) ⊎ (r .state .ended ≡ false) → (onward r b .state .block ≡ suc n) × (Bytes b → n < 65536)
-      go (inl e) = not-both _ e (ap (λ (x : Step). x .state .ended) (sym (stays e)) ∙ f)
+      go (inl e) = not-both _ e (ap (λ (x : Course). x .state .ended) (sym (stays e)) ∙ f)
       go (inr e) = by e (outcome (r .state) (r .points) (r .nodes) (r .rims) b)
 
 -- ---- a run over blocks
-pub ran-held : (bs : List (List ℕ)) → Held (ran bs)
+pub ran-held : (bs : List (List ℕ)) → Held (ran bs .state) (ran bs .points)
 unfolding ran
 ran-held [] = record { few = omega arith; long = length-replicate 120 (pos 0) }
 ran-held (b ∷ bs) = onward-held (ran bs) b (ran-held bs)

@@ -7,7 +7,7 @@ use lib.IntN.{ℤ, pos}
 use lib.Ieee.{Float}
 use Rattle.laws.specs.Double.{naught}
 use Rattle.job.specs.declared.State.{State}
-use Rattle.job.specs.Step.{Step, stepOf}
+use Rattle.job.specs.Step.{stepOf, textOf}
 
 -- a list of bytes
 abbrev pub Bytes : List ℕ → Type 0
@@ -26,14 +26,22 @@ noNodes = replicate 3072 naught
 abbrev pub noRims : List ℕ
 noRims = replicate 1536 0
 
--- the run up to here, one block on; a run that has ended stays as it is
-unfoldable pub onward : Step → List ℕ → Step
+-- a run up to here: the state, the points of the ring that waits, the nodes, their rim marks, and all that was printed
+pub record Course : Type 0 where
+  pub state : State
+  pub points : List ℤ
+  pub nodes : List Float
+  pub rims : List ℕ
+  pub text : List ℕ
+
+-- one block on; a run that has ended stays as it is
+unfoldable pub onward : Course → List ℕ → Course
 onward r b =
     let e = stepOf (r .state) (r .points) (r .nodes) (r .rims) b in
-    cond (r .state .ended) r (record { state = e .state; points = e .points; nodes = e .nodes; rims = e .rims; text = r .text ++ e .text })
+    cond (r .state .ended) r (record { state = e .state; points = e .points; nodes = e .nodes; rims = e .rims; text = r .text ++ textOf e })
 
--- the run over some blocks, the latest first: what it leaves, and all that it printed
-unfoldable pub ran : List (List ℕ) → Step
+-- the run over some blocks, the latest first
+unfoldable pub ran : List (List ℕ) → Course
 ran [] = record { state = start; points = noPoints; nodes = noNodes; rims = noRims; text = [] }
 ran (b ∷ bs) = onward (ran bs) b
 

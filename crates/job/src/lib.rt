@@ -1,26 +1,24 @@
-// Job: a job's blocks, one step a block, from its bytes to the printed text. It stands above blocks, divider and report, and
-// below the run that reads and writes.
+// Job: a job's blocks, one step a block, from its bytes to what is told of it. It stands above blocks and divider, and below
+// the run that reads and writes.
 //
 // specs/Run says what the program prints as one definition, `printed`, from the bytes that go in to those that come out. A
-// step is proved equal to the definition's: the state it answers, every double of the node list, every rim mark and every
-// byte of the text.
+// step is proved equal to the definition's: the state it answers and what it tells, every double of the node list, every rim
+// mark and every number of the cell list.
 
 ghost use mathlib.Core.Path.{_≡_};
-ghost use mathlib.Core.Bool.{true, _&&_};
+ghost use mathlib.Core.Bool.{_&&_};
 ghost use mathlib.Core.List.{List};
 ghost use Prim.Native.Nat.{ℕ, _*_, _%_, _≤_, _<_};
-ghost use lib.ListN.{length, take};
+ghost use lib.ListN.{length, take, replicate};
 ghost use lib.Dec.{eqb};
 ghost use lib.IntN.{ℤ};
 ghost use lib.Ieee.{Float};
-ghost use Rattle.report.specs.Report.{Printed, mostText};
-ghost use Rattle.job.specs.Row.{rowText, Shown};
-ghost use Rattle.job.specs.Step.{closed, divides, taken, stepOf, Refusal, Steps, Answered, CanStep};
+ghost use Rattle.job.specs.Step.{closed, noCells, divides, taken, stepOf, Refusal, Steps, Answered, CanStep};
 ghost use Rattle.job.specs.Run.{Bytes, start};
 use blocks::Block;
 use nodes::NodeNumber;
-use report::Divided;
 use table::Row;
+use told::Told;
 
 // The state between two blocks: the number of the next one; the count and the sheet size of the ring that waits for its chain,
 // where that number is odd; the nodes listed; and whether the run has ended. The ring's points stand beside it in a list that
@@ -33,10 +31,10 @@ pub struct State {
     pub ended: bool,
 }
 
-// The state after a step, and how many bytes of text it printed.
+// The state after a step, and what it tells of its block.
 pub struct Stepped {
     pub state: State,
-    pub count: usize,
+    pub told: Told,
 }
 
 impl State {
@@ -67,29 +65,17 @@ impl State {
     }
 }
 
-// The lines of a ring's row.
-fn print_row(text: &mut [u8], ring: u64, used: usize, v: Row, cells: &[NodeNumber]) -> usize
-    requires { ⌜ Shown used v (now cells) × (length (now cells) ≤ 496) × (mostText ≤ length (now text)) ⌝ }
-    ensures { λ r. ⌜ Printed true (now (text .entry)) (rowText ring used v (now (cells .entry))) r (now (text .exit)) ⌝ }
+// Empties the cell list.
+fn clear(cells: &mut [NodeNumber])
+    requires { ⌜ length (now cells) ≡ 496 ⌝ }
+    ensures { λ _. ⌜ now (cells .exit) ≡ noCells ⌝ }
 {
-    if v.code != 0 {
-        return report::print_refused_ring(text, ring, v.code, v.corners, v.k);
+    for k in 0..496 {
+        cells[k] = 0;
     }
-    let row = Divided {
-        ring: ring,
-        corners: v.corners,
-        cuts: v.cuts,
-        turned: v.turned,
-        area: v.area,
-        nodes: v.nodes,
-        added: v.nodes - used as u64,
-    };
-    let end = v.cells as usize * 4;
-    report::print_ring(text, row, &cells[..end])
 }
 
-// Divides the ring that waits, with the first `run` points of a chain, over the node list and prints its row. The cell list
-// starts empty.
+// Divides the ring that waits, with the first `run` points of a chain, over the node list and the empty cell list.
 fn divide_ring(
     s: State,
     ring: &[i32],
@@ -97,49 +83,57 @@ fn divide_ring(
     run: usize,
     nodes: &mut [f64],
     rims: &mut [u8],
-    text: &mut [u8],
+    cells: &mut [NodeNumber],
 ) -> Stepped
-    requires { ⌜ CanStep s (now ring) (now text) × (s .block < 65536) × (run ≤ 60) × (length (now chain) ≡ 120) ⌝ }
-    ensures { λ r. ⌜ Steps (divides s (now (ring .entry)) (now (nodes .entry)) (now (rims .entry)) (take (run * 2) (now (chain .entry)))) r (now (ring .entry)) (now (nodes .exit)) (now (rims .exit)) (now (text .entry)) (now (text .exit)) ⌝ }
+    requires { ⌜ CanStep s (now ring) × (now cells ≡ noCells) × (s .block < 65536) × (run ≤ 60) × (length (now chain) ≡ 120) ⌝ }
+    ensures { λ r. ⌜ Steps (divides s (now (ring .entry)) (now (nodes .entry)) (now (rims .entry)) (take (run * 2) (now (chain .entry)))) r (now (ring .entry)) (now (nodes .exit)) (now (rims .exit)) (now (cells .exit)) ⌝ }
 {
     let end = s.count * 2;
     let stop = run * 2;
     let used = s.used;
-    let mut cells = [0; 496];
-    let v = Row::new(divider::divide(
+    let row = Row::new(divider::divide(
         &ring[..end],
         &chain[..stop],
         s.size,
         nodes,
         used,
         rims,
-        &mut cells,
+        cells,
         0,
     ));
-    let count = print_row(text, (s.block / 2) as u64, used, v, &cells);
+    let told = Told::Ring {
+        ring: (s.block / 2) as u64,
+        used,
+        row,
+    };
     let next = s.block + 1;
     let state = State {
         block: next,
         count: s.count,
         size: s.size,
-        used: v.nodes as usize,
+        used: row.nodes as usize,
         ended: false,
     };
-    Stepped { state, count }
+    Stepped { state, told }
 }
 
-// The line of a refused block, which is the last.
-fn refuse(s: State, block: Block, text: &mut [u8]) -> Stepped
-    requires { ⌜ Refusal block × (mostText ≤ length (now text)) ⌝ }
-    ensures { λ r. ⌜ ((ps qs : List ℤ) (l : List Float) (rs : List ℕ) → Steps (taken s ps l rs qs block) r ps l rs (now (text .entry)) (now (text .exit))) ⌝ }
+// A refused block, which is the last.
+fn refuse(s: State, block: Block) -> Stepped
+    requires { ⌜ Refusal block ⌝ }
+    ensures { λ r. ⌜ ((ps qs : List ℤ) (l : List Float) (rs : List ℕ) → Steps (taken s ps l rs qs block) r ps l rs noCells) ⌝ }
 {
     let Block::Refused { code, block } = block else {
-        return Stepped { state: s, count: 0 };
+        return Stepped {
+            state: s,
+            told: Told::Nothing,
+        };
     };
-    let count = report::print_refused_block(text, block as u64, code as u64);
     Stepped {
         state: s.closed(),
-        count,
+        told: Told::Block {
+            number: block,
+            code,
+        },
     }
 }
 
@@ -154,12 +148,12 @@ fn keep(ring: &mut [i32], points: &[i32])
 }
 
 // A ring block: its ring waits for its chain.
-fn ring_block(s: State, head: Block, points: &[i32], ring: &mut [i32], text: &mut [u8]) -> Stepped
-    requires { ⌜ CanStep s (now ring) (now text) × Answered (s .block) head (now points) × (s .block % 2 ≡ 0) ⌝ }
-    ensures { λ r. ⌜ ((l : List Float) (rs : List ℕ) → Steps (taken s (now (ring .entry)) l rs (now (points .entry)) head) r (now (ring .exit)) l rs (now (text .entry)) (now (text .exit))) ⌝ }
+fn ring_block(s: State, head: Block, points: &[i32], ring: &mut [i32]) -> Stepped
+    requires { ⌜ CanStep s (now ring) × Answered (s .block) head (now points) × (s .block % 2 ≡ 0) ⌝ }
+    ensures { λ r. ⌜ ((l : List Float) (rs : List ℕ) → Steps (taken s (now (ring .entry)) l rs (now (points .entry)) head) r (now (ring .exit)) l rs noCells) ⌝ }
 {
     let Block::Ring { count, size } = head else {
-        return refuse(s, head, text);
+        return refuse(s, head);
     };
     keep(ring, points);
     let state = State {
@@ -169,7 +163,10 @@ fn ring_block(s: State, head: Block, points: &[i32], ring: &mut [i32], text: &mu
         used: s.used,
         ended: false,
     };
-    Stepped { state, count: 0 }
+    Stepped {
+        state,
+        told: Told::Nothing,
+    }
 }
 
 // A chain block: the ring that waits is divided.
@@ -180,15 +177,15 @@ fn chain_block(
     ring: &[i32],
     nodes: &mut [f64],
     rims: &mut [u8],
-    text: &mut [u8],
+    cells: &mut [NodeNumber],
 ) -> Stepped
-    requires { ⌜ CanStep s (now ring) (now text) × Answered (s .block) tail (now points) × (s .block % 2 ≡ 1) ⌝ }
-    ensures { λ r. ⌜ Steps (taken s (now (ring .entry)) (now (nodes .entry)) (now (rims .entry)) (now (points .entry)) tail) r (now (ring .entry)) (now (nodes .exit)) (now (rims .exit)) (now (text .entry)) (now (text .exit)) ⌝ }
+    requires { ⌜ CanStep s (now ring) × (now cells ≡ noCells) × Answered (s .block) tail (now points) × (s .block % 2 ≡ 1) ⌝ }
+    ensures { λ r. ⌜ Steps (taken s (now (ring .entry)) (now (nodes .entry)) (now (rims .entry)) (now (points .entry)) tail) r (now (ring .entry)) (now (nodes .exit)) (now (rims .exit)) (now (cells .exit)) ⌝ }
 {
     let Block::Chain { count } = tail else {
-        return refuse(s, tail, text);
+        return refuse(s, tail);
     };
-    divide_ring(s, ring, points, count, nodes, rims, text)
+    divide_ring(s, ring, points, count, nodes, rims, cells)
 }
 
 // Whether the input has ended where a ring block would begin. After a ring block that is part of a block.
@@ -201,29 +198,30 @@ fn at_end(block: u32, bytes: &[u8]) -> bool
     false
 }
 
-// One step: the bytes of the next block, or what is left of the input, or none where it has ended. That they are bytes is
-// for the caller's proof.
+// One step: the bytes of the next block, or what is left of the input, or none where it has ended. The cell list is left with
+// the cells of the ring that was divided, or empty. That the bytes are bytes is for the caller's proof.
 pub fn step(
     s: State,
     bytes: &[u8],
     ring: &mut [i32],
     nodes: &mut [f64],
     rims: &mut [u8],
-    text: &mut [u8],
+    cells: &mut [NodeNumber],
 ) -> Stepped
-    requires { ⌜ CanStep s (now ring) (now text) ⌝ }
-    ensures { λ r. ⌜ Steps (stepOf s (now (ring .entry)) (now (nodes .entry)) (now (rims .entry)) (now (bytes .entry))) r (now (ring .exit)) (now (nodes .exit)) (now (rims .exit)) (now (text .entry)) (now (text .exit)) × Bytes (now (bytes .entry)) ⌝ }
+    requires { ⌜ CanStep s (now ring) × (length (now cells) ≡ 496) ⌝ }
+    ensures { λ r. ⌜ Steps (stepOf s (now (ring .entry)) (now (nodes .entry)) (now (rims .entry)) (now (bytes .entry))) r (now (ring .exit)) (now (nodes .exit)) (now (rims .exit)) (now (cells .exit)) × Bytes (now (bytes .entry)) ⌝ }
 {
+    clear(cells);
     if at_end(s.block, bytes) {
         return Stepped {
             state: s.closed(),
-            count: 0,
+            told: Told::Nothing,
         };
     }
     let reading = blocks::read_block(bytes, s.block);
     let block = reading.block;
     if s.block % 2 == 0 {
-        return ring_block(s, block, &reading.points, ring, text);
+        return ring_block(s, block, &reading.points, ring);
     }
-    chain_block(s, block, &reading.points, ring, nodes, rims, text)
+    chain_block(s, block, &reading.points, ring, nodes, rims, cells)
 }

@@ -1,5 +1,5 @@
--- What a turn of the loop does to what was reached: one block more (`turned`), of which the text is owed (`owes`); no run goes on past 65,536 blocks; and where it has
--- ended, `printed` of the input was written (`finished`), and the nodes are those of its run (`listed`).
+-- What a turn of the loop does to what was reached: one block more (`turned`), of which the text is owed (`owes`) and, once it is sent, was written (`wrote`); no run goes on
+-- past 65,536 blocks; and where it has ended, `printed` of the input was written (`finished`), and the nodes are those of its run (`listed`).
 use Prim.Native.Nat.{ℕ, suc, _+_, _-_, _*_, _≤_, _<_}
 use mathlib.Core.Path.{_≡_, refl, sym, ap, _∙_, subst}
 use mathlib.Core.Bool.{Bool, true, false, cond}
@@ -7,43 +7,44 @@ use mathlib.Core.Logic.{_⊎_, inl, inr}
 use mathlib.Core.List.{List, [], _++_}
 use native.Mathlib.Omega.{arith}
 use native.Mathlib.Decide.{decLe}
-use lib.ListN.{length, take, replicate, length-take, length-append}
-use lib.Seq.{take-at}
+use lib.ListN.{length, replicate, length-append}
 use lib.IntN.{ℤ}
 use lib.Ieee.{Float, binary64, ofBits}
 use Rattle.laws.specs.Double.{naught}
-use Rattle.report.specs.Report.{mostText}
-use Rattle.text.specs.Text.{put}
+use Rattle.told.specs.Text.{toldText}
 use Rattle.job.specs.declared.State.{State}
 use Rattle.job.specs.declared.Stepped.{Stepped}
-use Rattle.job.specs.Step.{Step, stepOf, Steps, CanStep}
-use Rattle.job.specs.Run.{Bytes, start, noPoints, noNodes, noRims, onward, ran, blockAt, readTo, printed}
+use Rattle.job.specs.Step.{textOf, stepOf, Steps, CanStep}
+use Rattle.job.specs.Run.{Bytes, start, noPoints, noNodes, noRims, Course, onward, ran, blockAt, readTo, printed}
 use Rattle.job.proofs.Runs.{Went, Held, outcome, number-below, not-both, goes, ran-held, read-more, read-added, joined-bytes}
 use Rattle.job.proofs.Printed.{one-more, prints, counted, in-time}
-use Rattle.run.specs.Reached.{Reached, Owed, Finished, EndedWith}
+use Rattle.run.specs.Reached.{Reached, Wrote, Owed, Sends, Finished, EndedWith}
 
 -- before the first block
-begun : Reached start noPoints noNodes noRims 0
+begun : Reached start noPoints noNodes noRims
 unfolding ran readTo
-begun = record { input = []; blocks = 0; state = refl; points = refl; nodes = refl; rims = refl; text = refl; bytes = λ i. omega arith; whole = λ e. refl; bound = omega arith }
+begun = record { input = []; blocks = 0; state = refl; points = refl; nodes = refl; rims = refl; bytes = λ i. omega arith; whole = λ e. refl }
 
 zero-bits : ofBits binary64 0 ≡ naught
 unfolding ofBits
 zero-bits = refl
 
-pub begun-so : (s : State) → s ≡ start → Reached s noPoints (replicate 3072 (ofBits binary64 0)) noRims 0
-begun-so s e = subst (λ (x : Float). Reached s noPoints (replicate 3072 x) noRims 0) (sym zero-bits) (subst (λ (q : State). Reached q noPoints noNodes noRims 0) (sym e) begun)
+pub begun-so : (s : State) → s ≡ start → Reached s noPoints (replicate 3072 (ofBits binary64 0)) noRims
+begun-so s e = subst (λ (x : Float). Reached s noPoints (replicate 3072 x) noRims) (sym zero-bits) (subst (λ (q : State). Reached q noPoints noNodes noRims) (sym e) begun)
 
-module _ (s : State) (ps : List ℤ) (l : List Float) (rs : List ℕ) (sent : ℕ) (r : Reached s ps l rs sent) where
+none-written : Wrote start noPoints noNodes noRims 0
+unfolding ran readTo begun
+none-written = record { reached = begun; text = refl; bound = omega arith }
+
+pub begun-unwritten : (s : State) → s ≡ start → Wrote s noPoints (replicate 3072 (ofBits binary64 0)) noRims 0
+begun-unwritten s e = subst (λ (x : Float). Wrote s noPoints (replicate 3072 x) noRims 0) (sym zero-bits) (subst (λ (q : State). Wrote q noPoints noNodes noRims 0) (sym e) none-written)
+
+module _ (s : State) (ps : List ℤ) (l : List Float) (rs : List ℕ) (r : Reached s ps l rs) where
   -- a step can be made
-  pub can-step : (t : List ℕ) → length t ≡ mostText → CanStep s ps t
-  can-step t e =
+  pub can-step : CanStep s ps
+  can-step =
       let h = ran-held (readTo (r .input) (r .blocks)) in
-      record { few = omega (arith, ap (λ (z : State). z .count) (r .state), h .few); long = ap length (r .points) ∙ h .long; room = omega arith }
-
-  -- where the run has ended, all is written
-  pub finished : s .ended ≡ true → Finished sent
-  finished e = record { input = r .input; bytes = r .bytes; all = r .text ∙ ap length (prints (r .input) (r .blocks) (ap (λ (z : State). z .ended) (sym (r .state)) ∙ e)) }
+      record { few = omega (arith, ap (λ (z : State). z .count) (r .state), h .few); long = ap length (r .points) ∙ h .long }
 
   pub listed : s .ended ≡ true → EndedWith (s .used) l
   listed e =
@@ -74,7 +75,7 @@ module _ (s : State) (ps : List ℤ) (l : List Float) (rs : List ℕ) (sent : �
       longer : readTo (r .input ++ b) (r .blocks) ≡ readTo (r .input) (r .blocks)
       longer = read-more (r .input) b (r .blocks) (omega (arith, r .whole e))
 
-      after : ran (readTo (r .input ++ b) (suc (r .blocks))) ≡ record { state = stepOf s ps l rs b .state; points = stepOf s ps l rs b .points; nodes = stepOf s ps l rs b .nodes; rims = stepOf s ps l rs b .rims; text = ran (readTo (r .input) (r .blocks)) .text ++ stepOf s ps l rs b .text }
+      after : ran (readTo (r .input ++ b) (suc (r .blocks))) ≡ record { state = stepOf s ps l rs b .state; points = stepOf s ps l rs b .points; nodes = stepOf s ps l rs b .nodes; rims = stepOf s ps l rs b .rims; text = ran (readTo (r .input) (r .blocks)) .text ++ textOf (stepOf s ps l rs b) }
       after =
           one-more (r .input ++ b) (r .blocks)
           ∙ (λ i. onward (ran (longer i)) (read-added (r .input) b (r .blocks) (r .whole e) h i))
@@ -83,46 +84,55 @@ module _ (s : State) (ps : List ℤ) (l : List Float) (rs : List ℕ) (sent : �
           let q = sym (r .points) in
           let d = sym (r .nodes) in
           let w = sym (r .rims) in
-          λ i. record { state = stepOf (a i) (q i) (d i) (w i) b .state; points = stepOf (a i) (q i) (d i) (w i) b .points; nodes = stepOf (a i) (q i) (d i) (w i) b .nodes; rims = stepOf (a i) (q i) (d i) (w i) b .rims; text = ran (readTo (r .input) (r .blocks)) .text ++ stepOf (a i) (q i) (d i) (w i) b .text })
+          λ i. record { state = stepOf (a i) (q i) (d i) (w i) b .state; points = stepOf (a i) (q i) (d i) (w i) b .points; nodes = stepOf (a i) (q i) (d i) (w i) b .nodes; rims = stepOf (a i) (q i) (d i) (w i) b .rims; text = ran (readTo (r .input) (r .blocks)) .text ++ textOf (stepOf (a i) (q i) (d i) (w i) b) })
 
-      module _ (x : Stepped) (qs : List ℤ) (m : List Float) (w : List ℕ) (t u : List ℕ) (p : Steps (stepOf s ps l rs b) x qs m w t u) where
+      module _ (x : Stepped) (qs : List ℤ) (m : List Float) (w p : List ℕ) (t : Steps (stepOf s ps l rs b) x qs m w p) where
         still-whole : x .state .ended ≡ false → length (r .input ++ b) ≡ 512 * suc (r .blocks)
         still-whole g = by (outcome s ps l rs b)
           where
             by : (stepOf s ps l rs b .state .ended ≡ true) ⊎ Went s b (stepOf s ps l rs b) → length (r .input ++ b) ≡ 512 * suc (r .blocks)
-            by (inl z) = not-both (x .state .ended) (ap (λ (q : State). q .ended) (p .state) ∙ z) g
+            by (inl z) = not-both (x .state .ended) (ap (λ (q : State). q .ended) (t .state) ∙ z) g
             by (inr w) = simp length-append (omega (arith, w .whole, r .whole e))
 
-        pub turned : Reached (x .state) qs m w (sent + x .count)
+        pub turned : Reached (x .state) qs m w
         turned =
             record {
               input = r .input ++ b;
               blocks = suc (r .blocks);
-              state = p .state ∙ ap (λ (q : Step). q .state) (sym after);
-              points = p .points ∙ ap (λ (q : Step). q .points) (sym after);
-              nodes = p .nodes ∙ ap (λ (q : Step). q .nodes) (sym after);
-              rims = p .rims ∙ ap (λ (q : Step). q .rims) (sym after);
-              text =
-                  let n = length-append (ran (readTo (r .input) (r .blocks)) .text) (stepOf s ps l rs b .text) in
-                  omega (arith, r .text, p .text .bytes, ap (λ (q : Step). length (q .text)) after);
+              state = t .state ∙ ap (λ (q : Course). q .state) (sym after);
+              points = t .points ∙ ap (λ (q : Course). q .points) (sym after);
+              nodes = t .nodes ∙ ap (λ (q : Course). q .nodes) (sym after);
+              rims = t .rims ∙ ap (λ (q : Course). q .rims) (sym after);
               bytes = joined-bytes (r .input) (r .bytes) b f;
               whole = still-whole;
-              bound = omega (arith, r .bound, p .text .room);
             }
 
-        -- the text of the step is owed
-        pub owes : Owed sent (take (x .count) u)
-        unfolding put
-        owes =
-            let k : length (stepOf s ps l rs b .text) ≡ x .count = sym (p .text .bytes) in
-            record {
-              state = s;
-              points = ps;
-              nodes = l;
-              rims = rs;
-              block = b;
-              reached = r;
-              going = e;
-              text = ap (take (x .count)) (p .text .list) ∙ take-at (stepOf s ps l rs b .text) _ (x .count) k;
-              short = omega (arith, p .text .room, length-take (x .count) u);
-            }
+        same-text : toldText (x .told) p ≡ textOf (stepOf s ps l rs b)
+        same-text = λ i. toldText (t .told i) (t .cells i)
+
+module _ (s : State) (ps : List ℤ) (l : List Float) (rs : List ℕ) (sent : ℕ) (r : Wrote s ps l rs sent) where
+  -- where the run has ended, all is written
+  pub finished : s .ended ≡ true → Finished sent
+  finished e =
+      let g = r .reached in
+      record { input = g .input; bytes = g .bytes; all = r .text ∙ ap length (prints (g .input) (g .blocks) (ap (λ (z : State). z .ended) (sym (g .state)) ∙ e)) }
+
+  module _ (e : s .ended ≡ false) (b : List ℕ) (f : Bytes b) (h : length b ≤ 512) (x : Stepped) (qs : List ℤ) (m : List Float) (w p : List ℕ) (t : Steps (stepOf s ps l rs b) x qs m w p) where
+    -- the text of what the step tells is owed
+    pub owes : Owed sent (toldText (x .told) p)
+    owes = record { state = s; points = ps; nodes = l; rims = rs; block = b; wrote = r; going = e; text = same-text s ps l rs (r .reached) e b f h x qs m w p t }
+
+    -- and once it is sent, it was written
+    pub wrote : (n : ℕ) → Sends sent (toldText (x .told) p) n → Wrote (x .state) qs m w n
+    unfolding turned
+    wrote n d =
+        let g = r .reached in
+        let a = after s ps l rs g e b f h in
+        let c = same-text s ps l rs g e b f h x qs m w p t in
+        record {
+          reached = turned s ps l rs g e b f h x qs m w p t;
+          text =
+              let k = length-append (ran (readTo (g .input) (g .blocks)) .text) (textOf (stepOf s ps l rs b)) in
+              omega (arith, r .text, d .count, ap length c, k, ap (λ (q : Course). length (q .text)) a);
+          bound = omega (arith, r .bound, d .count, d .short);
+        }

@@ -1,5 +1,5 @@
-// Run: a job from one descriptor to another: reads a block, steps, writes the step's text, until the run has ended. It stands
-// above job, and below the programs.
+// Run: a job from one descriptor to another: reads a block, steps, writes the text of what the step told, until the run has
+// ended. It stands above job, and below the programs.
 //
 // What an operating system call read or wrote has no contract. All else has: the loop's invariant is that the state, the node
 // list with its rim marks and the count of bytes written were reached by the bytes read so far, and a run that ends has written `printed` of
@@ -10,9 +10,13 @@ ghost use mathlib.Core.Path.{_≡_};
 ghost use mathlib.Core.Bool.{false, not};
 ghost use Prim.Native.Nat.{_+_, _≤_, _<_};
 ghost use lib.ListN.{length};
-ghost use Rattle.run.specs.Reached.{Owed, Finished};
+ghost use Rattle.report.specs.Report.{mostText};
+ghost use Rattle.told.specs.Text.{toldText, CanTell};
+ghost use Rattle.run.specs.Reached.{Owed, Sends, Finished};
 use job::State;
+use nodes::NodeNumber;
 use report::MOST_TEXT;
+use told::Told;
 
 // How many bytes were written in all; and whether writing has failed, in which case some of the last text may be written too.
 pub struct Sent {
@@ -66,7 +70,7 @@ pub fn write_all(output: i32, text: &[u8]) -> bool {
 
 // Writes the text that is owed after `sent` bytes.
 fn send(output: i32, text: &[u8], sent: u64) -> Sent
-    requires { ⌜ Owed sent (now text) ⌝ }
+    requires { ⌜ Owed sent (now text) × (length (now text) ≤ mostText) ⌝ }
     ensures { λ r. ⌜ (r .failed ≡ false → r .bytes ≡ sent + length (now (text .entry))) ⌝ }
 {
     if write_all(output, text) {
@@ -79,6 +83,17 @@ fn send(output: i32, text: &[u8], sent: u64) -> Sent
         bytes: sent,
         failed: true,
     }
+}
+
+// Writes the text of what a step told, after `sent` bytes. The text has its place here, so that none of it is on the stack
+// while a ring is divided.
+fn tell(output: i32, told: Told, cells: &[NodeNumber], sent: u64) -> Sent
+    requires { ⌜ Owed sent (toldText told (now cells)) × CanTell told (now cells) ⌝ }
+    ensures { λ r. ⌜ (r .failed ≡ false → Sends sent (toldText told (now (cells .entry))) (r .bytes)) ⌝ }
+{
+    let mut text = [0u8; MOST_TEXT];
+    let n = told::print(told, cells, &mut text);
+    send(output, &text[..n], sent)
 }
 
 // Whether there is a block to read: until the run has ended, and no longer.
@@ -95,8 +110,8 @@ pub fn run(input: i32, output: i32) -> Sent
     let mut ring = [0i32; 120];
     let mut nodes = [0.0f64; 3072];
     let mut rims = [0u8; 1536];
+    let mut cells = [0; 496];
     let mut bytes = [0u8; 512];
-    let mut text = [0u8; MOST_TEXT];
     let mut s = State::new();
     let mut sent: u64 = 0;
     while goes_on(s) {
@@ -107,10 +122,10 @@ pub fn run(input: i32, output: i32) -> Sent
             &mut ring,
             &mut nodes,
             &mut rims,
-            &mut text,
+            &mut cells,
         );
-        let n = stepped.count;
-        let out = send(output, &text[..n], sent);
+        let told = stepped.told;
+        let out = tell(output, told, &cells, sent);
         if out.failed {
             return out;
         }

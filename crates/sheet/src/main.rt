@@ -1,7 +1,7 @@
 // Sheet: the program that prints the cell sheet of a job. Job blocks on standard input, as `divide` reads them; on standard
 // output a line for each node that `divide` would list, in the order of their numbers.
 //
-// The blocks are stepped over as in run, and the texts of the steps are dropped. What is printed are the nodes of a run that
+// The blocks are stepped over as in run, and what the steps tell is dropped. What is printed are the nodes of a run that
 // has ended, which `print_sheet` asks for. The lines are written one at a time: a whole sheet would not fit the controller.
 
 ghost use mathlib.Core.Path.{_≡_};
@@ -10,7 +10,6 @@ use job::State;
 use libc::STDERR_FILENO;
 use libc::STDIN_FILENO;
 use libc::STDOUT_FILENO;
-use report::MOST_TEXT;
 
 // Writes the lines of the first `used` nodes. That a run's nodes are in range is not proved here but tested once.
 fn print_sheet(nodes: &[f64], used: usize) -> bool
@@ -34,8 +33,8 @@ fn list_job() -> bool {
     let mut ring = [0i32; 120];
     let mut nodes = [0.0f64; 3072];
     let mut rims = [0u8; 1536];
+    let mut cells = [0; 496];
     let mut bytes = [0u8; 512];
-    let mut text = [0u8; MOST_TEXT];
     let mut s = State::new();
     while run::goes_on(s) {
         let got = run::read_block(STDIN_FILENO, &mut bytes);
@@ -45,7 +44,7 @@ fn list_job() -> bool {
             &mut ring,
             &mut nodes,
             &mut rims,
-            &mut text,
+            &mut cells,
         );
         s = stepped.state;
     }

@@ -35,7 +35,7 @@ use Rattle.blocks.specs.Fields as Fields
 use Rattle.blocks.specs.Blocks as Blocks
 use Rattle.text.specs.Text as Text
 use Rattle.report.specs.Report as Report
-use Rattle.job.specs.Row as JobRow
+use Rattle.told.specs.Text as Told
 use Rattle.job.specs.Step as Step
 use Rattle.job.specs.Run as Run
 
@@ -89,7 +89,7 @@ in-divider = tt
 
 -- the program: blocks, the call over lent lists, the printed lines, and the run
 unfoldable pub in-program : Unit {0}
-unfolding Table.tab Fields.pair Fields.word Fields.signed Fields.coordinate Fields.checkTo Fields.anyUsed Blocks.headWrong Blocks.sizeWrong Blocks.unusedWrong Blocks.refusal Blocks.refusedBlock Blocks.acceptedBlock Blocks.readBlock NodesFlat.nodesIn QuadsFlat.overCells Lent.divideLent Text.bytes Text.digits Text.decimal Text.marks Text.part Text.filledTo Text.filled Report.hundredths Report.ringLine Report.nodesLine Report.quadLine Report.quadLines Report.ringText Report.refusedRing Report.refusedBlock JobRow.rowText Step.ends Step.waits Step.divides Step.taken Step.stepOf Run.onward Run.ran Run.readTo Run.printed
+unfolding Table.tab Fields.pair Fields.word Fields.signed Fields.coordinate Fields.checkTo Fields.anyUsed Blocks.headWrong Blocks.sizeWrong Blocks.unusedWrong Blocks.refusal Blocks.refusedBlock Blocks.acceptedBlock Blocks.readBlock NodesFlat.nodesIn QuadsFlat.overCells Lent.divideLent Text.bytes Text.digits Text.decimal Text.marks Text.part Text.filledTo Text.filled Report.hundredths Report.ringLine Report.nodesLine Report.quadLine Report.quadLines Report.ringText Report.refusedRing Report.refusedBlock Told.rowText Told.toldText Step.ends Step.waits Step.divides Step.taken Step.stepOf Run.onward Run.ran Run.readTo Run.printed
 in-program = tt
 
 unfoldable pub computing : Unit {0}

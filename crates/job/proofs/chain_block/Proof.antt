@@ -1,9 +1,8 @@
 -- `chain_block` meets its contract. Laws in proofs/Answers and Stepping.
 use mathlib.Core.Path.{ap}
-use native.Mathlib.Omega.{arith}
 use Rattle.blocks.proofs.Counts.{points}
 use Rattle.job.proofs.Answers.{chain-refused, chain-accepted}
-use Rattle.job.proofs.Stepping.{chain-divides}
+use Rattle.job.proofs.Stepping.{cells-as, chain-divides}
 use native.Mathlib.Omega.{arith}
 use borrow.Author.Needs.{needs}
 use Rattle.job.proofs.chain_block.Statement.{statement}
@@ -13,23 +12,22 @@ enum-known-tail : tie.Need-enum-known-tail
 enum-known-tail c = search needs
 
 refuse-requires : tie.Need-refuse-requires
-refuse-requires c κs =
-    let s = c .before .before .before .before .before in
-    (chain-refused (s .args .tail) (s .pre .1 .odd (s .pre .2)) (c .before .match .keys2), s .pre .0 .room)
-
-same-length : tie.Need-same-length
-same-length c = search needs
+refuse-requires c κs = let s = c .before .before .before .before in chain-refused (s .args .tail) (s .pre .2 .odd (s .pre .3)) (c .match .keys2)
 
 returns : tie.Need-returns
 returns c =
-    let a = c .before .before .before .before .before .before .before .before .args in
-    c .before .before .refuse .ensures (a .ring .now) (a .points .now) (a .nodes .now) (a .rims .now)
+    let s = c .before .before .before .before .before in
+    let a = s .args in
+    cells-as _ (c .refuse .result) (a .ring .now) (a .nodes .now) (a .rims .now) (a .cells .now) (s .pre .1) (c .refuse .ensures (a .ring .now) (a .points .now) (a .nodes .now) (a .rims .now))
 
 divide-ring-requires : tie.Need-divide-ring-requires
 divide-ring-requires c κs =
     let s = c .before .before .before .before .before .before .before .before .before in
     let q = c .before .before .before .before .tail .given in
-    (s .pre .0, s .pre .1 .number (chain-accepted (s .args .tail) (q .0 .0) (q .1)), omega (arith, s .pre .1 .few, ap points (q .1)), s .pre .1 .places)
+    (s .pre .0, s .pre .1, s .pre .2 .number (chain-accepted (s .args .tail) (q .0 .0) (q .1)), omega (arith, s .pre .2 .few, ap points (q .1)), s .pre .2 .places)
+
+same-length : tie.Need-same-length
+same-length c = search needs
 
 same-length-2 : tie.Need-same-length-2
 same-length-2 c = search needs
@@ -37,15 +35,12 @@ same-length-2 c = search needs
 same-length-3 : tie.Need-same-length-3
 same-length-3 c = search needs
 
-same-length-4 : tie.Need-same-length-4
-same-length-4 c = search needs
-
 returns-2 : tie.Need-returns-2
 returns-2 c =
     let a = c .before .before .before .before .before .before .before .before .before .before .before .before .before .before .before .before .args in
     let q = c .before .before .before .before .before .before .before .before .before .before .before .tail .given in
     let d = c .before .before .before .before .before .before .divide-ring in
-    chain-divides (a .s) (a .ring .now) (a .nodes .now) (a .rims .now) (a .points .now) (a .tail) (q .0 .0) (q .1) (a .ring .now) _ _ (d .result) (a .text .now) _ (d .ensures)
+    chain-divides (a .s) (a .ring .now) (a .nodes .now) (a .rims .now) (a .points .now) (a .tail) (q .0 .0) (q .1) (a .ring .now) _ _ _ (d .result) (d .ensures)
 
 pub chain-block-spec : {M : Type 1} → statement M
 chain-block-spec =
@@ -53,10 +48,9 @@ chain-block-spec =
     (tie.spec
     enum-known-tail
     refuse-requires
-    same-length
     returns
     divide-ring-requires
+    same-length
     same-length-2
     same-length-3
-    same-length-4
     returns-2)

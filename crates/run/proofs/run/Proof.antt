@@ -5,27 +5,27 @@ use mathlib.Core.Bool.{cond}
 use lib.ListN.{length, take, length-take}
 use borrow.Author.Tests.{not-true, not-false}
 use Rattle.report.specs.Report.{mostText}
-use Rattle.job.proofs.Rows.{part-length}
+use Rattle.told.proofs.Rows.{part-length}
 use Rattle.job.proofs.Runs.{not-both}
-use Rattle.run.specs.Reached.{Reached}
-use Rattle.run.proofs.Reaching.{begun-so, can-step, finished, falls, turned, owes}
+use Rattle.run.specs.Reached.{Wrote}
+use Rattle.run.proofs.Reaching.{begun-unwritten, can-step, finished, falls, owes, wrote}
 use borrow.Author.Needs.{needs}
 use native.Mathlib.Omega.{arith}
 use Rattle.run.proofs.run.Statement.{statement}
 use Rattle.run.proofs.run.Tie as tie
 
 abbrev Inv-loop : tie.InvT-loop
-Inv-loop input output ring₀ nodes₀ rims₀ bytes₀ text₀ s₀ sent₀ ring nodes rims bytes text s sent =
-    Reached s ring nodes rims sent × (length ring ≡ 120) × (length nodes ≡ 3072) × (length rims ≡ 1536) × (length bytes ≡ 512) × (length text ≡ mostText)
+Inv-loop input output ring₀ nodes₀ rims₀ cells₀ bytes₀ s₀ sent₀ ring nodes rims cells bytes s sent =
+    Wrote s ring nodes rims sent × (length ring ≡ 120) × (length nodes ≡ 3072) × (length rims ≡ 1536) × (length bytes ≡ 512) × (length cells ≡ 496)
 
 abbrev μ-loop : tie.MeasureT-loop
-μ-loop input output ring₀ nodes₀ rims₀ bytes₀ text₀ s₀ sent₀ ring nodes rims bytes text s sent = cond (s .ended) 0 (65537 - s .block)
+μ-loop input output ring₀ nodes₀ rims₀ cells₀ bytes₀ s₀ sent₀ ring nodes rims cells bytes s sent = cond (s .ended) 0 (65537 - s .block)
 
 new-requires : tie.Need-new-requires Inv-loop μ-loop
 new-requires c κs = search needs
 
 loop-holds : tie.Need-loop-holds Inv-loop μ-loop
-loop-holds c = (begun-so (c .new .result) (c .new .ensures), refl, refl, refl, refl, refl)
+loop-holds c = (begun-unwritten (c .new .result) (c .new .ensures), refl, refl, refl, refl, refl)
 
 goes-on-requires : tie.Need-goes-on-requires Inv-loop μ-loop
 goes-on-requires c κs = search needs
@@ -55,16 +55,13 @@ slice-aggregate-step-5 : tie.Need-slice-aggregate-step-5 Inv-loop μ-loop
 slice-aggregate-step-5 c = sym (c .before .before .before .before .before .before .before .before .before .before .loop .inv .5)
 
 step-requires : tie.Need-step-requires Inv-loop μ-loop
-step-requires c κs = let l = c .before .before .before .before .before .before .before .before .before .before .loop in can-step _ _ _ _ _ (l .inv .0) (l .text) (l .inv .5)
+step-requires c κs = let l = c .before .before .before .before .before .before .before .before .before .before .loop in (can-step _ _ _ _ (l .inv .0 .reached), l .inv .5)
 
-array-share-prefix-text : tie.Need-array-share-prefix-text Inv-loop μ-loop
-array-share-prefix-text c = let p = c .before .before .before .before .step in omega (arith, p .ensures .0 .text .room, p .kept .1 .1 .1 .1 .1 .0, c .before .before .before .before .before .before .before .before .before .before .before .before .before .before .before .loop .inv .5)
+slice-aggregate-tell : tie.Need-slice-aggregate-tell Inv-loop μ-loop
+slice-aggregate-tell c = sym (c .before .before .before .before .before .step .kept .1 .1 .1 .1 .1 .0 ∙ c .before .before .before .before .before .before .before .before .before .before .before .before .before .before .before .before .loop .inv .5)
 
-slice-aggregate-send : tie.Need-slice-aggregate-send Inv-loop μ-loop
-slice-aggregate-send c = let p = c .before .before .before .before .before .step in part-length _ mostText _ (p .kept .1 .1 .1 .1 .1 .0 ∙ c .before .before .before .before .before .before .before .before .before .before .before .before .before .before .before .before .loop .inv .5) (p .ensures .0 .text .room)
-
-send-requires : tie.Need-send-requires Inv-loop μ-loop
-send-requires c κs =
+tell-requires : tie.Need-tell-requires Inv-loop μ-loop
+tell-requires c κs =
     let l = c .before .before .before .before .before .before .before .before .before .before .before .before .before .before .before .before .loop in
     let q = c .before .before .before .before .before .before .before .before .before .before .before .before .read-block in
     let g = c .before .before .before .before .before .before .before .before .before .before .before .before .before .before .before .goes-on in
@@ -72,10 +69,10 @@ send-requires c κs =
     let p = c .before .before .before .before .before .step in
     let b = take (q .result) (q .last .1 .0) in
     let h : length b ≤ 512 = omega (arith, length-take (q .result) (q .last .1 .0), q .ensures) in
-    owes (l .s) (l .ring) (l .nodes) (l .rims) (l .sent) (l .inv .0) e b (p .ensures .1) h (p .result) _ _ _ _ _ (p .ensures .0)
+    (owes (l .s) (l .ring) (l .nodes) (l .rims) (l .sent) (l .inv .0) e b (p .ensures .1) h (p .result) _ _ _ _ (p .ensures .0), p .ensures .0 .tells)
 
 returns : tie.Need-returns Inv-loop μ-loop
-returns c = λ e. not-both (c .before .send .result .failed) (c .if2 .taken) e
+returns c = λ e. not-both (c .before .tell .result .failed) (c .if2 .taken) e
 
 loop-less : tie.Need-loop-less Inv-loop μ-loop
 loop-less c =
@@ -85,8 +82,7 @@ loop-less c =
     let e = not-true (l .s .ended) (sym (g .ensures) ∙ c .before .before .before .before .before .before .before .before .before .before .before .before .before .before .before .before .before .if1 .taken) in
     let p = c .before .before .before .before .before .before .before .before .step in
     let b = take (q .result) (q .last .1 .0) in
-    let h : length b ≤ 512 = omega (arith, length-take (q .result) (q .last .1 .0), q .ensures) in
-    falls (l .s) (l .ring) (l .nodes) (l .rims) (l .sent) (l .inv .0) e b (p .ensures .1) (p .result .state) (p .ensures .0 .state)
+    falls (l .s) (l .ring) (l .nodes) (l .rims) (l .inv .0 .reached) e b (p .ensures .1) (p .result .state) (p .ensures .0 .state)
 
 loop-again : tie.Need-loop-again Inv-loop μ-loop
 loop-again c =
@@ -97,11 +93,8 @@ loop-again c =
     let p = c .before .before .before .before .before .before .before .before .step in
     let b = take (q .result) (q .last .1 .0) in
     let h : length b ≤ 512 = omega (arith, length-take (q .result) (q .last .1 .0), q .ensures) in
-    let t = turned (l .s) (l .ring) (l .nodes) (l .rims) (l .sent) (l .inv .0) e b (p .ensures .1) h (p .result) _ _ _ _ _ (p .ensures .0) in
-    let n = part-length (p .result .count) mostText (p .last .1 .1 .1 .1 .1 .0) (p .kept .1 .1 .1 .1 .1 .0 ∙ l .inv .5) (p .ensures .0 .text .room) in
-    let o = c .before .before .send in
-    let w : l .sent + p .result .count ≡ o .result .bytes = omega (arith, n, o .ensures (c .before .if2 .left)) in
-    (subst (λ (k : ℕ). Reached (p .result .state) (p .last .1 .1 .0) (p .last .1 .1 .1 .0) (p .last .1 .1 .1 .1 .0) k) w t, p .kept .1 .1 .0 ∙ l .inv .1, p .kept .1 .1 .1 .0 ∙ l .inv .2, p .kept .1 .1 .1 .1 .0 ∙ l .inv .3, q .kept .1 .0 ∙ l .inv .4, p .kept .1 .1 .1 .1 .1 .0 ∙ l .inv .5)
+    let o = c .before .before .tell in
+    (wrote (l .s) (l .ring) (l .nodes) (l .rims) (l .sent) (l .inv .0) e b (p .ensures .1) h (p .result) _ _ _ _ (p .ensures .0) (o .result .bytes) (o .ensures (c .before .if2 .left)), p .kept .1 .1 .0 ∙ l .inv .1, p .kept .1 .1 .1 .0 ∙ l .inv .2, p .kept .1 .1 .1 .1 .0 ∙ l .inv .3, q .kept .1 .0 ∙ l .inv .4, p .kept .1 .1 .1 .1 .1 .0 ∙ l .inv .5)
 
 returns-2 : tie.Need-returns-2 Inv-loop μ-loop
 returns-2 c = λ e. let l = c .before .before .loop in finished (l .s) (l .ring) (l .nodes) (l .rims) (l .sent) (l .inv .0) (not-false (l .s .ended) (sym (c .before .goes-on .ensures) ∙ c .if1 .left))
@@ -124,9 +117,8 @@ run-spec =
     slice-aggregate-step-4
     slice-aggregate-step-5
     step-requires
-    array-share-prefix-text
-    slice-aggregate-send
-    send-requires
+    slice-aggregate-tell
+    tell-requires
     returns
     loop-less
     loop-again

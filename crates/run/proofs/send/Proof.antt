@@ -12,7 +12,10 @@ write-all-requires : tie.Need-write-all-requires
 write-all-requires c κs = search needs
 
 add-t7 : tie.Need-add-t7
-add-t7 c = let o = c .before .before .before .pre in omega (arith, o .short, o .reached .bound, few-blocks (o .state) (o .points) (o .nodes) (o .rims) _ (o .reached) (o .going))
+add-t7 c =
+    let q = c .before .before .before .pre in
+    let o = q .0 in
+    omega (arith, q .1, o .wrote .bound, few-blocks (o .state) (o .points) (o .nodes) (o .rims) (o .wrote .reached) (o .going))
 
 returns : tie.Need-returns
 returns c = search needs

@@ -1,11 +1,10 @@
 -- `list_job` ends, and prints the nodes of a run that has ended. The loop's invariant: the state, the ring that waits, the nodes and their rim marks were reached by the bytes read so far.
-use Prim.Native.Nat.{ℕ, _+_, _-_, _≤_}
+use Prim.Native.Nat.{_-_, _≤_}
 use mathlib.Core.Path.{_≡_, refl, sym, _∙_}
 use mathlib.Core.Bool.{cond}
 use lib.ListN.{length, take, length-take}
 use borrow.Author.Tests.{not-true, not-false}
-use Rattle.job.proofs.Rows.{part-length}
-use Rattle.report.specs.Report.{mostText}
+use Rattle.told.proofs.Rows.{part-length}
 use Rattle.run.specs.Reached.{Reached}
 use Rattle.run.proofs.Reaching.{begun-so, can-step, listed, falls, turned}
 use borrow.Author.Needs.{needs}
@@ -14,17 +13,17 @@ use Rattle.sheet.proofs.list_job.Statement.{statement}
 use Rattle.sheet.proofs.list_job.Tie as tie
 
 abbrev Inv-loop : tie.InvT-loop
-Inv-loop ring₀ nodes₀ rims₀ bytes₀ text₀ s₀ ring nodes rims bytes text s =
-    ((sent : ℕ) × Reached s ring nodes rims sent) × (length ring ≡ 120) × (length nodes ≡ 3072) × (length rims ≡ 1536) × (length bytes ≡ 512) × (length text ≡ mostText)
+Inv-loop ring₀ nodes₀ rims₀ cells₀ bytes₀ s₀ ring nodes rims cells bytes s =
+    Reached s ring nodes rims × (length ring ≡ 120) × (length nodes ≡ 3072) × (length rims ≡ 1536) × (length bytes ≡ 512) × (length cells ≡ 496)
 
 abbrev μ-loop : tie.MeasureT-loop
-μ-loop ring₀ nodes₀ rims₀ bytes₀ text₀ s₀ ring nodes rims bytes text s = cond (s .ended) 0 (65537 - s .block)
+μ-loop ring₀ nodes₀ rims₀ cells₀ bytes₀ s₀ ring nodes rims cells bytes s = cond (s .ended) 0 (65537 - s .block)
 
 new-requires : tie.Need-new-requires Inv-loop μ-loop
 new-requires c κs = search needs
 
 loop-holds : tie.Need-loop-holds Inv-loop μ-loop
-loop-holds c = ((0, begun-so (c .new .result) (c .new .ensures)), refl, refl, refl, refl, refl)
+loop-holds c = (begun-so (c .new .result) (c .new .ensures), refl, refl, refl, refl, refl)
 
 goes-on-requires : tie.Need-goes-on-requires Inv-loop μ-loop
 goes-on-requires c κs = search needs
@@ -54,7 +53,7 @@ slice-aggregate-step-5 : tie.Need-slice-aggregate-step-5 Inv-loop μ-loop
 slice-aggregate-step-5 c = sym (c .before .before .before .before .before .before .before .before .before .before .loop .inv .5)
 
 step-requires : tie.Need-step-requires Inv-loop μ-loop
-step-requires c κs = let l = c .before .before .before .before .before .before .before .before .before .before .loop in can-step _ _ _ _ _ (l .inv .0 .1) (l .text) (l .inv .5)
+step-requires c κs = let l = c .before .before .before .before .before .before .before .before .before .before .loop in (can-step _ _ _ _ (l .inv .0), l .inv .5)
 
 loop-less : tie.Need-loop-less Inv-loop μ-loop
 loop-less c =
@@ -65,7 +64,7 @@ loop-less c =
     let p = c .before .before .before .before .before .step in
     let b = take (q .result) (q .last .1 .0) in
     let h : length b ≤ 512 = omega (arith, length-take (q .result) (q .last .1 .0), q .ensures) in
-    falls (l .s) (l .ring) (l .nodes) (l .rims) (l .inv .0 .0) (l .inv .0 .1) e b (p .ensures .1) (p .result .state) (p .ensures .0 .state)
+    falls (l .s) (l .ring) (l .nodes) (l .rims) (l .inv .0) e b (p .ensures .1) (p .result .state) (p .ensures .0 .state)
 
 loop-again : tie.Need-loop-again Inv-loop μ-loop
 loop-again c =
@@ -76,7 +75,7 @@ loop-again c =
     let p = c .before .before .before .before .before .step in
     let b = take (q .result) (q .last .1 .0) in
     let h : length b ≤ 512 = omega (arith, length-take (q .result) (q .last .1 .0), q .ensures) in
-    ((l .inv .0 .0 + p .result .count, turned (l .s) (l .ring) (l .nodes) (l .rims) (l .inv .0 .0) (l .inv .0 .1) e b (p .ensures .1) h (p .result) _ _ _ _ _ (p .ensures .0)), p .kept .1 .1 .0 ∙ l .inv .1, p .kept .1 .1 .1 .0 ∙ l .inv .2, p .kept .1 .1 .1 .1 .0 ∙ l .inv .3, q .kept .1 .0 ∙ l .inv .4, p .kept .1 .1 .1 .1 .1 .0 ∙ l .inv .5)
+    (turned (l .s) (l .ring) (l .nodes) (l .rims) (l .inv .0) e b (p .ensures .1) h (p .result) _ _ _ _ (p .ensures .0), p .kept .1 .1 .0 ∙ l .inv .1, p .kept .1 .1 .1 .0 ∙ l .inv .2, p .kept .1 .1 .1 .1 .0 ∙ l .inv .3, q .kept .1 .0 ∙ l .inv .4, p .kept .1 .1 .1 .1 .1 .0 ∙ l .inv .5)
 
 slice-aggregate-print-sheet : tie.Need-slice-aggregate-print-sheet Inv-loop μ-loop
 slice-aggregate-print-sheet c = sym (c .before .before .before .loop .inv .2)
@@ -84,7 +83,7 @@ slice-aggregate-print-sheet c = sym (c .before .before .before .loop .inv .2)
 print-sheet-requires : tie.Need-print-sheet-requires Inv-loop μ-loop
 print-sheet-requires c κs =
     let l = c .before .before .before .loop in
-    listed (l .s) (l .ring) (l .nodes) (l .rims) (l .inv .0 .0) (l .inv .0 .1) (not-false (l .s .ended) (sym (c .before .before .goes-on .ensures) ∙ c .before .if1 .left))
+    listed (l .s) (l .ring) (l .nodes) (l .rims) (l .inv .0) (not-false (l .s .ended) (sym (c .before .before .goes-on .ensures) ∙ c .before .if1 .left))
 
 returns : tie.Need-returns Inv-loop μ-loop
 returns c = search needs

@@ -4,10 +4,10 @@ use mathlib.Core.Path.{refl}
 use native.Mathlib.Omega.{arith}
 use lib.ListN.{length}
 use borrow.Author.Needs.{needs}
-use Rattle.job.proofs.Rows.{row-refused, row-accepted, has-room, has-both, printed-as, part-length}
+use Rattle.told.proofs.Rows.{row-refused, row-accepted, has-room, has-both, printed-as, part-length}
 use Rattle.report.specs.Report as Report
-use Rattle.job.proofs.print_row.Statement.{statement}
-use Rattle.job.proofs.print_row.Tie as tie
+use Rattle.told.proofs.print_row.Statement.{statement}
+use Rattle.told.proofs.print_row.Tie as tie
 
 print-refused-ring-requires : tie.Need-print-refused-ring-requires
 print-refused-ring-requires c κs = search needs

@@ -1,0 +1,2 @@
+-- The text of what a step tells.
+pub mod Text
