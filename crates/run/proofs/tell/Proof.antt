@@ -1,48 +1,48 @@
--- `tell` meets its contract: the text in front of the list is that of what was told.
-use Prim.Native.Nat.{ℕ}
-use mathlib.Core.Path.{sym, ap, subst}
-use mathlib.Core.List.{List}
+-- `tell` meets its contract: where nothing was told there is no text.
+use mathlib.Core.Path.{ap}
 use lib.ListN.{length}
-use Rattle.report.specs.Report.{mostText}
-use Rattle.told.proofs.Rows.{in-front, part-length}
-use Rattle.run.specs.Reached.{Owed}
+use Rattle.told.proofs.Rows.{tells-nothing}
 use native.Mathlib.Omega.{arith}
 use borrow.Author.Needs.{needs}
 use Rattle.run.proofs.tell.Statement.{statement}
 use Rattle.run.proofs.tell.Tie as tie
 
-slice-aggregate-print : tie.Need-slice-aggregate-print
-slice-aggregate-print c = search needs
+enum-told : tie.Need-enum-told
+enum-told c = search needs
 
-print-requires : tie.Need-print-requires
-print-requires c κs = search needs
+enum-told-2 : tie.Need-enum-told-2
+enum-told-2 c = search needs
 
-array-share-prefix-text : tie.Need-array-share-prefix-text
-array-share-prefix-text c = search needs
+write-told-requires : tie.Need-write-told-requires
+write-told-requires c κs = search needs
 
-slice-aggregate-send : tie.Need-slice-aggregate-send
-slice-aggregate-send c = let p = c .before .before .print in part-length (p .result) mostText _ (p .kept .1 .1 .0) (p .ensures .room)
+enum-told-3 : tie.Need-enum-told-3
+enum-told-3 c = search needs
 
-send-requires : tie.Need-send-requires
-send-requires c κs =
-    let s = c .before .before .before .before .before in
-    let p = c .before .before .print in
-    let e = in-front _ _ _ _ (p .ensures) in
-    (subst (λ (t : List ℕ). Owed (s .args .sent) t) (sym e) (s .pre .0), omega (arith, p .ensures .bytes, p .ensures .room, ap length e))
+write-told-requires-2 : tie.Need-write-told-requires-2
+write-told-requires-2 c κs = search needs
 
 returns : tie.Need-returns
 returns c =
-    let p = c .before .before .before .print in
-    let e = in-front _ _ _ _ (p .ensures) in
-    λ h. record { count = omega (arith, ap length e, c .send .ensures h); short = omega (arith, p .ensures .bytes, p .ensures .room) }
+    let a = c .before .before .before .args in
+    let e = ap length (tells-nothing (a .told) (a .cells .now) (c .enum-told .given .1)) in
+    λ _. record { count = omega (arith, e); short = omega (arith, e) }
+
+returns-2 : tie.Need-returns-2
+returns-2 c = search needs
+
+returns-3 : tie.Need-returns-3
+returns-3 c = search needs
 
 pub tell-spec : {M : Type 1} → statement M
 tell-spec =
     tie.close
     (tie.spec
-    slice-aggregate-print
-    print-requires
-    array-share-prefix-text
-    slice-aggregate-send
-    send-requires
-    returns)
+    enum-told
+    enum-told-2
+    write-told-requires
+    enum-told-3
+    write-told-requires-2
+    returns
+    returns-2
+    returns-3)
