@@ -1,6 +1,6 @@
 -- Claim: `printed` of an input is what a loop writes that reads, steps and writes until the run has ended, where each read gives the next 512 bytes or what is left.
 -- The run of every input ends, at the latest with the first read that gives less than a block (`ended`) and, of bytes, with read 65,537 (`in-time`); and wherever it
--- has ended, the text so far is `printed` (`prints`).
+-- has ended, it is the whole run (`settles`), and the text so far is `printed` (`prints`).
 use Prim.Native.Nat.{ℕ, zero, suc, _+_, _-_, _*_, _/_, _≤_, _<_}
 use mathlib.Core.Path.{_≡_, refl, sym, ap, _∙_, subst}
 use mathlib.Core.Bool.{true, false}
@@ -10,7 +10,7 @@ use native.Mathlib.Omega.{arith}
 use native.Mathlib.Decide.{decLe}
 use native.Mathlib.Numerals.{add-one}
 use lib.ListN.{length, drop, take, length-drop, length-take}
-use Rattle.job.specs.Run.{Bytes, Course, onward, ran, blockAt, readTo, printed}
+use Rattle.job.specs.Run.{Bytes, Course, onward, ran, blockAt, readTo, wholeRun, printed}
 use Rattle.job.proofs.Runs.{known, not-both, stays, short-ends, numbered, block-bytes}
 
 module _ (l : List ℕ) where
@@ -38,13 +38,18 @@ module _ (l : List ℕ) where
     later : (m : ℕ) → n ≤ m → ran (readTo l m) ≡ ran (readTo l n)
     later m h = let q : (m - n) + n ≡ m = omega arith in subst (λ (k : ℕ). ran (readTo l k) ≡ ran (readTo l n)) q (settled (m - n))
 
-  pub prints : (n : ℕ) → ran (readTo l n) .state .ended ≡ true → ran (readTo l n) .text ≡ printed l
-  unfolding printed
-  prints n e = ap (λ (r : Course). r .text) (go (decLe n (length l / 512 + 1)))
+  -- and wherever it has ended, it is the whole run
+  pub settles : (n : ℕ) → ran (readTo l n) .state .ended ≡ true → ran (readTo l n) ≡ wholeRun l
+  unfolding wholeRun
+  settles n e = go (decLe n (length l / 512 + 1))
     where
       go : Dec (n ≤ length l / 512 + 1) → ran (readTo l n) ≡ ran (readTo l (length l / 512 + 1))
       go (yes h) = sym (later n e (length l / 512 + 1) h)
       go (no h) = later (length l / 512 + 1) ended n (omega arith)
+
+  pub prints : (n : ℕ) → ran (readTo l n) .state .ended ≡ true → ran (readTo l n) .text ≡ printed l
+  unfolding printed
+  prints n e = ap (λ (r : Course). r .text) (settles n e)
 
   first-number : ran (readTo l 0) .state .block ≡ 0
   unfolding ran readTo

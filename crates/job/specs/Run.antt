@@ -53,6 +53,9 @@ unfoldable pub readTo : List ℕ → ℕ → List (List ℕ)
 readTo l zero = []
 readTo l (suc i) = blockAt l i ∷ readTo l i
 
--- "blocks one at a time, each in full before the next is read", up to the first read that gives less than a block
+-- "blocks one at a time, each in full before the next is read", up to the first read that gives less than a block; and what is printed
+unfoldable pub wholeRun : List ℕ → Course
+wholeRun l = ran (readTo l (length l / 512 + 1))
+
 unfoldable pub printed : List ℕ → List ℕ
-printed l = ran (readTo l (length l / 512 + 1)) .text
+printed l = wholeRun l .text

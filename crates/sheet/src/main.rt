@@ -1,35 +1,71 @@
 // Sheet: the program that prints the cell sheet of a job. Job blocks on standard input, as `divide` reads them; on standard
 // output a line for each node that `divide` would list, in the order of their numbers.
 //
-// The blocks are stepped over as in run, and what the steps tell is dropped. What is printed are the nodes of a run that
-// has ended, which `print_sheet` asks for. The lines are written one at a time: a whole sheet would not fit the controller.
+// The blocks are stepped over as in run, and what the steps tell is dropped. `sheeted`, in specs/Sheeted, says what comes out
+// for every input: the loop's invariant is that as many bytes were written as the lines so far have, and the line that is
+// handed over is the next node's. The lines are written one at a time: a whole sheet would not fit the controller.
 
 ghost use mathlib.Core.Path.{_≡_};
+ghost use mathlib.Core.Bool.{false};
+ghost use Prim.Native.Nat.{_+_};
+ghost use lib.ListN.{length};
+ghost use Rattle.listing.specs.Sheet as Sheet;
 ghost use Rattle.run.specs.Reached.{EndedWith};
+ghost use Rattle.sheet.specs.Sheeted.{Owed, Finished};
 use job::State;
 use libc::STDERR_FILENO;
 use libc::STDIN_FILENO;
 use libc::STDOUT_FILENO;
+use run::Sent;
+
+// Writes the line that is owed after `sent` bytes.
+fn send(line: &[u8], sent: u64) -> Sent
+    requires { ⌜ Owed sent (now line) ⌝ }
+    ensures { λ r. ⌜ (r .failed ≡ false → r .bytes ≡ sent + length (now (line .entry))) ⌝ }
+{
+    if run::write_all(STDOUT_FILENO, line) {
+        return Sent {
+            bytes: sent + line.len() as u64,
+            failed: false,
+        };
+    }
+    Sent {
+        bytes: sent,
+        failed: true,
+    }
+}
 
 // Writes the lines of the first `used` nodes. That a run's nodes are in range is not proved here but tested once.
-fn print_sheet(nodes: &[f64], used: usize) -> bool
+fn print_sheet(nodes: &[f64], used: usize) -> Sent
     requires { ⌜ EndedWith used (now nodes) ⌝ }
+    ensures { λ r. ⌜ (r .failed ≡ false → r .bytes ≡ length (Sheet.lines (now (nodes .entry)) used)) ⌝ }
 {
+    let mut sent: u64 = 0;
     if listing::nodes_out(nodes, used) {
-        return false;
+        return Sent {
+            bytes: sent,
+            failed: true,
+        };
     }
     for i in 0..used {
         let mut line = [0u8; 65];
         listing::put_line(&mut line, 0, nodes, i);
-        if !run::write_all(STDOUT_FILENO, &line) {
-            return false;
+        let out = send(&line, sent);
+        if out.failed {
+            return out;
         }
+        sent = out.bytes;
     }
-    true
+    Sent {
+        bytes: sent,
+        failed: false,
+    }
 }
 
 // Runs the job and prints the sheet of the nodes that it leaves.
-fn list_job() -> bool {
+fn list_job() -> Sent
+    ensures { λ r. ⌜ (r .failed ≡ false → Finished (r .bytes)) ⌝ }
+{
     let mut ring = [0i32; 120];
     let mut nodes = [0.0f64; 3072];
     let mut rims = [0u8; 1536];
@@ -53,7 +89,8 @@ fn list_job() -> bool {
 }
 
 fn main() {
-    if !list_job() {
+    let sent = list_job();
+    if sent.failed {
         run::write_all(STDERR_FILENO, b"sheet: standard output failed\n");
     }
 }

@@ -89,7 +89,7 @@ in-divider = tt
 
 -- the program: blocks, the call over lent lists, the printed lines, and the run
 unfoldable pub in-program : Unit {0}
-unfolding Table.tab Fields.pair Fields.word Fields.signed Fields.coordinate Fields.checkTo Fields.anyUsed Blocks.headWrong Blocks.sizeWrong Blocks.unusedWrong Blocks.refusal Blocks.refusedBlock Blocks.acceptedBlock Blocks.readBlock NodesFlat.nodesIn QuadsFlat.overCells Lent.divideLent Text.bytes Text.digits Text.decimal Text.marks Text.part Text.filledTo Text.filled Report.hundredths Report.ringLine Report.nodesLine Report.quadLine Report.quadLines Report.ringText Report.refusedRing Report.refusedBlock Told.rowText Told.toldText Step.ends Step.waits Step.divides Step.taken Step.stepOf Run.onward Run.ran Run.readTo Run.printed
+unfolding Table.tab Fields.pair Fields.word Fields.signed Fields.coordinate Fields.checkTo Fields.anyUsed Blocks.headWrong Blocks.sizeWrong Blocks.unusedWrong Blocks.refusal Blocks.refusedBlock Blocks.acceptedBlock Blocks.readBlock NodesFlat.nodesIn QuadsFlat.overCells Lent.divideLent Text.bytes Text.digits Text.decimal Text.marks Text.part Text.filledTo Text.filled Report.hundredths Report.ringLine Report.nodesLine Report.quadLine Report.quadLines Report.ringText Report.refusedRing Report.refusedBlock Told.rowText Told.toldText Step.ends Step.waits Step.divides Step.taken Step.stepOf Run.onward Run.ran Run.readTo Run.wholeRun Run.printed
 in-program = tt
 
 unfoldable pub computing : Unit {0}

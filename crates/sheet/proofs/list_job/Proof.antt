@@ -1,4 +1,4 @@
--- `list_job` ends, and prints the nodes of a run that has ended. The loop's invariant: the state, the ring that waits, the nodes and their rim marks were reached by the bytes read so far.
+-- `list_job` meets its contract: it prints the nodes of a run that has ended. The loop's invariant: the state, the ring that waits, the nodes and their rim marks were reached by the bytes read so far.
 use Prim.Native.Nat.{_-_, _≤_}
 use mathlib.Core.Path.{_≡_, refl, sym, _∙_}
 use mathlib.Core.Bool.{cond}
@@ -7,6 +7,7 @@ use borrow.Author.Tests.{not-true, not-false}
 use Rattle.told.proofs.Rows.{part-length}
 use Rattle.run.specs.Reached.{Reached}
 use Rattle.run.proofs.Reaching.{begun-so, can-step, listed, falls, turned}
+use Rattle.sheet.proofs.Lines.{finished}
 use borrow.Author.Needs.{needs}
 use native.Mathlib.Omega.{arith}
 use Rattle.sheet.proofs.list_job.Statement.{statement}
@@ -86,7 +87,10 @@ print-sheet-requires c κs =
     listed (l .s) (l .ring) (l .nodes) (l .rims) (l .inv .0) (not-false (l .s .ended) (sym (c .before .before .goes-on .ensures) ∙ c .before .if1 .left))
 
 returns : tie.Need-returns Inv-loop μ-loop
-returns c = search needs
+returns c =
+    let l = c .before .before .before .before .loop in
+    let w = listed (l .s) (l .ring) (l .nodes) (l .rims) (l .inv .0) (not-false (l .s .ended) (sym (c .before .before .before .goes-on .ensures) ∙ c .before .before .if1 .left)) in
+    λ e. finished (l .s .used) (l .nodes) (c .print-sheet .result .bytes) w (c .print-sheet .ensures e)
 
 pub list-job-spec : {M : Type 1} → statement M
 list-job-spec =

@@ -1,29 +1,35 @@
--- `print_sheet` ends and stays within its lists: the test gives what a line asks for.
-use Prim.Native.Nat.{_-_, _≤_}
-use mathlib.Core.Path.{_≡_, sym, _∙_}
-use native.Mathlib.Omega.{arith}
-use borrow.Author.Needs.{needs}
+-- `print_sheet` meets its contract. The loop's invariant: as many bytes were written as the lines of the first i nodes have. The test gives what a line asks for.
+use Prim.Native.Nat.{ℕ, _-_, _≤_}
+use mathlib.Core.Path.{_≡_, refl, sym, ap, _∙_}
+use mathlib.Core.Bool.{true}
+use lib.ListN.{length}
 use Rattle.nodes.specs.Flat.{Usable}
+use Rattle.listing.specs.Sheet.{lines}
 use Rattle.listing.proofs.Tests.{usable}
+use Rattle.job.proofs.Runs.{not-both}
+use Rattle.run.specs.Reached.{EndedWith}
+use Rattle.sheet.proofs.Lines.{whole-line, none-written, more-lines}
+use borrow.Author.Needs.{needs}
+use native.Mathlib.Omega.{arith}
 use Rattle.sheet.proofs.print_sheet.Statement.{statement}
 use Rattle.sheet.proofs.print_sheet.Tie as tie
 
 abbrev Inv-loop : tie.InvT-loop
-Inv-loop nodes used i₀ i = (i ≤ used) × Usable nodes used
+Inv-loop nodes used sent₀ i₀ sent i = (i ≤ used) × Usable nodes used × (sent ≡ length (lines nodes i)) × EndedWith used nodes
 
 abbrev μ-loop : tie.MeasureT-loop
-μ-loop nodes used i₀ i = used - i
+μ-loop nodes used sent₀ i₀ sent i = used - i
 
 nodes-out-requires : tie.Need-nodes-out-requires Inv-loop μ-loop
 nodes-out-requires c κs = search needs
 
 returns : tie.Need-returns Inv-loop μ-loop
-returns c = search needs
+returns c = λ e. not-both true refl e
 
 loop-holds : tie.Need-loop-holds Inv-loop μ-loop
 loop-holds c =
-    let s = c .before .before .before .args in
-    (search needs, usable (s .nodes .now) (s .used) (sym (c .before .nodes-out .ensures) ∙ c .if1 .left))
+    let s = c .before .before .before in
+    (search needs, usable (s .args .nodes .now) (s .args .used) (sym (c .before .nodes-out .ensures) ∙ c .if1 .left), none-written (s .args .nodes .now), s .pre)
 
 slice-aggregate-put-line : tie.Need-slice-aggregate-put-line Inv-loop μ-loop
 slice-aggregate-put-line c = search needs
@@ -35,14 +41,21 @@ put-line-requires c κs =
     let h = c .before .loop-test .taken in
     (omega (arith, u .few, h), omega (arith, u .room, h), u .ranged (l .i) h .0, u .ranged (l .i) h .1, search needs)
 
-slice-aggregate-write-all : tie.Need-slice-aggregate-write-all Inv-loop μ-loop
-slice-aggregate-write-all c = search needs
+slice-aggregate-send : tie.Need-slice-aggregate-send Inv-loop μ-loop
+slice-aggregate-send c = sym (c .before .before .put-line .kept .0)
 
-write-all-requires : tie.Need-write-all-requires Inv-loop μ-loop
-write-all-requires c κs = search needs
+send-requires : tie.Need-send-requires Inv-loop μ-loop
+send-requires c κs =
+    let a = c .before .before .before .before .before .before .before .before .before .args in
+    let l = c .before .before .before .before .before .loop in
+    let u = l .inv .1 in
+    let h = c .before .before .before .before .loop-test .taken in
+    let p = c .before .before .put-line in
+    let t = whole-line (a .nodes .now) (l .i) (omega (arith, u .few, h)) _ _ _ (p .ensures) (p .kept .0) in
+    record { nodes = a .nodes .now; used = a .used; number = l .i; ended = l .inv .3; below = h; few = u .few; wrote = l .inv .2; text = t }
 
 returns-2 : tie.Need-returns-2 Inv-loop μ-loop
-returns-2 c = search needs
+returns-2 c = λ e. not-both (c .before .send .result .failed) (c .if2 .taken) e
 
 add-i : tie.Need-add-i Inv-loop μ-loop
 add-i c = search needs
@@ -51,10 +64,21 @@ loop-less : tie.Need-loop-less Inv-loop μ-loop
 loop-less c = search needs
 
 loop-again : tie.Need-loop-again Inv-loop μ-loop
-loop-again c = (search needs, c .before .before .before .before .before .before .before .loop .inv .1)
+loop-again c =
+    let a = c .before .before .before .before .before .before .before .before .before .before .before .args in
+    let l = c .before .before .before .before .before .before .before .loop in
+    let u = l .inv .1 in
+    let h = c .before .before .before .before .before .before .loop-test .taken in
+    let p = c .before .before .before .before .put-line in
+    let t = whole-line (a .nodes .now) (l .i) (omega (arith, u .few, h)) _ _ _ (p .ensures) (p .kept .0) in
+    (search needs, u, more-lines (a .nodes .now) (l .i) (l .sent) (c .before .send .result .bytes) _ (l .inv .2) t (c .before .send .ensures (c .if2 .left)), l .inv .3)
 
 returns-3 : tie.Need-returns-3 Inv-loop μ-loop
-returns-3 c = search needs
+returns-3 c =
+    let l = c .before .loop in
+    let a = c .before .before .before .before .before .args in
+    let e : l .i ≡ a .used = omega arith in
+    λ _. l .inv .2 ∙ ap (λ (k : ℕ). length (lines (a .nodes .now) k)) e
 
 pub print-sheet-spec : {M : Type 1} → statement M
 print-sheet-spec =
@@ -67,8 +91,8 @@ print-sheet-spec =
     loop-holds
     slice-aggregate-put-line
     put-line-requires
-    slice-aggregate-write-all
-    write-all-requires
+    slice-aggregate-send
+    send-requires
     returns-2
     add-i
     loop-less

@@ -1,0 +1,2 @@
+-- Laws of the sheet's loop.
+pub mod Lines

@@ -1,0 +1,2 @@
+-- What `sheet` prints, owes and has finished.
+pub mod Sheeted
