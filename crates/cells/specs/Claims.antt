@@ -8,6 +8,7 @@ use Rattle.laws.specs.All.{All}
 use Rattle.vector.specs.declared.Point.{Point}
 use Rattle.vector.specs.Grid.{origin}
 use Rattle.vector.specs.Size.{OnSheet}
+use Rattle.vector.specs.Rings.{mostPoints}
 use Rattle.marks.specs.declared.EdgeMark.the-variants.{Snap}
 use Rattle.marks.specs.Part.{Part, noPart}
 use Rattle.nodes.specs.Growth.{InRange}
@@ -20,7 +21,7 @@ use Rattle.cells.specs.Stages.{end, markAt, firstNodes}
 -- ---- what a piece brings: at most 60 corners, on the sheet, and snap points that are finite and within 1,024 mm
 pub record ValidPiece (p : Part) : Type 0 where
   pub some : 0 < length (p .points)
-  pub few : length (p .points) ≤ 60
+  pub few : length (p .points) ≤ mostPoints
   pub corner : (i : ℕ) → i < length (p .points) → OnSheet (getD (p .points) i origin)
   pub snap : (i : ℕ) (q : Point) → i < length (p .points) → markAt p i ≡ Snap q → InRange q
 

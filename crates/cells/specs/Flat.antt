@@ -1,20 +1,20 @@
--- A piece as the code has it: arrays whose first n places hold its corners and its marks, the lent node list of nodes'
--- Flat, and a lent list that holds a cell as four numbers; what the functions ask of these, and what they answer.
--- Definitions only.
+-- A piece as the code has it, the value of a marked ring; the lent node list of nodes' Flat, and a lent list that holds a
+-- cell as four numbers; what the functions ask of these, and what they answer. Definitions only.
 use Prim.Native.Nat.{ℕ, zero, suc, _+_, _*_, _%_, _≤_, _<_}
 use mathlib.Core.Bool.{Bool, false, cond}
 use mathlib.Core.Path.{_≡_}
 use mathlib.Core.List.{List}
 use lib.ListN.{length, getD, set, take}
 use lib.Ieee.{Float}
-use Rattle.vector.specs.declared.GridPoint.{GridPoint}
+use Rattle.vector.specs.declared.Ring.{Ring}
 use Rattle.vector.specs.declared.Point.{Point}
 use Rattle.vector.specs.Grid.{origin}
 use Rattle.vector.specs.Plane.{inMm}
+use Rattle.vector.specs.Rings.{mostPoints, pointsOf, OnSheetRing}
 use Rattle.marks.specs.declared.Edge.{Edge}
 use Rattle.marks.specs.declared.EdgeMark.the-variants.{Straight}
-use Rattle.marks.specs.Part.{Part}
-use Rattle.marks.specs.Edges.{marksIn}
+use Rattle.marks.specs.declared.MarkedRing.{MarkedRing}
+use Rattle.marks.specs.Edges.{marksIn, partIn}
 use Rattle.nodes.specs.Nodes.{mostPlaces, nodeAt, addNodes}
 use Rattle.nodes.specs.Growth.{InRange}
 use Rattle.nodes.specs.Flat.{nodesIn, over, Usable}
@@ -25,20 +25,16 @@ use Rattle.cells.specs.Stages.{markAt}
 use Rattle.cells.specs.Claims.{ValidPiece}
 use Rattle.cells.specs.Asks.{Ask, attemptAsks, subdivideAsks}
 
--- ---- the piece that arrays hold
-abbrev pub partIn : List GridPoint → List Edge → ℕ → Part
-partIn ps es n = record { points = take n ps; edges = marksIn es n }
-
--- its corner i, in mm
-abbrev pub cornerAt : List GridPoint → ℕ → ℕ → Point
-cornerAt ps n i = inMm (getD (take n ps) i origin)
+-- ---- corner i of a piece, in mm
+abbrev pub cornerAt : Ring → ℕ → Point
+cornerAt r i = inMm (getD (pointsOf r) i origin)
 
 -- ---- points added to the list l of u nodes
 -- p 0 .. p (n - 1) are in range, and there is room for those that are new
 pub record CanAdd (l : List Float) (u : ℕ) (p : ℕ → Point) (n : ℕ) : Type 0 where
   pub usable : Usable l u
   pub some : 0 < n
-  pub few : n ≤ 60
+  pub few : n ≤ mostPoints
   pub ranged : (j : ℕ) → j < n → InRange (p j)
   pub fits : length (addNodes (nodesIn l u) p n .nodes) ≤ mostPlaces
   pub room : length (addNodes (nodesIn l u) p n .nodes) * 2 ≤ length l
@@ -46,7 +42,7 @@ pub record CanAdd (l : List Float) (u : ℕ) (p : ℕ → Point) (n : ℕ) : Typ
 -- they have been added: the list is now m, with v nodes, and the first n of ks are their numbers
 pub record Adds (l : List Float) (u : ℕ) (p : ℕ → Point) (n : ℕ) (m : List Float) (v : ℕ) (ks : List ℕ) : Type 0 where
   pub numbers : take n ks ≡ addNodes (nodesIn l u) p n .numbers
-  pub long : length ks ≡ 60
+  pub long : length ks ≡ mostPoints
   pub used : v ≡ length (addNodes (nodesIn l u) p n .nodes)
   pub nodes : m ≡ over l (addNodes (nodesIn l u) p n .nodes)
 
@@ -79,39 +75,37 @@ abbrev pub sideAt : List Bool → ℕ → Bool
 sideAt bs i = getD bs i false
 
 -- ---- an attempt
-abbrev pub attemptIn : Float → List Float → ℕ → List GridPoint → List Edge → ℕ → Attempt
-attemptIn share l u ps es n = attempt share (nodesIn l u) (take n ps) (markAt (partIn ps es n))
+abbrev pub attemptIn : Float → List Float → ℕ → MarkedRing → Attempt
+attemptIn share l u piece = attempt share (nodesIn l u) (pointsOf (piece .ring)) (markAt (partIn piece))
 
 abbrev pub triedOf : Attempt → Tried
 triedOf t = record { used = length (t .nodes); fails = t .fails; far = t .far }
 
 -- what it asks for, bs saying which edges are ring edges
-abbrev pub attemptAsksIn : Float → List Float → ℕ → List GridPoint → List Edge → List Bool → ℕ → List Ask
-attemptAsksIn share l u ps es bs n = attemptAsks share (nodesIn l u) (take n ps) (markAt (partIn ps es n)) (sideAt bs)
+abbrev pub attemptAsksIn : Float → List Float → ℕ → MarkedRing → List Bool → List Ask
+attemptAsksIn share l u piece bs = attemptAsks share (nodesIn l u) (pointsOf (piece .ring)) (markAt (partIn piece)) (sideAt bs)
 
 -- a fair piece, with room for the nodes of one attempt
-pub record CanTry (share : Float) (l : List Float) (u : ℕ) (ps : List GridPoint) (es : List Edge) (n : ℕ) : Type 0 where
+pub record CanTry (share : Float) (l : List Float) (u : ℕ) (piece : MarkedRing) : Type 0 where
   pub usable : Usable l u
-  pub some : 0 < n
-  pub few : n ≤ 60
-  pub long : length ps ≡ 60
-  pub fair : ValidPiece (partIn ps es n)
-  pub fits : length (attemptIn share l u ps es n .nodes) ≤ mostPlaces
-  pub room : length (attemptIn share l u ps es n .nodes) * 2 ≤ length l
+  pub some : 0 < piece .ring .count
+  pub sheet : OnSheetRing (piece .ring)
+  pub fair : ValidPiece (partIn piece)
+  pub fits : length (attemptIn share l u piece .nodes) ≤ mostPlaces
+  pub room : length (attemptIn share l u piece .nodes) * 2 ≤ length l
 
 -- ---- a piece
-abbrev pub subdivideIn : Float → List Float → ℕ → List GridPoint → List Edge → ℕ → Attempt
-subdivideIn share l u ps es n = subdivide share (nodesIn l u) (partIn ps es n)
+abbrev pub subdivideIn : Float → List Float → ℕ → MarkedRing → Attempt
+subdivideIn share l u piece = subdivide share (nodesIn l u) (partIn piece)
 
-abbrev pub subdivideAsksIn : Float → List Float → ℕ → List GridPoint → List Edge → List Bool → ℕ → List Ask
-subdivideAsksIn share l u ps es bs n = subdivideAsks share (nodesIn l u) (partIn ps es n) (sideAt bs)
+abbrev pub subdivideAsksIn : Float → List Float → ℕ → MarkedRing → List Bool → List Ask
+subdivideAsksIn share l u piece bs = subdivideAsks share (nodesIn l u) (partIn piece) (sideAt bs)
 
 -- a fair piece, with room for the nodes of all attempts that are made
-pub record CanSubdividePiece (share : Float) (l : List Float) (u : ℕ) (ps : List GridPoint) (es : List Edge) (n : ℕ) : Type 0 where
+pub record CanSubdividePiece (share : Float) (l : List Float) (u : ℕ) (piece : MarkedRing) : Type 0 where
   pub usable : Usable l u
-  pub some : 0 < n
-  pub few : n ≤ 60
-  pub long : length ps ≡ 60
-  pub fair : ValidPiece (partIn ps es n)
-  pub fits : length (subdivideIn share l u ps es n .nodes) ≤ mostPlaces
-  pub room : length (subdivideIn share l u ps es n .nodes) * 2 ≤ length l
+  pub some : 0 < piece .ring .count
+  pub sheet : OnSheetRing (piece .ring)
+  pub fair : ValidPiece (partIn piece)
+  pub fits : length (subdivideIn share l u piece .nodes) ≤ mostPlaces
+  pub room : length (subdivideIn share l u piece .nodes) * 2 ≤ length l

@@ -8,6 +8,7 @@ ghost use mathlib.Core.Path.{_≡_};
 ghost use Prim.Native.Nat.{ℕ, _-_, _*_, _≤_};
 ghost use lib.ListN.{length, take};
 ghost use Rattle.laws.specs.Bounded.{any};
+ghost use Rattle.vector.specs.Rings.{mostPoints, OnSheetRing};
 ghost use Rattle.nodes.specs.Flat.{over};
 ghost use Rattle.nodes.specs.Nearby.{ValidNearby};
 ghost use Rattle.cells.specs.Asks.{asksFor};
@@ -17,20 +18,22 @@ ghost use Rattle.cells.specs.Flat.{CanAdd, Adds, cornerAt, middleAt, far
 ghost use Rattle.cells.specs.Flat.{cleared, setAt, sideAt, attemptAsksIn, subdivideAsksIn};
 use marks::Edge;
 use marks::EdgeMark;
+use marks::MarkedRing;
 use nodes::Nearby;
 use nodes::NodeNumber;
-use vector::GridPoint;
+use vector::MOST_POINTS;
 use vector::Point;
+use vector::Ring;
 
 // The numbers that the points of a piece have got, and how many nodes are then used.
 struct Numbers {
-    pub list: [NodeNumber; 60],
+    pub list: [NodeNumber; MOST_POINTS],
     pub used: usize,
 }
 
 // The same of edge middles, and whether a snap was too far.
 struct MiddleNumbers {
-    pub list: [NodeNumber; 60],
+    pub list: [NodeNumber; MOST_POINTS],
     pub used: usize,
     pub far: bool,
 }
@@ -46,19 +49,19 @@ pub struct Tried {
 fn add_corners(
     nodes: &mut [f64],
     used: usize,
-    points: [GridPoint; 60],
-    n: usize,
+    ring: Ring,
     near: Nearby,
     numbers: &[NodeNumber],
     xs: &[f64],
 ) -> Numbers
-    requires { ⌜ CanAdd (now nodes) used (cornerAt points n) n × ValidNearby (now nodes) used near (now numbers) (now xs) ⌝ }
-    ensures { λ r. ⌜ Adds (now (nodes .entry)) used (cornerAt points n) n (now (nodes .exit)) (r .used) (r .list) ⌝ }
+    requires { ⌜ CanAdd (now nodes) used (cornerAt ring) (ring .count) × OnSheetRing ring × ValidNearby (now nodes) used near (now numbers) (now xs) ⌝ }
+    ensures { λ r. ⌜ Adds (now (nodes .entry)) used (cornerAt ring) (ring .count) (now (nodes .exit)) (r .used) (r .list) ⌝ }
 {
-    let mut list = [0; 60];
+    let n = ring.count;
+    let mut list = [0; MOST_POINTS];
     let mut at = used;
     for i in 0..n {
-        let p = points[i];
+        let p = ring.points[i];
         let r = numbering::add_node(nodes, at, Point::new(p), near, numbers, xs);
         list[i] = r.number;
         at = r.used;
@@ -73,8 +76,8 @@ fn add_corners(
 fn add_middles(
     nodes: &mut [f64],
     used: usize,
-    vs: [NodeNumber; 60],
-    marks: [Edge; 60],
+    vs: [NodeNumber; MOST_POINTS],
+    marks: [Edge; MOST_POINTS],
     n: usize,
     share: f64,
     near: Nearby,
@@ -85,7 +88,7 @@ fn add_middles(
     ensures { λ r. ⌜ Adds (now (nodes .entry)) used (middleAt share (now (nodes .entry)) used vs marks n) n (now (nodes .exit)) (r .used) (r .list)
         × (r .far ≡ any (farAt share (now (nodes .entry)) used vs marks n) n) ⌝ }
 {
-    let mut list = [0; 60];
+    let mut list = [0; MOST_POINTS];
     let mut at = used;
     let mut far = false;
     for i in 0..n {
@@ -119,8 +122,8 @@ fn clear_rims(rims: &mut [u8], u: usize, v: usize)
 }
 
 // Those of the first n of these nodes set, where they are on the rim.
-fn set_rims(rims: &mut [u8], list: [NodeNumber; 60], on: [bool; 60], n: usize)
-    requires { ⌜ (n ≤ 60) × ListedTo (length (now rims)) list n ⌝ }
+fn set_rims(rims: &mut [u8], list: [NodeNumber; MOST_POINTS], on: [bool; MOST_POINTS], n: usize)
+    requires { ⌜ (n ≤ mostPoints) × ListedTo (length (now rims)) list n ⌝ }
     ensures { λ _. ⌜ now (rims .exit) ≡ setAt (now (rims .entry)) list on n ⌝ }
 {
     for i in 0..n {
@@ -138,16 +141,16 @@ fn mark_rims(
     rims: &mut [u8],
     u: usize,
     v: usize,
-    vs: [NodeNumber; 60],
-    ms: [NodeNumber; 60],
-    sides: [bool; 60],
+    vs: [NodeNumber; MOST_POINTS],
+    ms: [NodeNumber; MOST_POINTS],
+    sides: [bool; MOST_POINTS],
     n: usize,
 )
-    requires { ⌜ (u ≤ v) × (v ≤ length (now rims)) × (n ≤ 60) × ListedTo v vs n × ListedTo v ms n × (length vs ≡ 60) × (length ms ≡ 60) ⌝ }
+    requires { ⌜ (u ≤ v) × (v ≤ length (now rims)) × (n ≤ mostPoints) × ListedTo v vs n × ListedTo v ms n × (length vs ≡ mostPoints) × (length ms ≡ mostPoints) ⌝ }
     ensures { λ _. ⌜ ((c : ℕ) → now (rims .exit) ≡ rimsBy u v (asksFor (take n vs) (take n ms) c (sideAt sides) n) (now (rims .entry))) ⌝ }
 {
     clear_rims(rims, u, v);
-    set_rims(rims, vs, [true; 60], n);
+    set_rims(rims, vs, [true; MOST_POINTS], n);
     set_rims(rims, ms, sides, n);
 }
 
@@ -158,23 +161,24 @@ fn attempt(
     used: usize,
     rims: &mut [u8],
     cells: &mut [NodeNumber],
-    points: [GridPoint; 60],
-    marks: [Edge; 60],
-    sides: [bool; 60],
-    n: usize,
+    piece: MarkedRing,
+    sides: [bool; MOST_POINTS],
     share: f64,
     near: Nearby,
     numbers: &[NodeNumber],
     xs: &[f64],
 ) -> Tried
-    requires { ⌜ CanTry share (now nodes) used points marks n × (n * 4 ≤ length (now cells)) × ValidNearby (now nodes) used near (now numbers) (now xs)
-        × (length (attemptIn share (now nodes) used points marks n .nodes) ≤ length (now rims)) ⌝ }
-    ensures { λ r. ⌜ (r ≡ triedOf (attemptIn share (now (nodes .entry)) used points marks n))
-        × (now (nodes .exit) ≡ over (now (nodes .entry)) (attemptIn share (now (nodes .entry)) used points marks n .nodes))
-        × (now (cells .exit) ≡ overCells (now (cells .entry)) (attemptIn share (now (nodes .entry)) used points marks n .cells))
-        × (now (rims .exit) ≡ rimsBy used (length (attemptIn share (now (nodes .entry)) used points marks n .nodes)) (attemptAsksIn share (now (nodes .entry)) used points marks sides n) (now (rims .entry))) ⌝ }
+    requires { ⌜ CanTry share (now nodes) used piece × (piece .ring .count * 4 ≤ length (now cells)) × ValidNearby (now nodes) used near (now numbers) (now xs)
+        × (length (attemptIn share (now nodes) used piece .nodes) ≤ length (now rims)) ⌝ }
+    ensures { λ r. ⌜ (r ≡ triedOf (attemptIn share (now (nodes .entry)) used piece))
+        × (now (nodes .exit) ≡ over (now (nodes .entry)) (attemptIn share (now (nodes .entry)) used piece .nodes))
+        × (now (cells .exit) ≡ overCells (now (cells .entry)) (attemptIn share (now (nodes .entry)) used piece .cells))
+        × (now (rims .exit) ≡ rimsBy used (length (attemptIn share (now (nodes .entry)) used piece .nodes)) (attemptAsksIn share (now (nodes .entry)) used piece sides) (now (rims .entry))) ⌝ }
 {
-    let c = add_corners(nodes, used, points, n, near, numbers, xs);
+    let n = piece.ring.count;
+    let ring = piece.ring;
+    let marks = piece.edges;
+    let c = add_corners(nodes, used, ring, near, numbers, xs);
     let vs = c.list;
     let m = add_middles(nodes, c.used, vs, marks, n, share, near, numbers, xs);
     let ms = m.list;
@@ -196,37 +200,33 @@ pub fn subdivide(
     used: usize,
     rims: &mut [u8],
     cells: &mut [NodeNumber],
-    points: [GridPoint; 60],
-    marks: [Edge; 60],
-    sides: [bool; 60],
-    n: usize,
+    piece: MarkedRing,
+    sides: [bool; MOST_POINTS],
     share: f64,
     near: Nearby,
     numbers: &[NodeNumber],
     xs: &[f64],
 ) -> Tried
-    requires { ⌜ CanSubdividePiece share (now nodes) used points marks n × (n * 4 ≤ length (now cells)) × ValidNearby (now nodes) used near (now numbers) (now xs)
-        × (length (subdivideIn share (now nodes) used points marks n .nodes) ≤ length (now rims)) ⌝ }
-    ensures { λ r. ⌜ (r ≡ triedOf (subdivideIn share (now (nodes .entry)) used points marks n))
-        × (now (nodes .exit) ≡ over (now (nodes .entry)) (subdivideIn share (now (nodes .entry)) used points marks n .nodes))
-        × (now (cells .exit) ≡ overCells (now (cells .entry)) (subdivideIn share (now (nodes .entry)) used points marks n .cells))
-        × (now (rims .exit) ≡ rimsBy used (length (subdivideIn share (now (nodes .entry)) used points marks n .nodes)) (subdivideAsksIn share (now (nodes .entry)) used points marks sides n) (now (rims .entry))) ⌝ }
+    requires { ⌜ CanSubdividePiece share (now nodes) used piece × (piece .ring .count * 4 ≤ length (now cells)) × ValidNearby (now nodes) used near (now numbers) (now xs)
+        × (length (subdivideIn share (now nodes) used piece .nodes) ≤ length (now rims)) ⌝ }
+    ensures { λ r. ⌜ (r ≡ triedOf (subdivideIn share (now (nodes .entry)) used piece))
+        × (now (nodes .exit) ≡ over (now (nodes .entry)) (subdivideIn share (now (nodes .entry)) used piece .nodes))
+        × (now (cells .exit) ≡ overCells (now (cells .entry)) (subdivideIn share (now (nodes .entry)) used piece .cells))
+        × (now (rims .exit) ≡ rimsBy used (length (subdivideIn share (now (nodes .entry)) used piece .nodes)) (subdivideAsksIn share (now (nodes .entry)) used piece sides) (now (rims .entry))) ⌝ }
 {
     let t = attempt(
         nodes,
         used,
         rims,
         cells,
-        points,
-        marks,
+        piece,
         sides,
-        n,
         share,
         near,
         numbers,
         xs,
     );
-    if t.fails == n {
+    if t.fails == piece.ring.count {
         return t;
     }
     if t.far {
@@ -235,16 +235,18 @@ pub fn subdivide(
     let e = Edge {
         mark: EdgeMark::Straight,
     };
-    let plain = [e; 60];
+    let ring = piece.ring;
+    let plain = MarkedRing {
+        ring: ring,
+        edges: [e; MOST_POINTS],
+    };
     attempt(
         nodes,
         t.used,
         rims,
         cells,
-        points,
         plain,
         sides,
-        n,
         share,
         near,
         numbers,

@@ -1,11 +1,11 @@
 // The chain: the drawn boundary run is reduced to its corners, and each stretch kept has one snap point.
 //
 // It stands before the marks, which lay the kept stretches along the edges of the cleaned ring; its cosine also judges
-// the diagonals of the split. A chain is the first n places of an array of grid points; its lengths are in mm.
+// the diagonals of the split. A chain is held as a ring is; its lengths are in mm.
 
 ghost use mathlib.Core.Path.{_≡_};
 ghost use mathlib.Core.Bool.{false, _||_, cond};
-ghost use Prim.Native.Nat.{suc, _-_, _≤_, _<_};
+ghost use Prim.Native.Nat.{suc, _-_, _≤_};
 ghost use lib.ListN.{take, getD};
 ghost use lib.Ieee.{nan};
 ghost use Rattle.laws.specs.Double.{nat, lit, _-f_, _/f_, _<f_, _≤f_};
@@ -14,19 +14,22 @@ ghost use Rattle.laws.specs.Bounded.{first};
 ghost use Rattle.laws.specs.Table.{tab};
 ghost use Rattle.vector.specs.Grid as Grid;
 ghost use Rattle.vector.specs.Plane.{inMm, lerp};
-ghost use Rattle.vector.specs.Size.{OnSheet, Step, AllOnSheet};
+ghost use Rattle.vector.specs.Size.{OnSheet, Step};
+ghost use Rattle.vector.specs.Rings.{mostPoints, pointsOf, OnSheetRing};
 ghost use Rattle.root.specs.Norm as Norm;
 ghost use Rattle.chain.specs.Cosine as Cosine;
 ghost use Rattle.chain.specs.Chain as Chain;
 ghost use Rattle.chain.specs.Kept.{stepTo, Simplifies};
 use vector::GridPoint;
+use vector::MOST_POINTS;
 use vector::Point;
+use vector::Ring;
 
 // A simplified chain: the points kept, in the places 0 to count, and in the places below count the snap point of the
 // stretch from each to the next.
 pub struct Simplified {
-    pub points: [GridPoint; 60],
-    pub snaps: [Point; 60],
+    pub points: [GridPoint; MOST_POINTS],
+    pub snaps: [Point; MOST_POINTS],
     pub count: usize,
 }
 
@@ -47,19 +50,21 @@ pub fn cosine(a: GridPoint, na: f64, b: GridPoint, nb: f64) -> f64
 
 // The length of the step to each point of a chain, and of the chain up to it.
 struct Steps {
-    step: [f64; 60],
-    arc: [f64; 60],
+    step: [f64; MOST_POINTS],
+    arc: [f64; MOST_POINTS],
 }
 
 // Every step of the chain is measured once.
-fn measure(chain: [GridPoint; 60], n: usize) -> Steps
-    requires { ⌜ (1 ≤ n) × (n ≤ 60) × AllOnSheet chain ⌝ }
-    ensures { λ r. ⌜ (take n (r .step) ≡ tab (stepTo (take n chain)) n) × (take n (r .arc) ≡ tab (Chain.arc (take n chain)) n) ⌝ }
+fn measure(chain: Ring) -> Steps
+    requires { ⌜ OnSheetRing chain × (1 ≤ chain .count) ⌝ }
+    ensures { λ r. ⌜ (take (chain .count) (r .step) ≡ tab (stepTo (pointsOf chain)) (chain .count))
+        × (take (chain .count) (r .arc) ≡ tab (Chain.arc (pointsOf chain)) (chain .count)) ⌝ }
 {
-    let mut step = [0.0; 60];
-    let mut arc = [0.0; 60];
+    let n = chain.count;
+    let mut step = [0.0; MOST_POINTS];
+    let mut arc = [0.0; MOST_POINTS];
     for i in 1..n {
-        let d = root::grid_dist(chain[i], chain[i - 1]);
+        let d = root::grid_dist(chain.points[i], chain.points[i - 1]);
         step[i] = d;
         arc[i] = arc[i - 1] + d;
     }
@@ -70,8 +75,8 @@ fn measure(chain: [GridPoint; 60], n: usize) -> Steps
 }
 
 // The first step of the chain that ends at the length s or beyond it, or the last step.
-fn step_at(arc: &[f64; 60], n: usize, s: f64) -> usize
-    requires { ⌜ (2 ≤ n) × (n ≤ 60) ⌝ }
+fn step_at(arc: &[f64; MOST_POINTS], n: usize, s: f64) -> usize
+    requires { ⌜ (2 ≤ n) × (n ≤ mostPoints) ⌝ }
     ensures { λ r. ⌜ (r ≡ first (λ i. s ≤f getD (now (arc .entry)) (suc i) nan) (n - 2) 0) × (r ≤ n - 2) ⌝ }
 {
     for i in 0..n - 2 {
@@ -95,12 +100,12 @@ fn between(a: GridPoint, low: f64, b: GridPoint, high: f64, s: f64) -> Point
 }
 
 // The point of the chain at the length s.
-fn point_at_arclength(chain: [GridPoint; 60], arc: &[f64; 60], n: usize, s: f64) -> Point
-    requires { ⌜ (2 ≤ n) × (n ≤ 60) × (take n (now arc) ≡ tab (Chain.arc (take n chain)) n) ⌝ }
-    ensures { λ r. ⌜ r ≡ Chain.pointAtArclength (take n chain) s ⌝ }
+fn point_at_arclength(chain: Ring, arc: &[f64; MOST_POINTS], s: f64) -> Point
+    requires { ⌜ OnSheetRing chain × (2 ≤ chain .count) × (take (chain .count) (now arc) ≡ tab (Chain.arc (pointsOf chain)) (chain .count)) ⌝ }
+    ensures { λ r. ⌜ r ≡ Chain.pointAtArclength (pointsOf chain) s ⌝ }
 {
-    let i = step_at(arc, n, s);
-    between(chain[i], arc[i], chain[i + 1], arc[i + 1], s)
+    let i = step_at(arc, chain.count, s);
+    between(chain.points[i], arc[i], chain.points[i + 1], arc[i + 1], s)
 }
 
 // Whether the chain point b stays, between a and c: it is the last, touches a step of no length, or turns by more than
@@ -125,12 +130,13 @@ fn stays(a: GridPoint, b: GridPoint, c: GridPoint, nu: f64, nv: f64, last: bool)
 }
 
 // The points of the chain that stay, and the snap point of each stretch between them, at half its length.
-pub fn simplify_chain(chain: [GridPoint; 60], n: usize) -> Simplified
-    requires { ⌜ (n ≤ 60) × AllOnSheet chain ⌝ }
-    ensures { λ r. ⌜ Simplifies (take n chain) r ⌝ }
+pub fn simplify_chain(chain: Ring) -> Simplified
+    requires { ⌜ OnSheetRing chain ⌝ }
+    ensures { λ r. ⌜ Simplifies (pointsOf chain) r ⌝ }
 {
-    let mut points = [GridPoint::ORIGIN; 60];
-    let mut snaps = [Point::ORIGIN; 60];
+    let n = chain.count;
+    let mut points = [GridPoint::ORIGIN; MOST_POINTS];
+    let mut snaps = [Point::ORIGIN; MOST_POINTS];
     let mut count = 0;
     if n == 0 {
         return Simplified {
@@ -139,25 +145,25 @@ pub fn simplify_chain(chain: [GridPoint; 60], n: usize) -> Simplified
             count: count,
         };
     }
-    let l = measure(chain, n);
+    let l = measure(chain);
     let step = l.step;
     let arc = l.arc;
-    points[0] = chain[0];
+    points[0] = chain.points[0];
     let mut previous = 0;
     for i in 1..n {
         let after = vector::next(i, n); // not looked at where i is the last
         if stays(
-            chain[i - 1],
-            chain[i],
-            chain[after],
+            chain.points[i - 1],
+            chain.points[i],
+            chain.points[after],
             step[i],
             step[after],
             i + 1 == n,
         ) {
             let half = 0.5 * (arc[previous] + arc[i]);
-            snaps[count] = point_at_arclength(chain, &arc, n, half);
+            snaps[count] = point_at_arclength(chain, &arc, half);
             count += 1;
-            points[count] = chain[i];
+            points[count] = chain.points[i];
             previous = i;
         }
     }

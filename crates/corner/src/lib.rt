@@ -6,13 +6,14 @@
 ghost use mathlib.Core.Path.{_≡_};
 ghost use Prim.Native.Nat.{_^_, _≤_, _<_};
 ghost use lib.IntN.{natAbs};
-ghost use lib.ListN.{take};
 ghost use Rattle.laws.specs.Double.{nat};
 ghost use Rattle.vector.specs.Grid as Grid;
-ghost use Rattle.vector.specs.Size.{OnSheet, Step, AllOnSheet};
+ghost use Rattle.vector.specs.Size.{OnSheet, Step};
+ghost use Rattle.vector.specs.Rings.{pointsOf, OnSheetRing};
 ghost use Rattle.corner.specs.Limits.{delivered};
 ghost use Rattle.corner.specs.Corner as Corners;
 use vector::GridPoint;
+use vector::Ring;
 
 // The limits of the divider, held together as one set of values.
 pub struct Limits {
@@ -121,15 +122,24 @@ fn corner_at(a: GridPoint, b: GridPoint, c: GridPoint) -> f64
     measure(b.sub(a), c.sub(b))
 }
 
-// The worst corner of the part of the first n points: of equal ones the last.
-pub fn worst(ps: [GridPoint; 60], n: usize) -> Corner
-    requires { ⌜ (1 ≤ n) × (n ≤ 60) × AllOnSheet ps ⌝ }
-    ensures { λ r. ⌜ (r .at ≡ Corners.worst (take n ps)) × (r .measure ≡ Corners.measureAt (take n ps) (r .at)) × (r .at < n) ⌝ }
+// The worst corner of a part: of equal ones the last.
+pub fn worst(part: Ring) -> Corner
+    requires { ⌜ OnSheetRing part × (1 ≤ part .count) ⌝ }
+    ensures { λ r. ⌜ (r .at ≡ Corners.worst (pointsOf part)) × (r .measure ≡ Corners.measureAt (pointsOf part) (r .at)) × (r .at < part .count) ⌝ }
 {
+    let n = part.count;
     let mut at = 0;
-    let mut most = corner_at(ps[n - 1], ps[0], ps[vector::next(0, n)]);
+    let mut most = corner_at(
+        part.points[n - 1],
+        part.points[0],
+        part.points[vector::next(0, n)],
+    );
     for i in 1..n {
-        let m = corner_at(ps[i - 1], ps[i], ps[vector::next(i, n)]);
+        let m = corner_at(
+            part.points[i - 1],
+            part.points[i],
+            part.points[vector::next(i, n)],
+        );
         if most <= m {
             most = m;
             at = i;

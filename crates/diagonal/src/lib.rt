@@ -8,11 +8,11 @@
 ghost use mathlib.Core.Path.{_≡_};
 ghost use mathlib.Core.Bool.{not, _&&_, _||_};
 ghost use Prim.Native.Nat.{_-_, _≤_, _<_};
-ghost use lib.ListN.{take};
 ghost use Rattle.laws.specs.Double.{_<f_};
 ghost use Rattle.laws.specs.Bounded.{any};
 ghost use Rattle.vector.specs.Grid.{sub, same};
-ghost use Rattle.vector.specs.Size.{OnSheet, Step, AllOnSheet};
+ghost use Rattle.vector.specs.Size.{OnSheet, Step};
+ghost use Rattle.vector.specs.Rings.{mostPoints, pointsOf, OnSheetRing};
 ghost use Rattle.root.specs.Norm.{gridNorm};
 ghost use Rattle.chain.specs.Cosine.{cosine};
 ghost use Rattle.diagonal.specs.Diagonal as Diagonals;
@@ -20,6 +20,7 @@ ghost use Rattle.diagonal.specs.Answer.{answer, unobstructed};
 use corner::Limits;
 use vector::GridPoint;
 use vector::Point;
+use vector::Ring;
 
 // The corner where the best diagonal ends, or that none meets the rule.
 pub enum Diagonal {
@@ -90,7 +91,7 @@ fn judge(
 
 // Whether edge e of n touches neither corner 0 nor corner k.
 fn clear_of(n: usize, k: usize, e: usize) -> bool
-    requires { ⌜ (e < n) × (n ≤ 60) ⌝ }
+    requires { ⌜ (e < n) × (n ≤ mostPoints) ⌝ }
     ensures { λ r. ⌜ r ≡ Diagonals.clearOf n k e ⌝ }
 {
     if e == 0 {
@@ -109,16 +110,17 @@ fn clear_of(n: usize, k: usize, e: usize) -> bool
 }
 
 // Whether the diagonal to corner k crosses an edge that touches neither end. The scan ends at the first crossing.
-fn blocked(ps: [GridPoint; 60], n: usize, k: usize) -> bool
-    requires { ⌜ (3 ≤ n) × (n ≤ 60) × (k < n) × AllOnSheet ps ⌝ }
-    ensures { λ r. ⌜ r ≡ any (Diagonals.blocks (take n ps) k) n ⌝ }
+fn blocked(part: Ring, k: usize) -> bool
+    requires { ⌜ OnSheetRing part × (3 ≤ part .count) × (k < part .count) ⌝ }
+    ensures { λ r. ⌜ r ≡ any (Diagonals.blocks (pointsOf part) k) (part .count) ⌝ }
 {
-    let o = ps[0];
-    let q = ps[k];
+    let n = part.count;
+    let o = part.points[0];
+    let q = part.points[k];
     let mut found = false;
     'scan: for e in 0..n {
         if clear_of(n, k, e) {
-            if simple::segments_cross(o, q, ps[e], ps[vector::next(e, n)]) {
+            if simple::segments_cross(o, q, part.points[e], part.points[vector::next(e, n)]) {
                 found = true;
                 break 'scan;
             }
@@ -128,15 +130,16 @@ fn blocked(ps: [GridPoint; 60], n: usize, k: usize) -> bool
 }
 
 // Whether the diagonal to corner k runs over another corner, which is strictly between its ends. The scan ends at the first.
-fn runs_over(ps: [GridPoint; 60], n: usize, k: usize) -> bool
-    requires { ⌜ (3 ≤ n) × (n ≤ 60) × (k < n) × AllOnSheet ps ⌝ }
-    ensures { λ r. ⌜ r ≡ any (Diagonals.runsOver (take n ps) k) n ⌝ }
+fn runs_over(part: Ring, k: usize) -> bool
+    requires { ⌜ OnSheetRing part × (3 ≤ part .count) × (k < part .count) ⌝ }
+    ensures { λ r. ⌜ r ≡ any (Diagonals.runsOver (pointsOf part) k) (part .count) ⌝ }
 {
-    let o = ps[0];
-    let q = ps[k];
+    let n = part.count;
+    let o = part.points[0];
+    let q = part.points[k];
     let mut found = false;
     'scan: for j in 0..n {
-        if simple::strictly_between(o, q, ps[j]) {
+        if simple::strictly_between(o, q, part.points[j]) {
             found = true;
             break 'scan;
         }
@@ -145,17 +148,17 @@ fn runs_over(ps: [GridPoint; 60], n: usize, k: usize) -> bool
 }
 
 // Whether the diagonal to corner k has its midpoint inside, crosses no edge and runs over no corner.
-fn is_unobstructed(ps: [GridPoint; 60], n: usize, k: usize) -> bool
-    requires { ⌜ (3 ≤ n) × (n ≤ 60) × (k < n) × AllOnSheet ps ⌝ }
-    ensures { λ r. ⌜ r ≡ unobstructed (take n ps) k ⌝ }
+fn is_unobstructed(part: Ring, k: usize) -> bool
+    requires { ⌜ OnSheetRing part × (3 ≤ part .count) × (k < part .count) ⌝ }
+    ensures { λ r. ⌜ r ≡ unobstructed (pointsOf part) k ⌝ }
 {
-    let a = Point::new(ps[0]);
-    let b = Point::new(ps[k]);
-    if simple::point_in_polygon(ps, n, a.lerp(b, 0.5)) {
-        if blocked(ps, n, k) {
+    let a = Point::new(part.points[0]);
+    let b = Point::new(part.points[k]);
+    if simple::point_in_polygon(part, a.lerp(b, 0.5)) {
+        if blocked(part, k) {
             return false;
         }
-        return !runs_over(ps, n, k);
+        return !runs_over(part, k);
     }
     false
 }
@@ -173,23 +176,24 @@ fn improves(j: Judged, found: bool, least: f64) -> bool
     false
 }
 
-// The best of the diagonals from corner 0 to the corners 2 .. n - 2.
-pub fn best_diagonal(limits: Limits, ps: [GridPoint; 60], n: usize) -> Diagonal
-    requires { ⌜ (3 ≤ n) × (n ≤ 60) × AllOnSheet ps ⌝ }
-    ensures { λ r. ⌜ answer r ≡ Diagonals.bestTo limits (take n ps) (n - 3) ⌝ }
+// The best of the diagonals from corner 0 of a part of n corners to its corners 2 .. n - 2.
+pub fn best_diagonal(limits: Limits, part: Ring) -> Diagonal
+    requires { ⌜ OnSheetRing part × (3 ≤ part .count) ⌝ }
+    ensures { λ r. ⌜ answer r ≡ Diagonals.bestTo limits (pointsOf part) (part .count - 3) ⌝ }
 {
-    let o = ps[0];
-    let a = ps[1].sub(o);
+    let n = part.count;
+    let o = part.points[0];
+    let a = part.points[1].sub(o);
     let na = root::grid_norm(a);
-    let b = ps[n - 1].sub(o);
+    let b = part.points[n - 1].sub(o);
     let nb = root::grid_norm(b);
     let mut found = false;
     let mut at = 0;
     let mut least = 0.0;
     for k in 2..n - 1 {
-        let j = judge(limits, o, ps[k], a, na, b, nb);
+        let j = judge(limits, o, part.points[k], a, na, b, nb);
         if improves(j, found, least) {
-            if is_unobstructed(ps, n, k) {
+            if is_unobstructed(part, k) {
                 found = true;
                 at = k;
                 least = j.score;

@@ -29,7 +29,8 @@ use Rattle.split.specs.Split.{splitBadVertices}
 use Rattle.entry.specs.Refusal.{refusal}
 use Rattle.divider.specs.declared.CellRoom.{CellRoom}
 use Rattle.divider.specs.Promise.{Leaves, Promise}
-use Rattle.divider.specs.Steps.{OnPaper, Prepares, partIn, listsIn, CanDivideRing, divideInto, HasRoom}
+use Rattle.marks.specs.Edges.{partIn}
+use Rattle.divider.specs.Steps.{OnPaper, Prepares, listsIn, CanDivideRing, divideInto, HasRoom}
 use Rattle.divider.proofs.Leaving.{refused-leaves}
 
 -- ---- the core, by the outcome of its tests

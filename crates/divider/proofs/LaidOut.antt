@@ -27,7 +27,8 @@ use Rattle.call.specs.Call.{Lists, usedIn, cellReserve}
 use Rattle.call.specs.Divide.{rimsLeft, answered}
 use Rattle.call.proofs.Course.{Divisible, outcomeOf}
 use Rattle.divider.specs.Promise.{Leaves}
-use Rattle.divider.specs.Steps.{partIn, listsIn}
+use Rattle.marks.specs.Edges.{partIn}
+use Rattle.divider.specs.Steps.{listsIn}
 use Rattle.divider.proofs.Leaving as leaving
 use Rattle.divider.proofs.Laying as laying
 

@@ -14,7 +14,7 @@ use Rattle.marks.specs.declared.Edge.{Edge}
 use Rattle.marks.specs.declared.EdgeMark.{EdgeMark}
 use Rattle.marks.specs.declared.MarkedRing.{MarkedRing}
 use Rattle.marks.specs.Part.{Part, noPart}
-use Rattle.marks.specs.Edges.{marksIn}
+use Rattle.marks.specs.Edges.{marksIn, partIn}
 use Rattle.corner.specs.declared.Limits.{Limits}
 use Rattle.split.specs.declared.Splitting.{Splitting}
 use Rattle.split.specs.Split.{splitBadVertices}
@@ -40,7 +40,7 @@ use Rattle.call.proofs.Course.{Divisible, outcomeOf}
 use Rattle.call.proofs.NodeList as NodeList
 use Rattle.call.proofs.Demand.{corners-fit}
 use Rattle.call.proofs.LentCalls.{take-nodes}
-use Rattle.divider.specs.Steps.{partIn, listsIn}
+use Rattle.divider.specs.Steps.{listsIn}
 
 -- as many marks as places
 pub marks-length : (es : List Edge) → length es ≡ 60 → length (marksOf es) ≡ 60
@@ -97,24 +97,24 @@ module _ (L : Limits) (r : ℕ) (m : MarkedRing) (l : List Float) (u : ℕ) (rs 
   pub cell-room : k + cellReserve L r ≤ length q / 4
   cell-room = omega (arith, h .ready .cells-free, h .ready .stored, length-tab (cellIn q) (length q / 4))
 
-  pub three : (3 ≤ m .count) × (3 ≤ r)
-  three = (omega (arith, s .whole .three, length-take (m .count) (m .points)), omega (arith, s .whole .three, h .fewer))
+  pub three : (3 ≤ m .ring .count) × (3 ≤ r)
+  three = (omega (arith, s .whole .three, length-take (m .ring .count) (m .ring .points)), omega (arith, s .whole .three, h .fewer))
 
   -- ---- what the split answered
-  module _ (t : Splitting) (shows : Represents (m .points) (marksOf (m .edges)) t (splitBadVertices L (ringPart (m .points) (marksOf (m .edges)) (m .count)))) where
-    split-is : splitBadVertices L (ringPart (m .points) (marksOf (m .edges)) (m .count)) ≡ splitBadVertices L p
-    split-is = ap (λ (e : List EdgeMark). splitBadVertices L (record { points = take (m .count) (m .points); edges = e })) (marks-taken (m .count) (m .edges))
+  module _ (t : Splitting) (shows : Represents (m .ring .points) (marksOf (m .edges)) t (splitBadVertices L (ringPart (m .ring .points) (marksOf (m .edges)) (m .ring .count)))) where
+    split-is : splitBadVertices L (ringPart (m .ring .points) (marksOf (m .edges)) (m .ring .count)) ≡ splitBadVertices L p
+    split-is = ap (λ (e : List EdgeMark). splitBadVertices L (record { points = take (m .ring .count) (m .ring .points); edges = e })) (marks-taken (m .ring .count) (m .edges))
 
-    pub shown : Represents (m .points) (marksOf (m .edges)) t (splitBadVertices L p)
-    shown = subst (Represents (m .points) (marksOf (m .edges)) t) split-is shows
+    pub shown : Represents (m .ring .points) (marksOf (m .edges)) t (splitBadVertices L p)
+    shown = subst (Represents (m .ring .points) (marksOf (m .edges)) t) split-is shows
 
     pub count-is : t .pieces .count ≡ length (piecesOf L p)
-    count-is = sym (length-tab (nth (m .points) (marksOf (m .edges)) (t .pieces)) (t .pieces .count)) ∙ ap length (shown .pieces)
+    count-is = sym (length-tab (nth (m .ring .points) (marksOf (m .edges)) (t .pieces)) (t .pieces .count)) ∙ ap length (shown .pieces)
 
-    pub outcome-is : outcomeIn (L .share) l u (m .points) (m .edges) (t .pieces) ≡ outcomeOf L p x
+    pub outcome-is : outcomeIn (L .share) l u (m .ring .points) (m .edges) (t .pieces) ≡ outcomeOf L p x
     outcome-is = λ j. piecesTo (L .share) (shown .pieces j) (sym used-is j) (count-is j)
 
-    pub can-subdivide : (reserve : ℕ) → reserve ≡ cellReserve L r → AllOnSheet (m .points) → StateInvariant t → CanSubdivide (L .share) l u q k reserve (m .points) (m .edges) (t .pieces)
+    pub can-subdivide : (reserve : ℕ) → reserve ≡ cellReserve L r → AllOnSheet (m .ring .points) → StateInvariant t → CanSubdivide (L .share) l u q k reserve (m .ring .points) (m .edges) (t .pieces)
     can-subdivide reserve e o d =
         record {
           usable = usable;
@@ -127,17 +127,17 @@ module _ (L : Limits) (r : ℕ) (m : MarkedRing) (l : List Float) (u : ℕ) (rs 
           places = omega (arith, cell-room, e);
         }
 
-    pub mark-room-in : length (nodesOf (outcomeIn (L .share) l u (m .points) (m .edges) (t .pieces))) ≤ length rs
+    pub mark-room-in : length (nodesOf (outcomeIn (L .share) l u (m .ring .points) (m .edges) (t .pieces))) ≤ length rs
     mark-room-in = rw outcome-is mark-room
 
     -- the same ring split with every edge marked: what the pieces ask for, and the rim marks that they leave
-    module _ (many : length (m .edges) ≡ 60) (labels : Represents (m .points) everyMark t (splitBadVertices L (ringPart (m .points) everyMark (m .count)))) where
-      labelled : labelledIn (m .points) (t .pieces) ≡ splitBadVertices L (allMarked p) .pieces
+    module _ (many : length (m .edges) ≡ 60) (labels : Represents (m .ring .points) everyMark t (splitBadVertices L (ringPart (m .ring .points) everyMark (m .ring .count)))) where
+      labelled : labelledIn (m .ring .points) (t .pieces) ≡ splitBadVertices L (allMarked p) .pieces
       unfolding allMarked
-      labelled = labels .pieces ∙ ap (λ (e : List EdgeMark). splitBadVertices L (record { points = take (m .count) (m .points); edges = e }) .pieces) (every-taken (m .count) (m .edges) many)
+      labelled = labels .pieces ∙ ap (λ (e : List EdgeMark). splitBadVertices L (record { points = take (m .ring .count) (m .ring .points); edges = e }) .pieces) (every-taken (m .ring .count) (m .edges) many)
 
-      asks-are : asksIn (L .share) l u (m .points) (m .edges) (t .pieces) ≡ asked L p (usedIn x)
+      asks-are : asksIn (L .share) l u (m .ring .points) (m .edges) (t .pieces) ≡ asked L p (usedIn x)
       asks-are = λ j. asksTo (L .share) (shown .pieces j) (labelled j) (sym used-is j) (count-is j)
 
-      pub rims-are : rimsBy u (length (nodesOf (outcomeIn (L .share) l u (m .points) (m .edges) (t .pieces)))) (asksIn (L .share) l u (m .points) (m .edges) (t .pieces)) rs ≡ rimsLeft L p x (length (nodesOf (outcomeOf L p x)))
+      pub rims-are : rimsBy u (length (nodesOf (outcomeIn (L .share) l u (m .ring .points) (m .edges) (t .pieces)))) (asksIn (L .share) l u (m .ring .points) (m .edges) (t .pieces)) rs ≡ rimsLeft L p x (length (nodesOf (outcomeOf L p x)))
       rims-are = λ j. rimsBy u (length (nodesOf (outcome-is j))) (asks-are j) rs

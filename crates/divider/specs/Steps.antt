@@ -3,16 +3,15 @@ use Prim.Native.Nat.{ℕ, _+_, _*_, _-_, _/_, _≤_}
 use mathlib.Core.Path.{_≡_}
 use mathlib.Core.List.{List}
 use lib.IntN.{ℤ}
-use lib.ListN.{length, take}
+use lib.ListN.{length}
 use lib.Ieee.{Float}
-use Rattle.vector.specs.declared.GridPoint.{GridPoint}
 use Rattle.vector.specs.Size.{AllOnSheet}
+use Rattle.vector.specs.Rings.{mostPoints}
 use Rattle.chain.specs.Chain.{simplifyChain}
 use Rattle.clean.specs.Clean.{cleanPolygon}
 use Rattle.marks.specs.declared.MarkedRing.{MarkedRing}
-use Rattle.marks.specs.Part.{Part}
 use Rattle.marks.specs.Marks.{marked}
-use Rattle.marks.specs.Edges.{marksIn}
+use Rattle.marks.specs.Edges.{partIn, ValidMarkedRing}
 use Rattle.corner.specs.declared.Limits.{Limits}
 use Rattle.nodes.specs.Flat.{nodesIn}
 use Rattle.pieces.specs.declared.Subdivision.{Subdivision}
@@ -22,33 +21,19 @@ use Rattle.table.specs.declared.Answer.the-variants as answer
 use Rattle.call.specs.Call.{Lists, cellReserve}
 use Rattle.call.specs.Divide.{CallAnswer, refusedOr, core, startOf}
 use Rattle.call.specs.Demand.{Prepared}
-use Rattle.call.specs.Lent.{pointsIn, allCells, LentRecords, callOfRecords, testsBy}
+use Rattle.call.specs.Marked.{allPoints}
+use Rattle.call.specs.Lent.{allCells, LentRecords, callOfRecords, testsBy}
 use Rattle.divider.specs.declared.CellRoom.{CellRoom}
 
--- the points of a ring or a chain that was lent
-abbrev pub pointsOf : List ℤ → List GridPoint
-pointsOf l = pointsIn l (length l / 2)
-
--- they fit an array of 60, and are on the sheet
+-- the points of a ring or a chain that was lent are not too many, and are on the sheet
 pub record OnPaper (l : List ℤ) : Type 0 where
-  pub few : length l / 2 ≤ 60
-  pub sheet : AllOnSheet (pointsOf l)
+  pub few : length l / 2 ≤ mostPoints
+  pub sheet : AllOnSheet (allPoints l)
 
--- the ring that the first places of the two arrays hold
-abbrev pub partIn : MarkedRing → Part
-partIn m = record { points = take (m .count) (m .points); edges = marksIn (m .edges) (m .count) }
-
--- the count fits them, and every place of the points, used or not, is on the sheet
-pub record ValidRing (m : MarkedRing) : Type 0 where
-  pub count : m .count ≤ 60
-  pub places : length (m .points) ≡ 60
-  pub marks : length (m .edges) ≡ 60
-  pub points : AllOnSheet (m .points)
-
--- it is the cleaned ring with the marks that the chain gives it
+-- m is the cleaned ring with the marks that the chain gives it
 pub record Prepares (ring chain : List ℤ) (size : ℕ) (m : MarkedRing) : Type 0 where
-  pub part : partIn m ≡ marked (simplifyChain (pointsOf chain)) (cleanPolygon size (pointsOf ring))
-  pub held : ValidRing m
+  pub part : partIn m ≡ marked (simplifyChain (allPoints chain)) (cleanPolygon size (allPoints ring))
+  pub held : ValidMarkedRing m
 
 -- the lists that doubles and numbers hold, u and k of their places used, t the rim marks
 abbrev pub listsIn : List Float → ℕ → List ℕ → List ℕ → ℕ → Lists
@@ -62,7 +47,7 @@ failedAnswer (subdivision.Done u d) cells = answer.Refused 8 0 cells
 -- what the core asks for: a ring of r points that was prepared, whatever its marks came from, and a set of at most 32 cuts
 pub record CanDivideRing (L : Limits) (r : ℕ) (m : MarkedRing) (l : List Float) (u : ℕ) (t q : List ℕ) (k : ℕ) : Type 0 where
   pub cuts : L .cuts ≤ 32
-  pub held : ValidRing m
+  pub held : ValidMarkedRing m
   pub prepared : Prepared L r (partIn m) (listsIn l u t q k)
 
 -- a call whose cells go to place k of the numbers q on, which need not be the list that is tested
@@ -74,4 +59,4 @@ divideInto L l q k =
 
 -- where the tested list has room for a ring, the numbers do
 pub record HasRoom (L : Limits) (w : CellRoom) (q : List ℕ) : Type 0 where
-  pub reserve : (r : ℕ) → r ≤ 60 → w .used + cellReserve L r ≤ w .places → w .at + cellReserve L r ≤ length q / 4
+  pub reserve : (r : ℕ) → r ≤ mostPoints → w .used + cellReserve L r ≤ w .places → w .at + cellReserve L r ≤ length q / 4

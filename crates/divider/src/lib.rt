@@ -8,8 +8,9 @@
 ghost use mathlib.Core.Path.{_≡_};
 ghost use mathlib.Core.List.{List};
 ghost use Prim.Native.Nat.{_≤_};
-ghost use lib.ListN.{length, take};
-ghost use Rattle.vector.specs.Size.{AllOnSheet};
+ghost use lib.ListN.{length};
+ghost use Rattle.vector.specs.Rings.{pointsOf, OnSheetRing};
+ghost use Rattle.marks.specs.Edges.{partIn};
 ghost use Rattle.corner.specs.Limits.{delivered};
 ghost use Rattle.split.specs.Split.{splitBadVertices};
 ghost use Rattle.quads.specs.declared.Cell.{Cell};
@@ -18,26 +19,26 @@ ghost use Rattle.table.specs.Refusals.{firstOf};
 ghost use Rattle.call.specs.Divide.{ringTests, answered, core};
 ghost use Rattle.call.proofs.Course.{Whole, outcomeOf};
 ghost use Rattle.divider.specs.Promise.{Leaves, Promise};
-ghost use Rattle.divider.specs.Steps.{OnPaper, Prepares, partIn, listsIn, failedAnswer, CanDivideRing, divideInto, HasRoom};
+ghost use Rattle.divider.specs.Steps.{OnPaper, Prepares, listsIn, failedAnswer, CanDivideRing, divideInto, HasRoom};
 use corner::Limits;
 use marks::MarkedRing;
 use nodes::NodeNumber;
 use pieces::Subdivision;
 use table::Answer;
-use vector::GridPoint;
+use vector::Ring;
 
-// Refusals 5 to 7 of the cleaned ring of the first n points, or 0.
-fn ring_refusal(points: [GridPoint; 60], n: usize) -> u32
-    requires { ⌜ (n ≤ 60) × AllOnSheet points ⌝ }
-    ensures { λ r. ⌜ r ≡ firstOf (ringTests (take n points)) ⌝ }
+// Refusals 5 to 7 of a cleaned ring, or 0.
+fn ring_refusal(ring: Ring) -> u32
+    requires { ⌜ OnSheetRing ring ⌝ }
+    ensures { λ r. ⌜ r ≡ firstOf (ringTests (pointsOf ring)) ⌝ }
 {
-    if n < 3 {
+    if ring.count < 3 {
         return 5;
     }
-    if !simple::polygon_simple(points, n) {
+    if !simple::polygon_simple(ring) {
         return 6;
     }
-    if 0 < vector::polygon_area(points, n) {
+    if 0 < vector::polygon_area(ring) {
         return 0;
     }
     7
@@ -77,11 +78,9 @@ fn lay_out(
     ensures { λ r. ⌜ Leaves (answered limits own (partIn ring) (listsIn (now (nodes .entry)) «node_count» (now (rims .entry)) (now (cells .entry)) «cell_count») (splitBadVertices limits (partIn ring)) (outcomeOf limits (partIn ring) (listsIn (now (nodes .entry)) «node_count» (now (rims .entry)) (now (cells .entry)) «cell_count»)))
         (Answers.values r) (now (nodes .entry)) (now (nodes .exit)) (now (rims .exit)) (now (cells .entry)) (now (cells .exit)) ⌝ }
 {
-    let n = ring.count;
-    let points = ring.points;
-    let edges = ring.edges;
+    let cleaned = ring.ring;
     let reserve = entry::cell_reserve(limits, own);
-    let s = split::split_bad_vertices(limits, points, n);
+    let s = split::split_bad_vertices(limits, cleaned);
     let pieces = s.pieces;
     let count = pieces.count;
     let share = limits.share;
@@ -92,8 +91,7 @@ fn lay_out(
         cells,
         cell_count,
         reserve,
-        points,
-        edges,
+        ring,
         pieces,
         share,
     );
@@ -105,12 +103,12 @@ fn lay_out(
         return failed(laid, cell_count);
     };
     Answer::Divided {
-        corners: n,
-        marked: marks::mark_count(edges, n),
+        corners: cleaned.count,
+        marked: marks::mark_count(ring),
         cuts: s.cuts,
         pieces: count,
         turned: s.turned,
-        area: vector::magnitude(vector::polygon_area(points, n)),
+        area: vector::magnitude(vector::polygon_area(cleaned)),
         nodes: listed,
         cells: cell_count + added,
     }
@@ -132,9 +130,8 @@ pub fn divide_core(
     ensures { λ r. ⌜ Leaves (core limits own (partIn ring) (listsIn (now (nodes .entry)) «node_count» (now (rims .entry)) (now (cells .entry)) «cell_count»))
         (Answers.values r) (now (nodes .entry)) (now (nodes .exit)) (now (rims .exit)) (now (cells .entry)) (now (cells .exit)) ⌝ }
 {
-    let n = ring.count;
-    let points = ring.points;
-    let code = ring_refusal(points, n);
+    let cleaned = ring.ring;
+    let code = ring_refusal(cleaned);
     if code != 0 {
         return Answer::Refused {
             code: code,
@@ -161,15 +158,13 @@ fn prepared(ring: &[i32], chain: &[i32], size: u32) -> MarkedRing
 {
     let n = ring.len() / 2;
     let m = chain.len() / 2;
-    let clean = clean::clean_polygon(entry::points(ring, n), n, size);
-    let count = clean.count;
-    let points = clean.points;
-    let run = chain::simplify_chain(entry::points(chain, m), m);
-    let edges = marks::mark_edges(points, count, run);
+    let clean = clean::clean_polygon(entry::points(ring, n), size);
+    let cleaned = clean.ring;
+    let run = chain::simplify_chain(entry::points(chain, m));
+    let edges = marks::mark_edges(cleaned, run);
     MarkedRing {
-        points: points,
+        ring: cleaned,
         edges: edges,
-        count: count,
     }
 }
 

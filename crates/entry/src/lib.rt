@@ -14,6 +14,7 @@ ghost use lib.ListN.{length, getD, replicate};
 ghost use Rattle.laws.specs.Bounded.{any};
 ghost use Rattle.vector.specs.Grid.{origin};
 ghost use Rattle.vector.specs.Size.{AllOnSheet};
+ghost use Rattle.vector.specs.Rings.{mostPoints, OnSheetRing};
 ghost use Rattle.nodes.specs.Flat.{nodesIn};
 ghost use Rattle.quads.specs.declared.Cell.{Cell};
 ghost use Rattle.call.specs.Call as Call;
@@ -22,6 +23,8 @@ ghost use Rattle.entry.specs.Refusal as Refusal;
 use corner::Limits;
 use nodes::MOST_PLACES;
 use vector::GridPoint;
+use vector::MOST_POINTS;
+use vector::Ring;
 
 // 1: a count that is odd, or out of limits. Of the ring's numbers and the chain's, two a point.
 pub fn counts_out(ring: usize, chain: usize) -> bool
@@ -36,10 +39,10 @@ pub fn counts_out(ring: usize, chain: usize) -> bool
     if ring / 2 < 3 {
         return true;
     }
-    if 60 < ring / 2 {
+    if MOST_POINTS < ring / 2 {
         return true;
     }
-    60 < chain / 2
+    MOST_POINTS < chain / 2
 }
 
 fn beyond(z: i32) -> bool
@@ -144,14 +147,14 @@ pub fn lists_out(
 
 // The node places and the cell places that a ring of r points may take.
 pub fn node_reserve(limits: Limits, r: usize) -> usize
-    requires { ⌜ (3 ≤ r) × (r ≤ 60) ⌝ }
+    requires { ⌜ (3 ≤ r) × (r ≤ mostPoints) ⌝ }
     ensures { λ n. ⌜ n ≡ Call.nodeReserve limits r ⌝ }
 {
     reserve::node_places(limits.cuts, r)
 }
 
 pub fn cell_reserve(limits: Limits, r: usize) -> usize
-    requires { ⌜ (3 ≤ r) × (r ≤ 60) ⌝ }
+    requires { ⌜ (3 ≤ r) × (r ≤ mostPoints) ⌝ }
     ensures { λ n. ⌜ n ≡ Call.cellReserve limits r ⌝ }
 {
     reserve::cell_places(limits.cuts, r)
@@ -159,7 +162,7 @@ pub fn cell_reserve(limits: Limits, r: usize) -> usize
 
 // 4: too few free places.
 pub fn room_out(limits: Limits, r: usize, nodes: usize, cells: usize) -> bool
-    requires { ⌜ (3 ≤ r) × (r ≤ 60) ⌝ }
+    requires { ⌜ (3 ≤ r) × (r ≤ mostPoints) ⌝ }
     ensures { λ b. ⌜ b ≡ Call.roomOut limits r nodes cells ⌝ }
 {
     if nodes < node_reserve(limits, r) {
@@ -205,17 +208,20 @@ pub fn refusal(
     0
 }
 
-// The first n points of a ring or a chain, in the first places; the rest are the origin.
-pub fn points(l: &[i32], n: usize) -> [GridPoint; 60]
-    requires { ⌜ (n ≤ 60) × (n * 2 ≤ length (now l)) × AllOnSheet (pointsIn (now l) n) ⌝ }
-    ensures { λ r. ⌜ (r ≡ pointsIn (now (l .entry)) n ++ replicate (60 - n) origin) × AllOnSheet r ⌝ }
+// The first n points of a ring or a chain as a value; the places after them hold the origin.
+pub fn points(l: &[i32], n: usize) -> Ring
+    requires { ⌜ (n ≤ mostPoints) × (n * 2 ≤ length (now l)) × AllOnSheet (pointsIn (now l) n) ⌝ }
+    ensures { λ r. ⌜ (r ≡ record { points = pointsIn (now (l .entry)) n ++ replicate (mostPoints - n) origin; count = n }) × OnSheetRing r ⌝ }
 {
-    let mut out = [GridPoint::ORIGIN; 60];
+    let mut out = [GridPoint::ORIGIN; MOST_POINTS];
     for i in 0..n {
         out[i] = GridPoint {
             x: l[i * 2],
             y: l[i * 2 + 1],
         };
     }
-    out
+    Ring {
+        points: out,
+        count: n,
+    }
 }

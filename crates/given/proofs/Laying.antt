@@ -17,14 +17,16 @@ use Rattle.laws.proofs.Search.{any-hit}
 use Rattle.laws.proofs.Table.{getD-tab, is-tab}
 use Rattle.vector.specs.declared.GridPoint.{GridPoint}
 use Rattle.vector.specs.declared.Point.{Point}
+use Rattle.vector.specs.declared.Ring.{Ring}
 use Rattle.vector.specs.Grid.{origin, at}
+use Rattle.vector.specs.Rings.{pointsOf}
 use Rattle.vector.proofs.Rings as rings
 use Rattle.marks.specs.declared.Edge.{Edge}
 use Rattle.marks.specs.declared.EdgeMark.{EdgeMark}
 use Rattle.marks.specs.declared.EdgeMark.the-variants.{Straight, Snap}
 use Rattle.marks.specs.Edges.{marksIn, straightEdge}
 use Rattle.marks.proofs.Edges.{marks-more}
-use Rattle.clean.specs.declared.Ring.{Ring}
+use Rattle.clean.specs.declared.CleanedRing.{CleanedRing}
 use Rattle.clean.specs.Places.{survives, surviving}
 use Rattle.clean.proofs.Survivors.{surviving-many, surviving-at, survives-next}
 use Rattle.outline.specs.Outline.{Segment}
@@ -34,13 +36,13 @@ use Rattle.given.specs.declared.LeadLine.{LeadLine}
 use Rattle.given.specs.Steps.{sought, OutlineRead, placesIn, MarksOf, markLeft, Laid, Survive}
 
 -- a kept place is one of the ring's
-module _ (ring : List GridPoint) (n : ℕ) (kinds : List ℕ) (snaps : List Float) (c : Ring) (h : MarksOf ring n kinds snaps c) where
-  pub places-many : length (placesIn c) ≡ c .count
-  places-many = length-take-le (c .count) (c .places) (omega (arith, h .count, h .room))
+module _ (ring : Ring) (kinds : List ℕ) (snaps : List Float) (c : CleanedRing) (h : MarksOf ring kinds snaps c) where
+  pub places-many : length (placesIn c) ≡ c .ring .count
+  places-many = length-take-le (c .ring .count) (c .places) (omega (arith, h .count, h .room))
 
-  pub place-low : (j : ℕ) → j < c .count → getD (c .places) j 0 < n
+  pub place-low : (j : ℕ) → j < c .ring .count → getD (c .places) j 0 < ring .count
   place-low j l =
-      let e = getD-take (c .count) (c .places) j 0 l in
+      let e = getD-take (c .ring .count) (c .places) j 0 l in
       let b = h .kept .below j (omega (arith, l, places-many)) in
       omega (arith, e, b)
 
@@ -60,11 +62,13 @@ laid-more f i es e so l q =
     }
 
 -- the mark that the code lays, with the next places that it found
-pub mark-next : (ring : List GridPoint) (n : ℕ) (ks : List ℕ) (count : ℕ) (kinds : List ℕ) (snaps : List Float) (ss : List Segment) (j m after : ℕ) → m ≡ (j + 1) % count → after ≡ (getD ks j 0 + 1) % n
-    → (let k = getD ks j 0 in cond (eqb (getD ks m 0) after) (markOf (getD kinds k 0) (nodeIn snaps k) (leadPoint ss (getD ring k origin) (getD ring after origin))) Straight) ≡ markLeft ring n ks count kinds snaps ss j
-mark-next ring n ks count kinds snaps ss j m after d e =
-    let k = getD ks j 0 in
-    λ i. cond (eqb (getD ks (d i) 0) (e i)) (markOf (getD kinds k 0) (nodeIn snaps k) (leadPoint ss (getD ring k origin) (getD ring (e i) origin))) Straight
+pub mark-next : (ring : Ring) (c : CleanedRing) (kinds : List ℕ) (snaps : List Float) (ss : List Segment) (j m after : ℕ) → m ≡ (j + 1) % c .ring .count → after ≡ (getD (c .places) j 0 + 1) % ring .count
+    → (let k = getD (c .places) j 0 in
+    cond (eqb (getD (c .places) m 0) after) (markOf (getD kinds k 0) (nodeIn snaps k) (leadPoint ss (getD (ring .points) k origin) (getD (ring .points) after origin))) Straight)
+    ≡ markLeft ring c kinds snaps ss j
+mark-next ring c kinds snaps ss j m after d e =
+    let k = getD (c .places) j 0 in
+    λ i. cond (eqb (getD (c .places) (d i) 0) (e i)) (markOf (getD kinds k 0) (nodeIn snaps k) (leadPoint ss (getD (ring .points) k origin) (getD (ring .points) (e i) origin))) Straight
 
 -- the outline's nearest point is looked at where the kind is 2 alone
 mark-same : (kind : ℕ) (p q u : Point) → (kind ≡ 2 → q ≡ u) → markOf kind p q ≡ markOf kind p u
@@ -76,57 +80,57 @@ mark-same kind p q u h = go (eqb kind 1) (eqb kind 2) refl
     go false true e = ap Snap (h (eqb-true kind 2 e))
     go false false e = refl
 
-module _ (ring : List GridPoint) (n : ℕ) (c : Ring) (g : Marking) (o : LeadLine) (h : MarksOf ring n (g .kinds) (g .snaps) c) (t : OutlineRead (g .kinds) (g .outline) (g .loops) o) where
+module _ (ring : Ring) (c : CleanedRing) (g : Marking) (o : LeadLine) (h : MarksOf ring (g .kinds) (g .snaps) c) (t : OutlineRead (g .kinds) (g .outline) (g .loops) o) where
   abbrev r : List GridPoint
-  r = take n ring
+  r = pointsOf ring
 
   abbrev ks : List ℕ
   ks = placesIn c
 
   abbrev ms : List EdgeMark
-  ms = tab (givenMark g r) n
+  ms = tab (givenMark g r) (ring .count)
 
-  abbrev many : length ks ≡ c .count
-  many = places-many ring n (g .kinds) (g .snaps) c h
+  abbrev many : length ks ≡ c .ring .count
+  many = places-many ring (g .kinds) (g .snaps) c h
 
-  points-many : length r ≡ n
-  points-many = length-take-le n ring (omega (arith, h .few, h .array))
+  points-many : length r ≡ (ring .count)
+  points-many = length-take-le (ring .count) (ring .points) (rings.room ring (h .sheet))
 
   -- the mark given to the edge from place k
-  given-is : (k : ℕ) → k < n → markOf (getD (g .kinds) k 0) (nodeIn (g .snaps) k) (leadPoint (sought o) (getD ring k origin) (getD ring ((k + 1) % n) origin)) ≡ givenMark g r k
+  given-is : (k : ℕ) → k < (ring .count) → markOf (getD (g .kinds) k 0) (nodeIn (g .snaps) k) (leadPoint (sought o) (getD (ring .points) k origin) (getD (ring .points) ((k + 1) % (ring .count)) origin)) ≡ givenMark g r k
   unfolding givenMark calledFor
   given-is k l =
-      let f : n ≤ length ring = omega (arith, h .few, h .array) in
-      let a = rings.at-in ring n f (omega (arith, l)) k l in
-      let b = rings.at-next ring n f (omega (arith, l)) k ((k + 1) % n) refl in
-      mark-same (getD (g .kinds) k 0) (nodeIn (g .snaps) k) (leadPoint (sought o) (getD ring k origin) (getD ring ((k + 1) % n) origin)) (leadPoint (leadLine g) (at r k) (at r (suc k)))
+      let f = rings.room ring (h .sheet) in
+      let a = rings.at-in (ring .points) (ring .count) f (omega (arith, l)) k l in
+      let b = rings.at-next (ring .points) (ring .count) f (omega (arith, l)) k ((k + 1) % (ring .count)) refl in
+      mark-same (getD (g .kinds) k 0) (nodeIn (g .snaps) k) (leadPoint (sought o) (getD (ring .points) k origin) (getD (ring .points) ((k + 1) % (ring .count)) origin)) (leadPoint (leadLine g) (at r k) (at r (suc k)))
       (λ e.
       let s = t .is (any-hit (λ i. eqb (getD (g .kinds) i 0) 2) k (length (g .kinds)) (omega (arith, l, h .marks)) (eq-eqb (getD (g .kinds) k 0) 2 e)) in
       λ i. leadPoint (s i) (sym a i) (sym b i))
 
   -- edge j after cleaning
-  left-is : (j : ℕ) → j < c .count
-      → markLeft ring n (c .places) (c .count) (g .kinds) (g .snaps) (sought o) j ≡ cond (survives n ks (getD ks j 0)) (getD ms (getD ks j 0) Straight) Straight
+  left-is : (j : ℕ) → j < c .ring .count
+      → markLeft ring c (g .kinds) (g .snaps) (sought o) j ≡ cond (survives (ring .count) ks (getD ks j 0)) (getD ms (getD ks j 0) Straight) Straight
   left-is j l =
       let k = getD (c .places) j 0 in
-      let low = place-low ring n (g .kinds) (g .snaps) c h j l in
-      let z : 1 ≤ c .count = omega (arith, l) in
-      let a : getD ks j 0 ≡ k = getD-take (c .count) (c .places) j 0 l in
-      let b : getD ks ((j + 1) % c .count) 0 ≡ getD (c .places) ((j + 1) % c .count) 0 = getD-take (c .count) (c .places) ((j + 1) % c .count) 0 (mod-lt (j + 1) z) in
-      let d : suc j % length ks ≡ (j + 1) % c .count = (λ i. (sym (add-one j) i) % (many i)) in
-      let s : survives n ks (getD ks j 0) ≡ eqb (getD (c .places) ((j + 1) % c .count) 0) ((k + 1) % n) =
-      survives-next n ks (h .kept) j (omega (arith, l, many))
-      ∙ (λ i. eqb ((ap (λ (x : ℕ). getD ks x 0) d ∙ b) i) ((ap (λ (x : ℕ). suc x % n) a ∙ ap (λ (x : ℕ). x % n) (sym (add-one k))) i)) in
-      let m : getD ms (getD ks j 0) Straight ≡ givenMark g r k = ap (λ (x : ℕ). getD ms x Straight) a ∙ getD-tab (givenMark g r) n k Straight low in
+      let low = place-low ring (g .kinds) (g .snaps) c h j l in
+      let z : 1 ≤ c .ring .count = omega (arith, l) in
+      let a : getD ks j 0 ≡ k = getD-take (c .ring .count) (c .places) j 0 l in
+      let b : getD ks ((j + 1) % c .ring .count) 0 ≡ getD (c .places) ((j + 1) % c .ring .count) 0 = getD-take (c .ring .count) (c .places) ((j + 1) % c .ring .count) 0 (mod-lt (j + 1) z) in
+      let d : suc j % length ks ≡ (j + 1) % c .ring .count = (λ i. (sym (add-one j) i) % (many i)) in
+      let s : survives (ring .count) ks (getD ks j 0) ≡ eqb (getD (c .places) ((j + 1) % c .ring .count) 0) ((k + 1) % (ring .count)) =
+      survives-next (ring .count) ks (h .kept) j (omega (arith, l, many))
+      ∙ (λ i. eqb ((ap (λ (x : ℕ). getD ks x 0) d ∙ b) i) ((ap (λ (x : ℕ). suc x % (ring .count)) a ∙ ap (λ (x : ℕ). x % (ring .count)) (sym (add-one k))) i)) in
+      let m : getD ms (getD ks j 0) Straight ≡ givenMark g r k = ap (λ (x : ℕ). getD ms x Straight) a ∙ getD-tab (givenMark g r) (ring .count) k Straight low in
       λ i. cond (sym s i) ((given-is k low ∙ sym m) i) Straight
 
-  pub survive : (es : List Edge) → Laid (markLeft ring n (c .places) (c .count) (g .kinds) (g .snaps) (sought o)) (c .count) es → Survive g r ks es
+  pub survive : (es : List Edge) → Laid (markLeft ring c (g .kinds) (g .snaps) (sought o)) (c .ring .count) es → Survive g r ks es
   survive es so =
-      let f = markLeft ring n (c .places) (c .count) (g .kinds) (g .snaps) (sought o) in
-      let u : surviving Straight n ks ms ≡ tab f (c .count) =
-      is-tab (surviving Straight n ks ms) f (c .count) Straight (surviving-many Straight n ks ms ∙ many)
-      (λ j l. surviving-at Straight n ks ms j (omega (arith, l, many)) ∙ sym (left-is j l)) in
-      let v : surviving Straight n ks ms ≡ surviving Straight (length r) ks (tab (givenMark g r) (length r)) = ap (λ (x : ℕ). surviving Straight x ks (tab (givenMark g r) x)) (sym points-many) in
+      let f = markLeft ring c (g .kinds) (g .snaps) (sought o) in
+      let u : surviving Straight (ring .count) ks ms ≡ tab f (c .ring .count) =
+      is-tab (surviving Straight (ring .count) ks ms) f (c .ring .count) Straight (surviving-many Straight (ring .count) ks ms ∙ many)
+      (λ j l. surviving-at Straight (ring .count) ks ms j (omega (arith, l, many)) ∙ sym (left-is j l)) in
+      let v : surviving Straight (ring .count) ks ms ≡ surviving Straight (length r) ks (tab (givenMark g r) (length r)) = ap (λ (x : ℕ). surviving Straight x ks (tab (givenMark g r) x)) (sym points-many) in
       record {
         marks = ap (marksIn es) many ∙ so .marks ∙ sym u ∙ v;
         unused = λ k l. so .unused k (omega (arith, l, many));

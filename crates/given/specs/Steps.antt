@@ -9,8 +9,10 @@ use lib.Dec.{eqb}
 use lib.Ieee.{Float}
 use Rattle.laws.specs.Table.{tab}
 use Rattle.vector.specs.declared.GridPoint.{GridPoint}
+use Rattle.vector.specs.declared.Ring.{Ring}
 use Rattle.vector.specs.Grid.{origin}
-use Rattle.clean.specs.declared.Ring.{Ring}
+use Rattle.vector.specs.Rings.{mostPoints, OnSheetRing}
+use Rattle.clean.specs.declared.CleanedRing.{CleanedRing}
 use Rattle.clean.specs.Places.{Rising, surviving}
 use Rattle.outline.specs.Outline.{Segment, segments, total}
 use Rattle.marks.specs.declared.Edge.{Edge}
@@ -25,7 +27,7 @@ use Rattle.given.specs.declared.LeadLine.{LeadLine}
 -- its loops fit the arrays, and the segments that are sought
 pub record Fits (o : LeadLine) : Type 0 where
   pub few : o .count ≤ 20
-  pub points : total (take (o .count) (o .loops)) ≤ 60
+  pub points : total (take (o .count) (o .loops)) ≤ mostPoints
 
 abbrev pub sought : LeadLine → List Segment
 sought o = segments (o .points) (take (o .count) (o .loops))
@@ -36,33 +38,34 @@ pub record OutlineRead (kinds : List ℕ) (outline : List ℤ) (loops : List ℕ
   pub is : calledFor kinds ≡ true → sought o ≡ segments (allPoints outline) loops
 
 -- ---- the marks
-abbrev pub placesIn : Ring → List ℕ
-placesIn c = take (c .count) (c .places)
+abbrev pub placesIn : CleanedRing → List ℕ
+placesIn c = take (c .ring .count) (c .places)
 
--- the marks are as many as the first n points of the ring, of which cleaning left c
-pub record MarksOf (ring : List GridPoint) (n : ℕ) (kinds : List ℕ) (snaps : List Float) (c : Ring) : Type 0 where
-  pub few : n ≤ 60
-  pub array : length ring ≡ 60
-  pub marks : length kinds ≡ n
-  pub points : length snaps ≡ n * 2
-  pub count : c .count ≤ 60
-  pub room : length (c .places) ≡ 60
-  pub kept : Rising n (placesIn c)
+-- the marks are as many as the points of the ring, of which cleaning left c
+pub record MarksOf (ring : Ring) (kinds : List ℕ) (snaps : List Float) (c : CleanedRing) : Type 0 where
+  pub sheet : OnSheetRing ring
+  pub marks : length kinds ≡ ring .count
+  pub points : length snaps ≡ ring .count * 2
+  pub count : c .ring .count ≤ mostPoints
+  pub room : length (c .places) ≡ mostPoints
+  pub kept : Rising (ring .count) (placesIn c)
 
 -- the mark of edge j after cleaning, of which the next kept place decides whether it stays
-abbrev pub markLeft : List GridPoint → ℕ → List ℕ → ℕ → List ℕ → List Float → List Segment → ℕ → EdgeMark
-markLeft ring n ks count kinds snaps ss j =
-    let k = getD ks j 0 in
-    cond (eqb (getD ks ((j + 1) % count) 0) ((k + 1) % n)) (markOf (getD kinds k 0) (nodeIn snaps k) (leadPoint ss (getD ring k origin) (getD ring ((k + 1) % n) origin))) Straight
+abbrev pub markLeft : Ring → CleanedRing → List ℕ → List Float → List Segment → ℕ → EdgeMark
+markLeft ring c kinds snaps ss j =
+    let k = getD (c .places) j 0 in
+    let after = (k + 1) % ring .count in
+    cond (eqb (getD (c .places) ((j + 1) % c .ring .count) 0) after)
+    (markOf (getD kinds k 0) (nodeIn snaps k) (leadPoint ss (getD (ring .points) k origin) (getD (ring .points) after origin))) Straight
 
 -- es has the first n of these marks, and the places after them are straight
 pub record Laid (f : ℕ → EdgeMark) (n : ℕ) (es : List Edge) : Type 0 where
   pub marks : marksIn es n ≡ tab f n
   pub unused : (k : ℕ) → n ≤ k → getD es k straightEdge ≡ straightEdge
-  pub places : length es ≡ 60
+  pub places : length es ≡ mostPoints
 
 -- es has the marks of the ring r that survive where the points at ks stay
 pub record Survive (g : Marking) (r : List GridPoint) (ks : List ℕ) (es : List Edge) : Type 0 where
   pub marks : marksIn es (length ks) ≡ surviving Straight (length r) ks (tab (givenMark g r) (length r))
   pub unused : (k : ℕ) → length ks ≤ k → getD es k straightEdge ≡ straightEdge
-  pub places : length es ≡ 60
+  pub places : length es ≡ mostPoints

@@ -9,18 +9,21 @@ ghost use mathlib.Core.Path.{_≡_};
 ghost use mathlib.Core.Bool.{false, cond};
 ghost use Prim.Native.Nat.{_≤_};
 ghost use lib.ListN.{length, take};
+ghost use Rattle.vector.specs.Rings.{mostPoints, pointsOf};
 ghost use Rattle.marks.specs.declared.EdgeMark.the-variants.{Straight};
 ghost use Rattle.call.specs.Marked as Marked;
 ghost use Rattle.given.specs.Steps.{Fits, sought, OutlineRead, placesIn, MarksOf, markLeft, Laid, Survive};
-use clean::Ring;
+use clean::CleanedRing;
 use marks::Edge;
 use marks::EdgeMark;
 use vector::GridPoint;
+use vector::MOST_POINTS;
 use vector::Point;
+use vector::Ring;
 
 // An outline as it is sought: the points of its loops one after the other, and how many each of the first count loops has.
 struct LeadLine {
-    points: [GridPoint; 60],
+    points: [GridPoint; MOST_POINTS],
     loops: [usize; 20],
     count: usize,
 }
@@ -43,7 +46,7 @@ fn mark_out(kind: u8, p: Point) -> bool
 
 // 13: the marks of a ring of n points. The given point of a mark that is not of kind 1 may be anything.
 pub fn marks_out(n: usize, kinds: &[u8], snaps: &[f64]) -> bool
-    requires { ⌜ n ≤ 60 ⌝ }
+    requires { ⌜ n ≤ mostPoints ⌝ }
     ensures { λ r. ⌜ r ≡ Marked.marksOut (now (kinds .entry)) (now (snaps .entry)) n ⌝ }
 {
     if kinds.len() != n {
@@ -78,7 +81,7 @@ pub fn called_for(kinds: &[u8]) -> bool
 
 // Loops that have under 3 points, or do not add up to n, at most 60. The sum stops past 60, so that it does not wrap.
 fn loops_out(loops: &[u32], n: usize) -> bool
-    requires { ⌜ n ≤ 60 ⌝ }
+    requires { ⌜ n ≤ mostPoints ⌝ }
     ensures { λ r. ⌜ r ≡ Marked.loopsOut (now (loops .entry)) n ⌝ }
 {
     let mut total: usize = 0;
@@ -88,7 +91,7 @@ fn loops_out(loops: &[u32], n: usize) -> bool
             return true;
         }
         total += m;
-        if 60 < total {
+        if MOST_POINTS < total {
             return true;
         }
     }
@@ -109,7 +112,7 @@ pub fn outline_out(kinds: &[u8], outline: &[i32], loops: &[u32]) -> bool
     if n == 0 {
         return true;
     }
-    if 60 < n {
+    if MOST_POINTS < n {
         return true;
     }
     if loops_out(loops, n) {
@@ -137,13 +140,15 @@ fn lead_line(kinds: &[u8], outline: &[i32], loops: &[u32]) -> LeadLine
 {
     if !called_for(kinds) {
         return LeadLine {
-            points: [GridPoint::ORIGIN; 60],
+            points: [GridPoint::ORIGIN; MOST_POINTS],
             loops: [0; 20],
             count: 0,
         };
     }
+    let own = entry::points(outline, outline.len() / 2);
+    let points = own.points;
     LeadLine {
-        points: entry::points(outline, outline.len() / 2),
+        points: points,
         loops: loop_counts(loops),
         count: loops.len(),
     }
@@ -185,24 +190,24 @@ fn surviving_mark(
     EdgeMark::Straight
 }
 
-// The marks of the ring of the first n points after cleaning. The edge from a kept place stays exactly if the next kept
-// place is the next place of the ring.
+// The marks of the ring after cleaning. The edge from a kept place stays exactly if the next kept place is the next place of
+// the ring.
 fn marks_left(
-    ring: [GridPoint; 60],
-    n: usize,
-    clean: Ring,
+    ring: Ring,
+    clean: CleanedRing,
     kinds: &[u8],
     snaps: &[f64],
     lead: LeadLine,
-) -> [Edge; 60]
-    requires { ⌜ Fits lead × MarksOf ring n (now kinds) (now snaps) clean ⌝ }
-    ensures { λ r. ⌜ Laid (markLeft ring n (clean .places) (clean .count) (now (kinds .entry)) (now (snaps .entry)) (sought lead)) (clean .count) r ⌝ }
+) -> [Edge; MOST_POINTS]
+    requires { ⌜ Fits lead × MarksOf ring (now kinds) (now snaps) clean ⌝ }
+    ensures { λ r. ⌜ Laid (markLeft ring clean (now (kinds .entry)) (now (snaps .entry)) (sought lead)) (clean .ring .count) r ⌝ }
 {
-    let count = clean.count;
+    let n = ring.count;
+    let count = clean.ring.count;
     let straight = Edge {
         mark: EdgeMark::Straight,
     };
-    let mut edges = [straight; 60];
+    let mut edges = [straight; MOST_POINTS];
     for j in 0..count {
         let k = clean.places[j] as usize;
         let after = vector::next(k, n);
@@ -211,25 +216,31 @@ fn marks_left(
             x: snaps[k * 2],
             y: snaps[k * 2 + 1],
         };
-        let mark = surviving_mark(kept == after, kinds[k], p, ring[k], ring[after], lead);
+        let mark = surviving_mark(
+            kept == after,
+            kinds[k],
+            p,
+            ring.points[k],
+            ring.points[after],
+            lead,
+        );
         edges[j] = Edge { mark: mark };
     }
     edges
 }
 
-// The marks of a cleaned ring, which came of the first n points: those given that survive.
+// The marks of a cleaned ring: those given to the ring that it came of that survive.
 pub fn surviving_marks(
-    ring: [GridPoint; 60],
-    n: usize,
-    clean: Ring,
+    ring: Ring,
+    clean: CleanedRing,
     kinds: &[u8],
     snaps: &[f64],
     outline: &[i32],
     loops: &[u32],
-) -> [Edge; 60]
-    requires { ⌜ MarksOf ring n (now kinds) (now snaps) clean × (Marked.outlineOut (now kinds) (now outline) (now loops) ≡ false) ⌝ }
-    ensures { λ r. ⌜ Survive (record { kinds = now (kinds .entry); snaps = now (snaps .entry); outline = now (outline .entry); loops = now (loops .entry) }) (take n ring) (placesIn clean) r ⌝ }
+) -> [Edge; MOST_POINTS]
+    requires { ⌜ MarksOf ring (now kinds) (now snaps) clean × (Marked.outlineOut (now kinds) (now outline) (now loops) ≡ false) ⌝ }
+    ensures { λ r. ⌜ Survive (record { kinds = now (kinds .entry); snaps = now (snaps .entry); outline = now (outline .entry); loops = now (loops .entry) }) (pointsOf ring) (placesIn clean) r ⌝ }
 {
     let lead = lead_line(kinds, outline, loops);
-    marks_left(ring, n, clean, kinds, snaps, lead)
+    marks_left(ring, clean, kinds, snaps, lead)
 }

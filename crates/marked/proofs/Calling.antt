@@ -23,7 +23,8 @@ use Rattle.call.specs.LentCalls.{GivenMarked, marked, Pool, lendMarked, answerO
 use Rattle.call.proofs.Course as Course
 use Rattle.call.proofs.Marked.{MarkedPassed, marked-passed, marked-prepared, demand3-marked}
 use Rattle.divider.specs.Promise.{Leaves}
-use Rattle.divider.specs.Steps.{partIn, CanDivideRing}
+use Rattle.marks.specs.Edges.{partIn}
+use Rattle.divider.specs.Steps.{CanDivideRing}
 use Rattle.divider.proofs.Leaving.{refused-leaves}
 use Rattle.marked.specs.Promise.{MarkedPromise}
 use Rattle.marked.specs.Steps.{Tested, Prepares}

@@ -9,19 +9,19 @@ use lib.Seq.{length-take-le}
 use Rattle.laws.specs.Table.{tab}
 use Rattle.laws.proofs.Table.{length-tab}
 use Rattle.vector.specs.declared.GridPoint.{GridPoint}
-use Rattle.vector.specs.Grid.{origin}
-use Rattle.clean.specs.declared.Ring.{Ring}
+use Rattle.vector.specs.declared.Ring.{Ring}
+use Rattle.vector.specs.Rings.{pointsOf, OnSheetRing}
+use Rattle.vector.proofs.Rings as rings
+use Rattle.clean.specs.declared.CleanedRing.{CleanedRing}
 use Rattle.clean.specs.Clean.{cleanPolygon}
 use Rattle.clean.specs.Places.{keptPlaces, surviving, Rising}
-use Rattle.clean.specs.Rings.{asRing, Cleaned}
+use Rattle.clean.specs.Rings.{asCleaned, Cleaned}
 use Rattle.clean.proofs.Places.{pick-length, kept-image, kept-rising}
 use Rattle.marks.specs.declared.Edge.{Edge}
 use Rattle.marks.specs.declared.EdgeMark.the-variants.{Straight}
-use Rattle.marks.specs.Edges.{marksIn}
-use Rattle.call.specs.Lent.{pointIn, pointsIn}
+use Rattle.marks.specs.Edges.{marksIn, partIn}
 use Rattle.call.specs.Marked.{Marking, allPoints, givenMark, markedBy}
 use Rattle.call.proofs.Marked.{marks-in}
-use Rattle.divider.specs.Steps.{partIn}
 use Rattle.given.specs.Steps.{placesIn, MarksOf, Survive}
 use Rattle.marked.specs.Steps.{Tested, Prepares}
 
@@ -29,48 +29,44 @@ use Rattle.marked.specs.Steps.{Tested, Prepares}
 kept-many : (size : ℕ) (r : List GridPoint) → length (keptPlaces size r) ≡ length (cleanPolygon size r)
 kept-many size r = sym (ap length (kept-image size r) ∙ pick-length r (keptPlaces size r))
 
-module _ (ring : List ℤ) (g : Marking) (size : ℕ) (h : Tested ring g) (ps : List GridPoint) (e : ps ≡ pointsIn ring (length ring / 2) ++ replicate (60 - length ring / 2) origin) (a : take (length ring / 2) ps ≡ allPoints ring)
-    (c : Ring) (w : Cleaned size (take (length ring / 2) ps) c) where
-  abbrev n : ℕ
-  n = length ring / 2
+-- own is the ring as it was read, of which cleaning left c
+module _ (ring : List ℤ) (g : Marking) (size : ℕ) (h : Tested ring g) (own : Ring) (v : OnSheetRing own) (n : own .count ≡ length ring / 2) (a : pointsOf own ≡ allPoints ring)
+    (c : CleanedRing) (w : Cleaned size (pointsOf own) c) where
+  many : length (pointsOf own) ≡ own .count
+  many = length-take-le (own .count) (own .points) (rings.room own v)
 
-  array : length ps ≡ 60
-  array = ap length e ∙ simp (length-append, length-tab (pointIn ring) n, length-replicate) (omega (arith, h .paper .few))
+  counted : length (pointsOf (c .ring)) ≡ c .ring .count
+  counted = length-take-le (c .ring .count) (c .ring .points) (rings.room (c .ring) (w .valid))
 
-  own : length (take n ps) ≡ n
-  own = length-take-le n ps (omega (arith, array, h .paper .few))
-
-  counted : length (take (c .count) (c .points)) ≡ c .count
-  counted = length-take-le (c .count) (c .points) (omega (arith, w .valid .count, w .valid .places))
-
-  left : length (keptPlaces size (take n ps)) ≡ c .count
-  left = kept-many size (take n ps) ∙ ap length (sym (w .points)) ∙ counted
+  left : length (keptPlaces size (pointsOf own)) ≡ c .ring .count
+  left = kept-many size (pointsOf own) ∙ ap length (sym (w .points)) ∙ counted
 
   room : length (c .places) ≡ 60
-  unfolding asRing
+  unfolding asCleaned
   room =
-      let ks = keptPlaces size (take n ps) in
-      ap (λ (r : Ring). length (r .places)) (w .is) ∙ simp (length-append, length-drop, length-replicate) (omega (arith, left, w .valid .count))
+      let ks = keptPlaces size (pointsOf own) in
+      ap (λ (r : CleanedRing). length (r .places)) (w .is) ∙ simp (length-append, length-drop, length-replicate) (omega (arith, left, w .valid .count))
 
-  pub marks-of : MarksOf ps n (g .kinds) (g .snaps) c
+  pub marks-of : MarksOf own (g .kinds) (g .snaps) c
   marks-of =
-      let m = marks-in (g .kinds) (g .snaps) n (h .marks) in
+      let m = marks-in (g .kinds) (g .snaps) (length ring / 2) (h .marks) in
       record {
-        few = h .paper .few;
-        array = array;
-        marks = m .0;
-        points = m .1;
+        sheet = v;
+        marks = m .0 ∙ sym n;
+        points = omega (arith, m .1, n);
         count = w .valid .count;
         room = room;
-        kept = subst (λ (k : ℕ). Rising k (placesIn c)) own (subst (Rising (length (take n ps))) (sym (w .places)) (kept-rising size (take n ps)));
+        kept = subst (λ (k : ℕ). Rising k (placesIn c)) many (subst (Rising (length (pointsOf own))) (sym (w .places)) (kept-rising size (pointsOf own)));
       }
 
-  pub prepares : (es : List Edge) → Survive g (take n ps) (placesIn c) es → Prepares ring g size (record { points = c .points; edges = es; count = c .count })
+  pub prepares : (es : List Edge) → Survive g (pointsOf own) (placesIn c) es → Prepares ring g size (record { ring = c .ring; edges = es })
   unfolding markedBy
   prepares es x =
-      let k : length (placesIn c) ≡ c .count = ap length (w .places) ∙ left in
-      let m : marksIn es (c .count) ≡ markedBy size g (take n ps) .edges = ap (marksIn es) (sym k) ∙ x .marks ∙ ap (λ (ks : List ℕ). surviving Straight (length (take n ps)) ks (tab (givenMark g (take n ps)) (length (take n ps)))) (w .places) in
+      let k : length (placesIn c) ≡ c .ring .count = ap length (w .places) ∙ left in
+      let r = pointsOf own in
+      let m : marksIn es (c .ring .count) ≡ markedBy size g r .edges =
+      ap (marksIn es) (sym k) ∙ x .marks ∙ ap (λ (ks : List ℕ). surviving Straight (length r) ks (tab (givenMark g r) (length r))) (w .places) in
       record {
         part = (λ j. record { points = w .points j; edges = m j }) ∙ ap (markedBy size g) a;
-        held = record { count = w .valid .count; places = w .valid .places; marks = x .places; points = w .valid .points };
+        held = record { ring = w .valid; marks = x .places };
       }

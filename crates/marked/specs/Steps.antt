@@ -6,8 +6,9 @@ use mathlib.Core.List.{List}
 use lib.IntN.{ℤ}
 use lib.ListN.{length}
 use Rattle.marks.specs.declared.MarkedRing.{MarkedRing}
+use Rattle.marks.specs.Edges.{partIn, ValidMarkedRing}
 use Rattle.call.specs.Marked.{Marking, allPoints, markedBy, marksOut, outlineOut}
-use Rattle.divider.specs.Steps.{OnPaper, partIn, ValidRing}
+use Rattle.divider.specs.Steps.{OnPaper}
 
 -- the ring passed 1 and 2, and its marks 13 and 14
 pub record Tested (ring : List ℤ) (g : Marking) : Type 0 where
@@ -18,4 +19,4 @@ pub record Tested (ring : List ℤ) (g : Marking) : Type 0 where
 -- m is the cleaned ring with the marks that survive
 pub record Prepares (ring : List ℤ) (g : Marking) (size : ℕ) (m : MarkedRing) : Type 0 where
   pub part : partIn m ≡ markedBy size g (allPoints ring)
-  pub held : ValidRing m
+  pub held : ValidMarkedRing m

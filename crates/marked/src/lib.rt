@@ -95,14 +95,12 @@ fn marked_ring(
 {
     let n = ring.len() / 2;
     let own = entry::points(ring, n);
-    let clean = clean::clean_polygon(own, n, size);
-    let count = clean.count;
-    let points = clean.points;
-    let edges = given::surviving_marks(own, n, clean, kinds, snaps, outline, loops);
+    let clean = clean::clean_polygon(own, size);
+    let cleaned = clean.ring;
+    let edges = given::surviving_marks(own, clean, kinds, snaps, outline, loops);
     MarkedRing {
-        points: points,
+        ring: cleaned,
         edges: edges,
-        count: count,
     }
 }
 

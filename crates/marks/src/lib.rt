@@ -7,17 +7,19 @@ ghost use mathlib.Core.Path.{_≡_};
 ghost use mathlib.Core.Bool.{_&&_};
 ghost use mathlib.Core.List.{List, [], _∷_};
 ghost use Prim.Native.Nat.{_≤_};
-ghost use lib.ListN.{take};
 ghost use Rattle.laws.specs.Bounded.{first};
 ghost use Rattle.vector.specs.declared.Point.{Point};
 ghost use Rattle.vector.specs.Grid.{same};
+ghost use Rattle.vector.specs.Rings.{pointsOf, OnSheetRing};
 ghost use Rattle.chain.specs.Kept.{stretchIn, stretchesIn};
 ghost use Rattle.marks.specs.Part.{markCount};
 ghost use Rattle.marks.specs.Marks as Marks;
-ghost use Rattle.marks.specs.Edges.{marksIn, Marked};
+ghost use Rattle.marks.specs.Edges.{Marked, partIn, ValidMarkedRing};
 use chain::Simplified;
 use vector::GridPoint;
+use vector::MOST_POINTS;
 use vector::Point;
+use vector::Ring;
 
 // An edge is straight, or carries the point it snaps to.
 pub enum EdgeMark {
@@ -30,11 +32,10 @@ pub struct Edge {
     pub mark: EdgeMark,
 }
 
-// A ring with the marks of its edges, in the first count places: what is split and laid out, wherever the marks came from.
+// A ring with the marks of its edges, one for each point: what is split and laid out, wherever the marks came from.
 pub struct MarkedRing {
-    pub points: [GridPoint; 60],
-    pub edges: [Edge; 60],
-    pub count: usize,
+    pub ring: Ring,
+    pub edges: [Edge; MOST_POINTS],
 }
 
 // The stretch from p to q runs from a to b.
@@ -57,20 +58,20 @@ fn joins(p: GridPoint, q: GridPoint, a: GridPoint, b: GridPoint) -> bool
     runs(p, q, b, a)
 }
 
-// The marks of the ring of the first n points along the simplified chain. The search for an edge ends at the first stretch
-// that joins its ends.
-pub fn mark_edges(ring: [GridPoint; 60], n: usize, chain: Simplified) -> [Edge; 60]
-    requires { ⌜ (n ≤ 60) × (chain .count ≤ 59) ⌝ }
-    ensures { λ r. ⌜ Marked (stretchesIn chain) (take n ring) n r ⌝ }
+// The marks of the ring along the simplified chain. The search for an edge ends at the first stretch that joins its ends.
+pub fn mark_edges(ring: Ring, chain: Simplified) -> [Edge; MOST_POINTS]
+    requires { ⌜ OnSheetRing ring × (chain .count ≤ 59) ⌝ }
+    ensures { λ r. ⌜ Marked (stretchesIn chain) (pointsOf ring) (ring .count) r ⌝ }
 {
+    let n = ring.count;
     let straight = Edge {
         mark: EdgeMark::Straight,
     };
-    let mut edges = [straight; 60];
+    let mut edges = [straight; MOST_POINTS];
     let count = chain.count;
     for i in 0..n {
-        let a = ring[i];
-        let b = ring[vector::next(i, n)];
+        let a = ring.points[i];
+        let b = ring.points[vector::next(i, n)];
         'search: for j in 0..count {
             if joins(chain.points[j], chain.points[j + 1], a, b) {
                 edges[i] = Edge {
@@ -92,14 +93,15 @@ fn weight(m: EdgeMark) -> usize
     }
 }
 
-// How many of the first n edges are marked.
-pub fn mark_count(edges: [Edge; 60], n: usize) -> usize
-    requires { ⌜ n ≤ 60 ⌝ }
-    ensures { λ r. ⌜ (r ≡ markCount (marksIn edges n)) × (r ≤ n) ⌝ }
+// How many of the ring's edges are marked.
+pub fn mark_count(ring: MarkedRing) -> usize
+    requires { ⌜ ValidMarkedRing ring ⌝ }
+    ensures { λ r. ⌜ (r ≡ markCount (partIn ring .edges)) × (r ≤ ring .ring .count) ⌝ }
 {
+    let n = ring.ring.count;
     let mut total = 0;
     for i in 0..n {
-        let e = edges[i];
+        let e = ring.edges[i];
         let mark = e.mark;
         total += weight(mark);
     }

@@ -5,6 +5,7 @@ use mathlib.Core.List.{List, [], _∷_, _++_}
 use lib.ListN.{length, getD}
 use Rattle.laws.specs.Table.{tab}
 use Rattle.vector.specs.declared.GridPoint.{GridPoint}
+use Rattle.vector.specs.Rings.{mostPoints}
 use Rattle.marks.specs.declared.EdgeMark.{EdgeMark}
 use Rattle.marks.specs.Part.{Part}
 use Rattle.parts.specs.declared.Vertex.{Vertex}
@@ -38,7 +39,7 @@ pub record ValidParts (p : PartList) : Type 0 where
   pub few : p .count ≤ 33
   pub wide : length (p .ends) ≡ 34
   pub long : length (p .corners) ≡ 124
-  pub step : (j : ℕ) → j < p .count → (end p j + 3 ≤ end p (suc j)) × (end p (suc j) ≤ end p j + 60)
+  pub step : (j : ℕ) → j < p .count → (end p j + 3 ≤ end p (suc j)) × (end p (suc j) ≤ end p j + mostPoints)
   pub fits : end p (p .count) ≤ 124
   pub below : Below (p .corners)
 

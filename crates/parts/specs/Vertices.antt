@@ -7,6 +7,7 @@ use lib.ListN.{getD}
 use Rattle.laws.specs.Table.{tab}
 use Rattle.vector.specs.declared.GridPoint.{GridPoint}
 use Rattle.vector.specs.Grid.{origin}
+use Rattle.vector.specs.Rings.{mostPoints}
 use Rattle.marks.specs.declared.EdgeMark.{EdgeMark}
 use Rattle.marks.specs.declared.EdgeMark.the-variants.{Straight}
 use Rattle.marks.specs.Part.{Part}
@@ -15,9 +16,13 @@ use Rattle.parts.specs.declared.Vertex.{Vertex}
 abbrev pub noVertex : Vertex
 noVertex = record { at = 0; edge = 0 }
 
+-- the number of a straight edge: the first that is no edge of the ring's
+abbrev pub straightNumber : ℕ
+straightNumber = mostPoints
+
 -- what a place holds before a corner is put there
 abbrev pub blank : Vertex
-blank = record { at = 0; edge = 60 }
+blank = record { at = 0; edge = straightNumber }
 
 abbrev pub vertex : List Vertex → ℕ → Vertex
 vertex vs i = getD vs i noVertex
@@ -35,10 +40,10 @@ partOf ring es vs m = record { points = tab (cornerPoint ring vs) m; edges = tab
 
 -- every place, used or not, holds the number of a point
 abbrev pub Below : List Vertex → Type 0
-Below vs = (i : ℕ) → vertex vs i .at < 60
+Below vs = (i : ℕ) → vertex vs i .at < mostPoints
 
 abbrev pub straight : Vertex → Vertex
-straight c = record { at = c .at; edge = 60 }
+straight c = record { at = c .at; edge = straightNumber }
 
 -- corner i of the m that are counted from corner v of n, the last edge straight
 unfoldable pub closing : List Vertex → ℕ → ℕ → ℕ → ℕ → Vertex

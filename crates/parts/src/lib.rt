@@ -9,11 +9,12 @@ mod sub_polygon;
 ghost use mathlib.Core.Path.{_≡_};
 ghost use mathlib.Core.List.{List};
 ghost use Prim.Native.Nat.{ℕ, _+_, _≤_, _<_};
-ghost use lib.ListN.{length, getD, take};
+ghost use lib.ListN.{getD, take};
 ghost use Rattle.laws.specs.Table.{tab};
 ghost use Rattle.vector.specs.declared.GridPoint.{GridPoint};
 ghost use Rattle.vector.specs.Grid.{origin};
 ghost use Rattle.vector.specs.Size.{AllOnSheet};
+ghost use Rattle.vector.specs.Rings.{mostPoints, pointsOf, OnSheetRing};
 ghost use Rattle.marks.specs.declared.EdgeMark.{EdgeMark};
 ghost use Rattle.marks.specs.Edges.{straightEdge};
 ghost use Rattle.parts.specs.Vertices.{vertex, Below};
@@ -25,12 +26,24 @@ pub use sub_polygon::first_part;
 pub use sub_polygon::rotated_points;
 pub use sub_polygon::second_part;
 use vector::GridPoint;
+use vector::MOST_POINTS;
+use vector::Ring;
 
-// A corner of a part: the number of its point among the ring's, and that of the mark of the edge that starts there; 60 is
-// straight.
+// A corner of a part: the number of its point among the ring's, and that of the mark of the edge that starts there.
 pub struct Vertex {
     pub at: u8,
     pub edge: u8,
+}
+
+impl Vertex {
+    // The number of a straight edge: the first that is no edge of the ring's.
+    pub const STRAIGHT: u8 = 60;
+
+    // What an unused place holds.
+    pub const BLANK: Vertex = Vertex {
+        at: 0,
+        edge: Vertex::STRAIGHT,
+    };
 }
 
 // Parts one after the other: part j has the corners from ends[j] to ends[j + 1]. No more than 33 parts and 124 corners are
@@ -42,11 +55,11 @@ pub struct PartList {
 }
 
 // The n corners from place a on.
-pub fn load(vs: [Vertex; 124], a: usize, n: usize) -> [Vertex; 60]
-    requires { ⌜ (n ≤ 60) × (a + n ≤ 124) × Below vs ⌝ }
+pub fn load(vs: [Vertex; 124], a: usize, n: usize) -> [Vertex; MOST_POINTS]
+    requires { ⌜ (n ≤ mostPoints) × (a + n ≤ 124) × Below vs ⌝ }
     ensures { λ r. ⌜ (take n r ≡ tab (λ i. vertex vs (a + i)) n) × Below r ⌝ }
 {
-    let mut out = [Vertex { at: 0, edge: 60 }; 60];
+    let mut out = [Vertex::BLANK; MOST_POINTS];
     for i in 0..n {
         let c = vs[a + i];
         out[i] = c;
@@ -55,8 +68,8 @@ pub fn load(vs: [Vertex; 124], a: usize, n: usize) -> [Vertex; 60]
 }
 
 // One part more, of n corners.
-pub fn push(p: PartList, ps: [Vertex; 60], n: usize) -> PartList
-    requires { ⌜ Layout.ValidParts p × (p .count < 33) × (3 ≤ n) × (n ≤ 60) × (Layout.end p (p .count) + n ≤ 124) × Below ps ⌝ }
+pub fn push(p: PartList, ps: [Vertex; MOST_POINTS], n: usize) -> PartList
+    requires { ⌜ Layout.ValidParts p × (p .count < 33) × (3 ≤ n) × (n ≤ mostPoints) × (Layout.end p (p .count) + n ≤ 124) × Below ps ⌝ }
     ensures { λ r. ⌜ Layout.Pushed p ps n r ⌝ }
 {
     let mut out = p;
@@ -71,34 +84,28 @@ pub fn push(p: PartList, ps: [Vertex; 60], n: usize) -> PartList
     out
 }
 
-// How many corners piece i has.
-pub fn piece_size(pieces: PartList, i: usize) -> usize
-    requires { ⌜ Layout.ValidParts pieces × (i < pieces .count) ⌝ }
-    ensures { λ r. ⌜ ((ring : List GridPoint) (es : List EdgeMark) → r ≡ length (pieceIn ring es pieces i .points)) × (r ≡ Layout.size pieces i) × (3 ≤ r) × (r ≤ 60) ⌝ }
-{
-    let a = pieces.ends[i] as usize;
-    pieces.ends[i + 1] as usize - a
-}
-
 // The points of piece i, and the marks of its edges, in the first places. The places after them are zero, and straight.
-pub fn piece_points(ring: [GridPoint; 60], pieces: PartList, i: usize) -> [GridPoint; 60]
+pub fn piece_points(ring: [GridPoint; MOST_POINTS], pieces: PartList, i: usize) -> Ring
     requires { ⌜ Layout.ValidParts pieces × (i < pieces .count) × AllOnSheet ring ⌝ }
-    ensures { λ r. ⌜ ((es : List EdgeMark) → take (Layout.size pieces i) r ≡ pieceIn ring es pieces i .points) × AllOnSheet r
-        × ((j : ℕ) → Layout.size pieces i ≤ j → getD r j origin ≡ origin) ⌝ }
+    ensures { λ r. ⌜ ((es : List EdgeMark) → pointsOf r ≡ pieceIn ring es pieces i .points) × OnSheetRing r × (r .count ≡ Layout.size pieces i) × (3 ≤ r .count)
+        × ((j : ℕ) → r .count ≤ j → getD (r .points) j origin ≡ origin) ⌝ }
 {
     let a = pieces.ends[i] as usize;
     let n = pieces.ends[i + 1] as usize - a;
-    let mut out = [GridPoint::ORIGIN; 60];
+    let mut out = [GridPoint::ORIGIN; MOST_POINTS];
     for j in 0..n {
         let c = pieces.corners[a + j];
         let k = c.at as usize;
         let p = ring[k];
         out[j] = p;
     }
-    out
+    Ring {
+        points: out,
+        count: n,
+    }
 }
 
-pub fn piece_marks(marks: [Edge; 60], pieces: PartList, i: usize) -> [Edge; 60]
+pub fn piece_marks(marks: [Edge; MOST_POINTS], pieces: PartList, i: usize) -> [Edge; MOST_POINTS]
     requires { ⌜ Layout.ValidParts pieces × (i < pieces .count) ⌝ }
     ensures { λ r. ⌜ ((ring : List GridPoint) → marksOf (take (Layout.size pieces i) r) ≡ pieceIn ring (marksOf marks) pieces i .edges)
         × ((j : ℕ) → Layout.size pieces i ≤ j → getD r j straightEdge ≡ straightEdge) ⌝ }
@@ -108,12 +115,12 @@ pub fn piece_marks(marks: [Edge; 60], pieces: PartList, i: usize) -> [Edge; 60]
     let straight = Edge {
         mark: EdgeMark::Straight,
     };
-    let mut out = [straight; 60];
+    let mut out = [straight; MOST_POINTS];
     for j in 0..n {
         let c = pieces.corners[a + j];
         let k = c.edge as usize;
         let mut e = straight;
-        if k < 60 {
+        if k < MOST_POINTS {
             e = marks[k];
         }
         out[j] = e;

@@ -6,23 +6,26 @@ ghost use Prim.Native.Nat.{_+_, _-_, _%_, _^_, _≤_, _<_};
 ghost use lib.ListN.{length, take};
 ghost use Rattle.laws.specs.Table.{tab};
 ghost use Rattle.vector.specs.Size.{AllOnSheet};
+ghost use Rattle.vector.specs.Rings.{mostPoints, pointsOf, OnSheetRing};
 ghost use Rattle.marks.specs.declared.EdgeMark.{EdgeMark};
 ghost use Rattle.parts.specs.Cut as Cut;
-ghost use Rattle.parts.specs.Vertices.{vertex, cornerPoint, edgeAt, Below, closing, backward, partOf};
+ghost use Rattle.parts.specs.Vertices.{vertex, cornerPoint, edgeAt, Below, straightNumber, closing, backward, partOf};
 use super::Vertex;
 use vector::GridPoint;
+use vector::MOST_POINTS;
+use vector::Ring;
 
 // The points of n corners, counted from corner v.
 pub fn rotated_points(
-    ring: [GridPoint; 60],
-    vs: [Vertex; 60],
+    ring: [GridPoint; MOST_POINTS],
+    vs: [Vertex; MOST_POINTS],
     n: usize,
     v: usize,
-) -> [GridPoint; 60]
-    requires { ⌜ (n ≤ 60) × (v < n) × Below vs × AllOnSheet ring ⌝ }
-    ensures { λ r. ⌜ (take n r ≡ tab (λ i. cornerPoint ring vs ((v + i) % n)) n) × AllOnSheet r ⌝ }
+) -> Ring
+    requires { ⌜ (n ≤ mostPoints) × (v < n) × Below vs × AllOnSheet ring ⌝ }
+    ensures { λ r. ⌜ (pointsOf r ≡ tab (λ i. cornerPoint ring vs ((v + i) % n)) n) × OnSheetRing r × (r .count ≡ n) ⌝ }
 {
-    let mut out = [GridPoint::ORIGIN; 60];
+    let mut out = [GridPoint::ORIGIN; MOST_POINTS];
     let mut j = v;
     for i in 0..n {
         let c = vs[j];
@@ -31,15 +34,18 @@ pub fn rotated_points(
         out[i] = p;
         j = vector::next(j, n);
     }
-    out
+    Ring {
+        points: out,
+        count: n,
+    }
 }
 
 // m of n corners, counted from corner v. The last edge, the diagonal, is straight.
-pub fn segment(vs: [Vertex; 60], n: usize, v: usize, m: usize) -> [Vertex; 60]
-    requires { ⌜ (n ≤ 60) × (v < n) × (1 ≤ m) × (m ≤ n) × Below vs ⌝ }
+pub fn segment(vs: [Vertex; MOST_POINTS], n: usize, v: usize, m: usize) -> [Vertex; MOST_POINTS]
+    requires { ⌜ (n ≤ mostPoints) × (v < n) × (1 ≤ m) × (m ≤ n) × Below vs ⌝ }
     ensures { λ r. ⌜ (take m r ≡ tab (closing vs n v m) m) × Below r ⌝ }
 {
-    let mut out = [Vertex { at: 0, edge: 60 }; 60];
+    let mut out = [Vertex::BLANK; MOST_POINTS];
     let mut j = v;
     for i in 0..m - 1 {
         let c = vs[j];
@@ -47,16 +53,19 @@ pub fn segment(vs: [Vertex; 60], n: usize, v: usize, m: usize) -> [Vertex; 60]
         j = vector::next(j, n);
     }
     let c = vs[j];
-    out[m - 1] = Vertex { at: c.at, edge: 60 };
+    out[m - 1] = Vertex {
+        at: c.at,
+        edge: Vertex::STRAIGHT,
+    };
     out
 }
 
 // m corners the other way round. Each keeps the edge that now starts there; the last edge is straight.
-pub fn reversed(vs: [Vertex; 60], m: usize) -> [Vertex; 60]
-    requires { ⌜ (1 ≤ m) × (m ≤ 60) × Below vs ⌝ }
+pub fn reversed(vs: [Vertex; MOST_POINTS], m: usize) -> [Vertex; MOST_POINTS]
+    requires { ⌜ (1 ≤ m) × (m ≤ mostPoints) × Below vs ⌝ }
     ensures { λ r. ⌜ (take m r ≡ tab (backward vs m) m) × Below r ⌝ }
 {
-    let mut out = [Vertex { at: 0, edge: 60 }; 60];
+    let mut out = [Vertex::BLANK; MOST_POINTS];
     let mut a = vs[m - 1];
     for i in 0..m - 1 {
         let b = vs[m - 2 - i];
@@ -66,23 +75,30 @@ pub fn reversed(vs: [Vertex; 60], m: usize) -> [Vertex; 60]
         };
         a = b;
     }
-    out[m - 1] = Vertex { at: a.at, edge: 60 };
+    out[m - 1] = Vertex {
+        at: a.at,
+        edge: Vertex::STRAIGHT,
+    };
     out
 }
 
 // A part that a cut makes, and the doubled area that was turned round in making it.
 pub struct SubPolygon {
-    pub corners: [Vertex; 60],
+    pub corners: [Vertex; MOST_POINTS],
     pub turned: u64,
 }
 
 // m corners that end with the diagonal, turned round if their area is negative.
-pub fn make_sub_polygon(ring: [GridPoint; 60], vs: [Vertex; 60], m: usize) -> SubPolygon
-    requires { ⌜ (3 ≤ m) × (m ≤ 60) × Below vs × AllOnSheet ring × (vertex vs (m - 1) .edge ≡ 60) ⌝ }
-    ensures { λ r. ⌜ ((es : List EdgeMark) → length es ≡ 60 → partOf ring es (r .corners) m ≡ Cut.makeSubPolygon (tab (cornerPoint ring vs) m) (tab (edgeAt es vs) (m - 1)))
+pub fn make_sub_polygon(
+    ring: [GridPoint; MOST_POINTS],
+    vs: [Vertex; MOST_POINTS],
+    m: usize,
+) -> SubPolygon
+    requires { ⌜ (3 ≤ m) × (m ≤ mostPoints) × Below vs × AllOnSheet ring × (vertex vs (m - 1) .edge ≡ straightNumber) ⌝ }
+    ensures { λ r. ⌜ ((es : List EdgeMark) → length es ≡ mostPoints → partOf ring es (r .corners) m ≡ Cut.makeSubPolygon (tab (cornerPoint ring vs) m) (tab (edgeAt es vs) (m - 1)))
         × (r .turned ≡ Cut.turnedArea (tab (cornerPoint ring vs) m)) × Below (r .corners) × (r .turned ≤ 2 ^ 53) ⌝ }
 {
-    let area = vector::polygon_area(rotated_points(ring, vs, m, 0), m);
+    let area = vector::polygon_area(rotated_points(ring, vs, m, 0));
     if 0 <= area {
         return SubPolygon {
             corners: vs,
@@ -97,14 +113,14 @@ pub fn make_sub_polygon(ring: [GridPoint; 60], vs: [Vertex; 60], m: usize) -> Su
 
 // The part of n corners from corner v to the place k after it.
 pub fn first_part(
-    ring: [GridPoint; 60],
-    vs: [Vertex; 60],
+    ring: [GridPoint; MOST_POINTS],
+    vs: [Vertex; MOST_POINTS],
     n: usize,
     v: usize,
     k: usize,
 ) -> SubPolygon
-    requires { ⌜ (n ≤ 60) × (v < n) × (2 ≤ k) × (k + 2 ≤ n) × Below vs × AllOnSheet ring ⌝ }
-    ensures { λ r. ⌜ ((es : List EdgeMark) → length es ≡ 60 → partOf ring es (r .corners) (k + 1) ≡ Cut.firstPart (partOf ring es vs n) v k)
+    requires { ⌜ (n ≤ mostPoints) × (v < n) × (2 ≤ k) × (k + 2 ≤ n) × Below vs × AllOnSheet ring ⌝ }
+    ensures { λ r. ⌜ ((es : List EdgeMark) → length es ≡ mostPoints → partOf ring es (r .corners) (k + 1) ≡ Cut.firstPart (partOf ring es vs n) v k)
         × (r .turned ≡ Cut.turnedArea (Cut.firstPoints (Cut.rotate v (tab (cornerPoint ring vs) n)) k)) × Below (r .corners) × (r .turned ≤ 2 ^ 53) ⌝ }
 {
     make_sub_polygon(ring, segment(vs, n, v, k + 1), k + 1)
@@ -112,14 +128,14 @@ pub fn first_part(
 
 // The part from there on, back to corner v.
 pub fn second_part(
-    ring: [GridPoint; 60],
-    vs: [Vertex; 60],
+    ring: [GridPoint; MOST_POINTS],
+    vs: [Vertex; MOST_POINTS],
     n: usize,
     v: usize,
     k: usize,
 ) -> SubPolygon
-    requires { ⌜ (n ≤ 60) × (v < n) × (2 ≤ k) × (k + 2 ≤ n) × Below vs × AllOnSheet ring ⌝ }
-    ensures { λ r. ⌜ ((es : List EdgeMark) → length es ≡ 60 → partOf ring es (r .corners) (n - k + 1) ≡ Cut.secondPart (partOf ring es vs n) v k)
+    requires { ⌜ (n ≤ mostPoints) × (v < n) × (2 ≤ k) × (k + 2 ≤ n) × Below vs × AllOnSheet ring ⌝ }
+    ensures { λ r. ⌜ ((es : List EdgeMark) → length es ≡ mostPoints → partOf ring es (r .corners) (n - k + 1) ≡ Cut.secondPart (partOf ring es vs n) v k)
         × (r .turned ≡ Cut.turnedArea (Cut.secondPoints (Cut.rotate v (tab (cornerPoint ring vs) n)) k)) × Below (r .corners) × (r .turned ≤ 2 ^ 53) ⌝ }
 {
     let start = (v + k) % n;

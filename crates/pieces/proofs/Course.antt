@@ -15,8 +15,11 @@ use lib.Ieee.{Float}
 use Rattle.laws.specs.All.{All}
 use Rattle.vector.specs.declared.GridPoint.{GridPoint}
 use Rattle.vector.specs.declared.Point.{Point}
+use Rattle.vector.specs.Rings.{pointsOf, OnSheetRing}
 use Rattle.marks.specs.declared.Edge.{Edge}
+use Rattle.marks.specs.declared.MarkedRing.{MarkedRing}
 use Rattle.marks.specs.Part.{Part, noPart}
+use Rattle.marks.specs.Edges.{partIn}
 use Rattle.parts.specs.declared.PartList.{PartList}
 use Rattle.parts.specs.Pieces.{pieceIn, marksOf}
 use Rattle.nodes.specs.Growth.{Grown, Anything, InRange, EachNode}
@@ -34,7 +37,7 @@ use Rattle.cells.specs.Stages.{nodesOf}
 use Rattle.cells.specs.Claims.{ValidPiece, cornersTo, CellsOf}
 use Rattle.cells.specs.Asks.{Ask, ofRing, subdivideAsks, onwardAsks, asksTo}
 use Rattle.cells.specs.Rims.{rimsBy}
-use Rattle.cells.specs.Flat.{partIn, subdivideIn, subdivideAsksIn, triedOf, CanSubdividePiece}
+use Rattle.cells.specs.Flat.{subdivideIn, subdivideAsksIn, triedOf, CanSubdividePiece}
 use Rattle.quads.specs.Flat.{overCells}
 use Rattle.cells.proofs.Attempts.{onward-done, pieces-any, pieces-later, subdivide-any}
 use Rattle.cells.proofs.Ranges.{pieces-in-range}
@@ -62,15 +65,14 @@ pub record Reached (share : Float) (l : List Float) (u : ℕ) (rs q : List ℕ) 
   pub place : at ≡ first + length cs
   pub rims : ts ≡ rimsBy u (length ns) (asksAt share l u ring es p i) rs
 
--- piece i, of n corners, was read: its points are the first of xs, and the marks of its edges the first of ds; bs says which of these are ring edges
-pub record Read (ring : List GridPoint) (es : List Edge) (p : PartList) (i n : ℕ) (xs : List GridPoint) (ds : List Edge) (bs : List Bool) : Type 0 where
+-- piece i was read, bs saying which of its edges are ring edges
+pub record Read (ring : List GridPoint) (es : List Edge) (p : PartList) (i : ℕ) (piece : MarkedRing) (bs : List Bool) : Type 0 where
   pub count : i < p .count
-  pub some : 3 ≤ n
-  pub few : n ≤ 60
-  pub corners : n ≡ length (pieceIn ring (marksOf es) p i .points)
-  pub long : length xs ≡ 60
-  pub points : take n xs ≡ pieceIn ring (marksOf es) p i .points
-  pub marks : marksOf (take n ds) ≡ pieceIn ring (marksOf es) p i .edges
+  pub some : 3 ≤ piece .ring .count
+  pub sheet : OnSheetRing (piece .ring)
+  pub corners : piece .ring .count ≡ length (pieceIn ring (marksOf es) p i .points)
+  pub points : pointsOf (piece .ring) ≡ pieceIn ring (marksOf es) p i .points
+  pub marks : marksOf (take (piece .ring .count) (piece .edges)) ≡ pieceIn ring (marksOf es) p i .edges
   pub sides : (j : ℕ) → getD bs j false ≡ ofRing (pieceIn ring everyMark p i) j
 
 -- what is left when the loop ends: the answer, the nodes, the cells and, with all that was asked for, the rim marks
@@ -159,20 +161,20 @@ module _ {share : Float} {l : List Float} {u : ℕ} {q : List ℕ} {first reserv
         )
 
     -- piece i
-    module _ {n : ℕ} {xs : List GridPoint} {ds : List Edge} {bs : List Bool} (k : Read ring es p i n xs ds bs) where
+    module _ {piece : MarkedRing} {bs : List Bool} (k : Read ring es p i piece bs) where
       abbrev P : Part
       P = pieceIn ring (marksOf es) p i
 
       abbrev S : Attempt
       S = subdivide share (s .ns) P
 
-      part-is : partIn xs ds n ≡ P
+      part-is : partIn piece ≡ P
       part-is = λ j. record { points = k .points j; edges = k .marks j }
 
-      divided-is : subdivideIn share m v xs ds n ≡ S
+      divided-is : subdivideIn share m v piece ≡ S
       divided-is = λ j. subdivide share (now-is j) (part-is j)
 
-      corners : length (P .points) ≡ n
+      corners : length (P .points) ≡ (piece .ring .count)
       corners = sym (k .corners)
 
       next-is : O (i + 1) ≡ onward share (done (s .ns) (s .cs)) P
@@ -183,37 +185,36 @@ module _ {share : Float} {l : List Float} {u : ℕ} {q : List ℕ} {first reserv
       grown = omega (arith, ap (λ (o : Outcome). length (nodesOf o)) next-is, ap length (onward-done share (s .ns) (s .cs) P), rise (i + 1) (omega (arith, k .count)))
 
       -- the cells of this piece stay k .count the reserve
-      ahead : length (s .cs) + n ≤ reserve
+      ahead : length (s .cs) + (piece .ring .count) ≤ reserve
       ahead = let b : cornersTo ps i + length (P .points) ≤ reserve = below (suc i) (k .count) in omega (arith, b, made, corners)
 
-      pub can : CanSubdividePiece share m v xs ds n
+      pub can : CanSubdividePiece share m v piece
       can =
           let z = ap (λ (t : Attempt). length (t .nodes)) divided-is in
           record {
             usable = usable (omega (arith, k .count));
             some = omega (arith, k .some);
-            few = k .few;
-            long = k .long;
+            sheet = k .sheet;
             fair = subst ValidPiece (sym part-is) (f .fair i (k .count));
             fits = omega (arith, z, grown, f .fits);
             room = omega (arith, z, grown, f .room, long-nodes (omega (arith, k .count)));
           }
 
       -- and it has marks for its nodes
-      pub rim-room : length (nodesOf (O (p .count))) ≤ length rs → length (subdivideIn share m v xs ds n .nodes) ≤ length ts
+      pub rim-room : length (nodesOf (O (p .count))) ≤ length rs → length (subdivideIn share m v piece .nodes) ≤ length ts
       rim-room h = omega (arith, ap (λ (t : Attempt). length (t .nodes)) divided-is, grown, h, long-rims)
 
-      pub cell-room : at * 4 + n * 4 ≤ length r
+      pub cell-room : at * 4 + (piece .ring .count) * 4 ≤ length r
       cell-room = omega (arith, s .place, ahead, f .places, long-cells (omega (arith, k .count)))
 
-      new-cells : length (S .cells) ≡ n
+      new-cells : length (S .cells) ≡ (piece .ring .count)
       new-cells = subdivide-cells share (s .ns) P .many ∙ corners
 
       -- what it asks for
       abbrev A : List Ask
       A = subdivideAsks share (s .ns) P (ofRing (pieceIn ring everyMark p i))
 
-      asks-are : subdivideAsksIn share m v xs ds bs n ≡ A
+      asks-are : subdivideAsksIn share m v piece bs ≡ A
       asks-are = λ j. subdivideAsks share (now-is j) (part-is j) (fun-ext (k .sides) j)
 
       asks-next : asks (i + 1) ≡ asks i ++ A
@@ -228,8 +229,8 @@ module _ {share : Float} {l : List Float} {u : ℕ} {q : List ℕ} {first reserv
 
       -- what `subdivide` left: its answer t, the nodes m', the rim marks ts', and x in the part of the cells
       module _ {t : Tried} {m' : List Float} {ts' x : List ℕ}
-          (e : (t ≡ triedOf (subdivideIn share m v xs ds n)) × (m' ≡ over m (subdivideIn share m v xs ds n .nodes)) × (x ≡ overCells (take (length r - at * 4) (drop (at * 4) r)) (subdivideIn share m v xs ds n .cells))
-          × (ts' ≡ rimsBy v (length (subdivideIn share m v xs ds n .nodes)) (subdivideAsksIn share m v xs ds bs n) ts)) where
+          (e : (t ≡ triedOf (subdivideIn share m v piece)) × (m' ≡ over m (subdivideIn share m v piece .nodes)) × (x ≡ overCells (take (length r - at * 4) (drop (at * 4) r)) (subdivideIn share m v piece .cells))
+          × (ts' ≡ rimsBy v (length (subdivideIn share m v piece .nodes)) (subdivideAsksIn share m v piece bs) ts)) where
         abbrev r' : List ℕ
         r' = putMid (at * 4) (length r - at * 4) r x
 
@@ -251,7 +252,7 @@ module _ {share : Float} {l : List Float} {u : ℕ} {q : List ℕ} {first reserv
             ∙ rims-then u (length (s .ns)) (length (S .nodes)) (asks i) A rs before (subdivide-any share (s .ns) P .longer) asked-before
             ∙ ap (λ (a : List Ask). rimsBy u (length (S .nodes)) a rs) (sym asks-next)
 
-        both : length (s .cs ++ S .cells) ≡ length (s .cs) + n
+        both : length (s .cs ++ S .cells) ≡ length (s .cs) + (piece .ring .count)
         both = omega (arith, length-append (s .cs) (S .cells), new-cells)
 
         long-after : length r' ≡ length q
@@ -260,17 +261,17 @@ module _ {share : Float} {l : List Float} {u : ℕ} {q : List ℕ} {first reserv
         pub clear-room : (first + reserve) * 4 ≤ length r'
         clear-room = omega (arith, long-after, f .places)
 
-        won : S .fails ≡ n → O (i + 1) ≡ done (S .nodes) (s .cs ++ S .cells)
+        won : S .fails ≡ (piece .ring .count) → O (i + 1) ≡ done (S .nodes) (s .cs ++ S .cells)
         unfolding onward
         won g = next-is ∙ rw (eq-eqb (S .fails) (length (P .points)) (g ∙ sym corners))
 
-        lost : (S .fails ≡ n → ⊥) → O (i + 1) ≡ failed (S .nodes) n (S .fails)
+        lost : (S .fails ≡ (piece .ring .count) → ⊥) → O (i + 1) ≡ failed (S .nodes) (piece .ring .count) (S .fails)
         unfolding onward
         lost g =
             let a : onward share (done (s .ns) (s .cs)) P ≡ failed (S .nodes) (length (P .points)) (S .fails) = rw (ne-eqb (S .fails) (length (P .points)) (λ b. g (b ∙ corners))) in
             next-is ∙ a ∙ ap (λ (k : ℕ). failed (S .nodes) k (S .fails)) corners
 
-        pub go-on : t .fails ≡ n → Reached share l u rs q first ring es p (i + 1) m' (t .used) ts' r' (at + n)
+        pub go-on : t .fails ≡ (piece .ring .count) → Reached share l u rs q first ring es p (i + 1) m' (t .used) ts' r' (at + (piece .ring .count))
         go-on g =
             record {
               ns = S .nodes;
@@ -284,13 +285,13 @@ module _ {share : Float} {l : List Float} {u : ℕ} {q : List ℕ} {first reserv
             }
 
         -- after a failure no piece adds anything
-        stays : (d : ℕ) → O (i + 1) ≡ failed (S .nodes) n (S .fails) → O (i + 1 + d) ≡ failed (S .nodes) n (S .fails)
+        stays : (d : ℕ) → O (i + 1) ≡ failed (S .nodes) (piece .ring .count) (S .fails) → O (i + 1 + d) ≡ failed (S .nodes) (piece .ring .count) (S .fails)
         unfolding piecesTo onward
         stays zero g = let a : i + 1 + zero ≡ i + 1 = omega arith in ap O a ∙ g
         stays (suc d) g = let a : i + 1 + suc d ≡ suc (i + 1 + d) = omega arith in ap O a ∙ ap (λ (o : Outcome). onward share o (getD ps (i + 1 + d) noPart)) (stays d g)
 
         -- and none asks for anything
-        none-asked : (d : ℕ) → O (i + 1) ≡ failed (S .nodes) n (S .fails) → asks (i + 1 + d) ≡ asks (i + 1)
+        none-asked : (d : ℕ) → O (i + 1) ≡ failed (S .nodes) (piece .ring .count) (S .fails) → asks (i + 1 + d) ≡ asks (i + 1)
         unfolding asksTo onwardAsks
         none-asked zero g = let a : i + 1 + zero ≡ i + 1 = omega arith in ap asks a
         none-asked (suc d) g =
@@ -313,14 +314,14 @@ module _ {share : Float} {l : List Float} {u : ℕ} {q : List ℕ} {first reserv
           pub long-cleared : length r'' ≡ length q
           long-cleared = ap length cleared ∙ length-from q first (replicate reserve noCell) (omega (arith, length-replicate reserve noCell, f .places))
 
-          pub after-failure : (t .fails ≡ n → ⊥) → Left l u rs q first reserve (O (p .count)) (asks (p .count)) (Failed n (t .fails) (t .used)) m' ts' r''
+          pub after-failure : (t .fails ≡ (piece .ring .count) → ⊥) → Left l u rs q first reserve (O (p .count)) (asks (p .count)) (Failed (piece .ring .count) (t .fails) (t .used)) m' ts' r''
           after-failure g =
               let a = ap (λ (t : Tried). t .fails) told in
               let b : i + 1 + (p .count - (i + 1)) ≡ p .count = omega (arith, k .count) in
               let w = lost (λ z. g (a ∙ z)) in
-              let o : O (p .count) ≡ failed (S .nodes) n (S .fails) = ap O (sym b) ∙ stays (p .count - (i + 1)) w in
+              let o : O (p .count) ≡ failed (S .nodes) (piece .ring .count) (S .fails) = ap O (sym b) ∙ stays (p .count - (i + 1)) w in
               let d : asks (p .count) ≡ asks (i + 1) = ap asks (sym b) ∙ none-asked (p .count - (i + 1)) w in (
-                subst (λ (o : Outcome). row (Failed n (t .fails) (t .used)) ≡ rowOf o) (sym o) (λ j. row (Failed n (a j) (told j .used))),
+                subst (λ (o : Outcome). row (Failed (piece .ring .count) (t .fails) (t .used)) ≡ rowOf o) (sym o) (λ j. row (Failed (piece .ring .count) (a j) (told j .used))),
                 nodes-now ∙ ap (λ (o : Outcome). over l (nodesOf o)) (sym o),
                 cleared ∙ ap (λ (o : Outcome). overFrom q first (cellsLeft reserve o)) (sym o),
                 rims-now ∙ (λ j. rimsBy u (length (nodesOf (sym o j))) (sym d j) rs),

@@ -5,6 +5,7 @@ use lib.ListN.{length, take, drop, replicate}
 use lib.Ieee.{Float}
 use Rattle.vector.specs.declared.GridPoint.{GridPoint}
 use Rattle.vector.specs.Size.{AllOnSheet}
+use Rattle.vector.specs.Rings.{mostPoints}
 use Rattle.marks.specs.declared.Edge.{Edge}
 use Rattle.marks.specs.declared.EdgeMark.{EdgeMark}
 use Rattle.marks.specs.Part.{Part}
@@ -34,7 +35,7 @@ outcomeIn share l u ring es p = piecesTo share (piecesIn ring es p) (nodesIn l u
 -- ---- the ring edges among theirs
 -- every edge of the ring marked; the pieces so marked; and what the pieces ask for
 unfoldable pub everyMark : List EdgeMark
-everyMark = replicate 60 label
+everyMark = replicate mostPoints label
 
 abbrev pub labelledIn : List GridPoint → PartList → List Part
 labelledIn ring p = listOf ring everyMark p (p .count)

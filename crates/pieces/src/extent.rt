@@ -12,6 +12,7 @@ use marks::EdgeMark;
 use nodes::Window;
 use parts::PartList;
 use vector::GridPoint;
+use vector::MOST_POINTS;
 use vector::Point;
 
 // 1/8192 mm.
@@ -78,7 +79,11 @@ impl Extent {
 }
 
 // How far the corners of the pieces and the snap points of their edges reach.
-pub fn of_pieces(ring: [GridPoint; 60], marks: [Edge; 60], pieces: PartList) -> Extent
+pub fn of_pieces(
+    ring: [GridPoint; MOST_POINTS],
+    marks: [Edge; MOST_POINTS],
+    pieces: PartList,
+) -> Extent
     requires { ⌜ ValidParts pieces ⌝ }
 {
     let count = pieces.count;
@@ -90,7 +95,7 @@ pub fn of_pieces(ring: [GridPoint; 60], marks: [Edge; 60], pieces: PartList) -> 
         let p = ring[k];
         e = e.with(Point::new(p));
         let j = c.edge as usize;
-        if j < 60 {
+        if j < MOST_POINTS {
             let d = marks[j];
             let m = d.mark;
             e = e.with_mark(m);

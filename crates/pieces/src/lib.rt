@@ -21,11 +21,12 @@ ghost use Rattle.cells.specs.Asks.{ofRing};
 ghost use Rattle.cells.specs.Rims.{rimsBy};
 ghost use Rattle.quads.specs.Flat.{overCells};
 ghost use Rattle.pieces.specs.Flat.{outcomeIn, everyMark, asksIn, CanSubdivide, row, rowOf, overFrom, cellsLeft};
-use marks::Edge;
+use marks::MarkedRing;
 use nodes::MOST_NEARBY;
 use nodes::NodeNumber;
 use parts::PartList;
-use vector::GridPoint;
+use parts::Vertex;
+use vector::MOST_POINTS;
 
 // The count of nodes, and of the cells that all pieces have; or the corners of the piece and its first cell that fails,
 // and the count of nodes, which stay.
@@ -51,17 +52,17 @@ fn clear(cells: &mut [NodeNumber], n: usize)
     }
 }
 
-// Which edges of piece i are edges of the ring: the diagonal of a cut has the number 60.
-fn piece_sides(pieces: PartList, i: usize) -> [bool; 60]
+// Which edges of piece i are edges of the ring: the diagonal of a cut is straight by its number.
+fn piece_sides(pieces: PartList, i: usize) -> [bool; MOST_POINTS]
     requires { ⌜ ValidParts pieces × (i < pieces .count) ⌝ }
     ensures { λ r. ⌜ ((ring : List GridPoint) (j : ℕ) → getD r j false ≡ ofRing (pieceIn ring everyMark pieces i) j) ⌝ }
 {
     let a = pieces.ends[i] as usize;
     let n = pieces.ends[i + 1] as usize - a;
-    let mut out = [false; 60];
+    let mut out = [false; MOST_POINTS];
     for j in 0..n {
         let c = pieces.corners[a + j];
-        out[j] = c.edge < 60;
+        out[j] = c.edge < Vertex::STRAIGHT;
     }
     out
 }
@@ -75,19 +76,21 @@ pub fn subdivide_all(
     cells: &mut [NodeNumber],
     first: usize,
     reserve: usize,
-    ring: [GridPoint; 60],
-    marks: [Edge; 60],
+    ring: MarkedRing,
     pieces: PartList,
     share: f64,
 ) -> Subdivision
-    requires { ⌜ CanSubdivide share (now nodes) used (now cells) first reserve ring marks pieces
-        × (length (nodesOf (outcomeIn share (now nodes) used ring marks pieces)) ≤ length (now rims)) ⌝ }
-    ensures { λ r. ⌜ (row r ≡ rowOf (outcomeIn share (now (nodes .entry)) used ring marks pieces))
-        × (now (nodes .exit) ≡ over (now (nodes .entry)) (nodesOf (outcomeIn share (now (nodes .entry)) used ring marks pieces)))
-        × (now (cells .exit) ≡ overFrom (now (cells .entry)) first (cellsLeft reserve (outcomeIn share (now (nodes .entry)) used ring marks pieces)))
-        × (now (rims .exit) ≡ rimsBy used (length (nodesOf (outcomeIn share (now (nodes .entry)) used ring marks pieces))) (asksIn share (now (nodes .entry)) used ring marks pieces) (now (rims .entry))) ⌝ }
+    requires { ⌜ CanSubdivide share (now nodes) used (now cells) first reserve (ring .ring .points) (ring .edges) pieces
+        × (length (nodesOf (outcomeIn share (now nodes) used (ring .ring .points) (ring .edges) pieces)) ≤ length (now rims)) ⌝ }
+    ensures { λ r. ⌜ (row r ≡ rowOf (outcomeIn share (now (nodes .entry)) used (ring .ring .points) (ring .edges) pieces))
+        × (now (nodes .exit) ≡ over (now (nodes .entry)) (nodesOf (outcomeIn share (now (nodes .entry)) used (ring .ring .points) (ring .edges) pieces)))
+        × (now (cells .exit) ≡ overFrom (now (cells .entry)) first (cellsLeft reserve (outcomeIn share (now (nodes .entry)) used (ring .ring .points) (ring .edges) pieces)))
+        × (now (rims .exit) ≡ rimsBy used (length (nodesOf (outcomeIn share (now (nodes .entry)) used (ring .ring .points) (ring .edges) pieces))) (asksIn share (now (nodes .entry)) used (ring .ring .points) (ring .edges) pieces) (now (rims .entry))) ⌝ }
 {
-    let e = extent::of_pieces(ring, marks, pieces);
+    let own = ring.ring;
+    let points = own.points;
+    let edges = ring.edges;
+    let e = extent::of_pieces(points, edges, pieces);
     let w = extent::window(e);
     let mut numbers = [0; MOST_NEARBY];
     let mut xs = [0.0; MOST_NEARBY];
@@ -95,9 +98,11 @@ pub fn subdivide_all(
     let mut u = used;
     let mut at = first;
     for i in 0..pieces.count {
-        let n = parts::piece_size(pieces, i);
-        let ps = parts::piece_points(ring, pieces, i);
-        let es = parts::piece_marks(marks, pieces, i);
+        let piece = MarkedRing {
+            ring: parts::piece_points(points, pieces, i),
+            edges: parts::piece_marks(edges, pieces, i),
+        };
+        let n = piece.ring.count;
         let sides = piece_sides(pieces, i);
         let start = at * 4;
         let t = cells::subdivide(
@@ -105,10 +110,8 @@ pub fn subdivide_all(
             u,
             rims,
             &mut cells[start..],
-            ps,
-            es,
+            piece,
             sides,
-            n,
             share,
             near,
             &numbers,

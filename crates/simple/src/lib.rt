@@ -6,13 +6,14 @@ ghost use mathlib.Core.Bool.{not, _&&_};
 ghost use Prim.Native.Nat.{_^_, _≤_};
 ghost use lib.IntN.{natAbs, pos};
 ghost use lib.Signed.{ltZ, leZ};
-ghost use lib.ListN.{take};
 ghost use Rattle.laws.specs.Integer.{eqZ};
-ghost use Rattle.vector.specs.Size.{OnSheet, AllOnSheet};
+ghost use Rattle.vector.specs.Size.{OnSheet};
+ghost use Rattle.vector.specs.Rings.{pointsOf, OnSheetRing};
 ghost use Rattle.simple.specs.Simple as Simple;
 ghost use Rattle.simple.specs.Meeting as Meeting;
 use vector::GridPoint;
 use vector::Point;
+use vector::Ring;
 
 // t lies strictly between 1.0e-9 and 1.0 - 1.0e-9: an end that only touches does not count.
 fn interior(t: f64) -> bool
@@ -152,22 +153,23 @@ fn edges_cross(a: GridPoint, b: GridPoint, c: GridPoint, d: GridPoint, joined: b
     segments_cross(a, b, c, d)
 }
 
-// Whether no edge of the ring of the first n points crosses another. The scan over pairs of edges ends at the first crossing;
-// the edge after i is left out by where the inner loop starts, the edge before the first by its end.
-pub fn polygon_simple(ps: [GridPoint; 60], n: usize) -> bool
-    requires { ⌜ (n ≤ 60) × AllOnSheet ps ⌝ }
-    ensures { λ r. ⌜ r ≡ Simple.polygonSimple (take n ps) ⌝ }
+// Whether no edge of the ring crosses another. The scan over pairs of edges ends at the first crossing; the edge after i is
+// left out by where the inner loop starts, the edge before the first by its end.
+pub fn polygon_simple(ring: Ring) -> bool
+    requires { ⌜ OnSheetRing ring ⌝ }
+    ensures { λ r. ⌜ r ≡ Simple.polygonSimple (pointsOf ring) ⌝ }
 {
+    let n = ring.count;
     if n < 3 {
         return false;
     }
     let mut found = false;
     'scan: for i in 0..n {
-        let a = ps[i];
-        let b = ps[vector::next(i, n)];
+        let a = ring.points[i];
+        let b = ring.points[vector::next(i, n)];
         for j in i + 2..n {
             let k = vector::next(j, n);
-            if edges_cross(a, b, ps[j], ps[k], k == i) {
+            if edges_cross(a, b, ring.points[j], ring.points[k], k == i) {
                 found = true;
                 break 'scan;
             }
@@ -187,15 +189,16 @@ fn ray_meets(a: Point, b: Point, p: Point) -> bool
     p.x < a.x + t * (b.x - a.x)
 }
 
-// Whether p is inside the ring of the first n points: its ray meets an odd number of edges.
-pub fn point_in_polygon(ps: [GridPoint; 60], n: usize, p: Point) -> bool
-    requires { ⌜ (3 ≤ n) × (n ≤ 60) ⌝ }
-    ensures { λ r. ⌜ r ≡ Simple.pointInPolygon (take n ps) p ⌝ }
+// Whether p is inside the ring: its ray meets an odd number of edges.
+pub fn point_in_polygon(ring: Ring, p: Point) -> bool
+    requires { ⌜ OnSheetRing ring × (3 ≤ ring .count) ⌝ }
+    ensures { λ r. ⌜ r ≡ Simple.pointInPolygon (pointsOf ring) p ⌝ }
 {
+    let n = ring.count;
     let mut inside = false;
     for i in 0..n {
-        let a = Point::new(ps[i]);
-        let b = Point::new(ps[vector::next(i, n)]);
+        let a = Point::new(ring.points[i]);
+        let b = Point::new(ring.points[vector::next(i, n)]);
         if ray_meets(a, b, p) {
             inside = !inside;
         }

@@ -8,13 +8,16 @@ mod text;
 ghost use Prim.Native.Nat.{_^_, _≤_};
 ghost use lib.IntN.{natAbs};
 ghost use Rattle.vector.specs.Size.{AllOnSheet};
+ghost use Rattle.vector.specs.Rings.{mostPoints, OnSheetRing};
 ghost use Rattle.parts.specs.Layout.{ValidParts};
 use chain::Simplified;
 use corner::Limits;
 use libc::STDIN_FILENO;
-use marks::Edge;
+use marks::MarkedRing;
 use parts::PartList;
 use vector::GridPoint;
+use vector::MOST_POINTS;
+use vector::Ring;
 
 fn wide(b: u8) -> u64
     ensures { λ r. ⌜ r ≤ 255 ⌝ }
@@ -42,30 +45,33 @@ fn coordinate(u: u64) -> i32
     0
 }
 
-// The points of all 60 places of a block.
-fn points(block: [u8; 512]) -> [GridPoint; 60]
-    ensures { λ r. ⌜ AllOnSheet r ⌝ }
+// How many points of a block are used, held to what a ring may have.
+fn count(block: [u8; 512]) -> usize
+    ensures { λ r. ⌜ r ≤ mostPoints ⌝ }
 {
-    let mut out = [GridPoint::ORIGIN; 60];
-    for i in 0..60 {
+    let n = block[1] as usize;
+    if MOST_POINTS < n {
+        return MOST_POINTS;
+    }
+    n
+}
+
+// The ring or the chain of a block: the points of all its places, and how many are used.
+fn points(block: [u8; 512]) -> Ring
+    ensures { λ r. ⌜ OnSheetRing r ⌝ }
+{
+    let mut out = [GridPoint::ORIGIN; MOST_POINTS];
+    for i in 0..MOST_POINTS {
         let at = i * 8 + 4;
         out[i] = GridPoint {
             x: coordinate(four(block[at], block[at + 1], block[at + 2], block[at + 3])),
             y: coordinate(four(block[at + 4], block[at + 5], block[at + 6], block[at + 7])),
         };
     }
-    out
-}
-
-// How many of them are used, held to 60.
-fn count(block: [u8; 512]) -> usize
-    ensures { λ r. ⌜ r ≤ 60 ⌝ }
-{
-    let n = block[1] as usize;
-    if 60 < n {
-        return 60;
+    Ring {
+        points: out,
+        count: count(block),
     }
-    n
 }
 
 // The sheet size of a ring block.
@@ -90,65 +96,74 @@ fn print_chain(s: Simplified, n: usize)
     }
 }
 
-fn print_marks(edges: [Edge; 60], n: usize)
-    requires { ⌜ n ≤ 60 ⌝ }
+fn print_marks(ring: MarkedRing)
+    requires { ⌜ OnSheetRing (ring .ring) ⌝ }
 {
+    let n = ring.ring.count;
     for i in 0..n {
-        let e = edges[i];
+        let e = ring.edges[i];
         let m = e.mark;
         text::mark(i, m);
     }
 }
 
-fn print_piece(points: [GridPoint; 60], edges: [Edge; 60], n: usize)
-    requires { ⌜ (n ≤ 60) × AllOnSheet points ⌝ }
+fn print_piece(piece: MarkedRing)
+    requires { ⌜ OnSheetRing (piece .ring) ⌝ }
 {
+    let n = piece.ring.count;
+    let ring = piece.ring;
     text::number(b"piece ", n as u64);
     text::end();
     for i in 0..n {
-        let e = edges[i];
+        let e = piece.edges[i];
         let m = e.mark;
-        text::corner(points[i], m);
+        text::corner(ring.points[i], m);
     }
 }
 
-fn print_pieces(ring: [GridPoint; 60], edges: [Edge; 60], pieces: PartList)
-    requires { ⌜ ValidParts pieces × AllOnSheet ring ⌝ }
+fn print_pieces(ring: MarkedRing, pieces: PartList)
+    requires { ⌜ ValidParts pieces × OnSheetRing (ring .ring) ⌝ }
 {
+    let own = ring.ring;
+    let points = own.points;
+    let edges = ring.edges;
     let k = pieces.count;
     for i in 0..k {
-        let n = parts::piece_size(pieces, i);
-        print_piece(
-            parts::piece_points(ring, pieces, i),
-            parts::piece_marks(edges, pieces, i),
-            n,
-        );
+        print_piece(MarkedRing {
+            ring: parts::piece_points(points, pieces, i),
+            edges: parts::piece_marks(edges, pieces, i),
+        });
     }
 }
 
-fn print_split(ring: [GridPoint; 60], edges: [Edge; 60], n: usize)
-    requires { ⌜ (3 ≤ n) × (n ≤ 60) × AllOnSheet ring ⌝ }
+fn print_split(ring: MarkedRing)
+    requires { ⌜ OnSheetRing (ring .ring) × (3 ≤ ring .ring .count) ⌝ }
 {
-    let s = split::split_bad_vertices(Limits::on_delivery(), ring, n);
+    let own = ring.ring;
+    let s = split::split_bad_vertices(Limits::on_delivery(), own);
     text::number(b"cuts ", s.cuts as u64);
     text::number(b" turned ", s.turned);
     text::end();
     let pieces = s.pieces;
-    print_pieces(ring, edges, pieces);
+    print_pieces(ring, pieces);
 }
 
-fn print_marked(ring: [GridPoint; 60], n: usize, simple: bool, s: Simplified)
-    requires { ⌜ (3 ≤ n) × (n ≤ 60) × AllOnSheet ring × (s .count ≤ 59) ⌝ }
+fn print_marked(ring: Ring, simple: bool, s: Simplified)
+    requires { ⌜ OnSheetRing ring × (3 ≤ ring .count) × (s .count ≤ 59) ⌝ }
 {
-    let edges = marks::mark_edges(ring, n, s);
-    print_marks(edges, n);
-    let area = vector::polygon_area(ring, n);
+    let edges = marks::mark_edges(ring, s);
+    let marked = MarkedRing {
+        ring: ring,
+        edges: edges,
+    };
+    print_marks(marked);
+    let area = vector::polygon_area(ring);
     text::area(area);
-    let w = corner::worst(ring, n);
+    let w = corner::worst(ring);
     text::worst(w, w.is_bad(Limits::on_delivery()));
     if simple {
         if 0 < area {
-            print_split(ring, edges, n);
+            print_split(marked);
         }
     }
 }
@@ -156,20 +171,19 @@ fn print_marked(ring: [GridPoint; 60], n: usize, simple: bool, s: Simplified)
 fn print_ring(ring: [u8; 512], chain: [u8; 512], number: u64) {
     text::number(b"ring ", number);
     text::end();
-    let m = count(chain);
-    let s = chain::simplify_chain(points(chain), m);
-    print_chain(s, m);
-    let r = clean::clean_polygon(points(ring), count(ring), size(ring));
-    let cleaned = r.points;
-    let n = r.count;
-    text::points(cleaned, n);
-    let simple = simple::polygon_simple(cleaned, n);
+    let run = points(chain);
+    let s = chain::simplify_chain(run);
+    print_chain(s, run.count);
+    let r = clean::clean_polygon(points(ring), size(ring));
+    let cleaned = r.ring;
+    text::points(cleaned);
+    let simple = simple::polygon_simple(cleaned);
     text::flag(b"simple ", simple);
     text::end();
-    if 3 <= n {
-        print_marked(cleaned, n, simple, s);
+    if 3 <= cleaned.count {
+        print_marked(cleaned, simple, s);
     } else {
-        text::area(vector::polygon_area(cleaned, n));
+        text::area(vector::polygon_area(cleaned));
     }
 }
 

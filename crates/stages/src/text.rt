@@ -2,12 +2,14 @@
 
 ghost use Prim.Native.Nat.{_^_, _≤_};
 ghost use lib.IntN.{natAbs};
-ghost use Rattle.vector.specs.Size.{OnSheet, AllOnSheet};
+ghost use Rattle.vector.specs.Size.{OnSheet};
+ghost use Rattle.vector.specs.Rings.{OnSheetRing};
 use corner::Corner;
 use libc::STDOUT_FILENO;
 use marks::EdgeMark;
 use vector::GridPoint;
 use vector::Point;
+use vector::Ring;
 
 pub fn end() {
     io::write_all(STDOUT_FILENO, b"\n");
@@ -51,11 +53,12 @@ pub fn point(word: &[u8], p: GridPoint)
     end();
 }
 
-pub fn points(ps: [GridPoint; 60], n: usize)
-    requires { ⌜ (n ≤ 60) × AllOnSheet ps ⌝ }
+pub fn points(ring: Ring)
+    requires { ⌜ OnSheetRing ring ⌝ }
 {
+    let n = ring.count;
     for i in 0..n {
-        point(b"corner ", ps[i]);
+        point(b"corner ", ring.points[i]);
     }
 }
 

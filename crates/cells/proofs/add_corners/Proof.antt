@@ -1,4 +1,4 @@
--- `cells::add_corners` meets its contract.
+-- `add_corners`. The loop's invariant: the first i corners are added.
 use mathlib.Core.Path.{_≡_, refl, sym, ap, _∙_, subst}
 use Prim.Native.Nat.{ℕ, _-_, _≤_}
 use lib.Seq.{getD-take}
@@ -13,19 +13,19 @@ use Rattle.cells.proofs.add_corners.Statement.{statement}
 use Rattle.cells.proofs.add_corners.Tie as tie
 
 abbrev Inv-loop : tie.InvT-loop
-Inv-loop nodes₀ used n near numbers xs points list₀ at₀ i₀ nodes list at i = (i ≤ n) × Adds nodes₀ used (cornerAt points n) i nodes at list
+Inv-loop nodes₀ used near numbers xs ring n list₀ at₀ i₀ nodes list at i = (i ≤ n) × (n ≡ ring .count) × Adds nodes₀ used (cornerAt ring) i nodes at list
 
 abbrev μ-loop : tie.MeasureT-loop
-μ-loop nodes₀ used n near numbers xs points list₀ at₀ i₀ nodes list at i = n - i
+μ-loop nodes₀ used near numbers xs ring n list₀ at₀ i₀ nodes list at i = n - i
 
 loop-holds : tie.Need-loop-holds Inv-loop μ-loop
-loop-holds c = (search needs, adding.start _ (c .before .before .before .pre .0 .usable .room) refl)
+loop-holds c = (search needs, search needs, adding.start _ (c .before .before .before .pre .0 .usable .room) refl)
 
 mul-p : tie.Need-mul-p Inv-loop μ-loop
 mul-p c = search needs
 
-array-copy-out-p : tie.Need-array-copy-out-p Inv-loop μ-loop
-array-copy-out-p c = search needs
+element-copy-out-p : tie.Need-element-copy-out-p Inv-loop μ-loop
+element-copy-out-p c = search needs
 
 new-requires : tie.Need-new-requires Inv-loop μ-loop
 new-requires c κs = search needs
@@ -36,8 +36,8 @@ add-node-requires c κs =
     let s = o .before .before .before .before in
     let l = o .loop in
     let t = c .before .before .before .loop-test .taken in
-    let e = c .new .ensures ∙ ap inMm (sym (getD-take (s .args .n) (s .args .t3) (l .i) origin t)) in
-    (adding.usable (s .pre .0) (l .inv .1) (l .inv .0), subst InRange (sym e) (s .pre .0 .ranged (l .i) t), adding.ahead (s .pre .0) (l .inv .1) t e, adding.held (l .inv .1) (s .pre .1))
+    let e = c .new .ensures ∙ ap inMm (sym (getD-take (s .args .t3 .count) (s .args .t3 .points) (l .i) origin t)) in
+    (adding.usable (s .pre .0) (l .inv .2) (l .inv .0), subst InRange (sym e) (s .pre .0 .ranged (l .i) t), adding.ahead (s .pre .0) (l .inv .2) t e, adding.held (l .inv .2) (s .pre .2))
 
 mul-list : tie.Need-mul-list Inv-loop μ-loop
 mul-list c = search needs
@@ -59,17 +59,17 @@ loop-again c =
     let t = c .before .before .before .before .before .before .loop-test .taken in
     let a = c .before .before .add-node in
     let k = c .before .before .before .new in
-    (search needs, adding.next (l .inv .1) (omega (arith, s .pre .0 .few)) (k .ensures ∙ ap inMm (sym (getD-take (s .args .n) (s .args .t3) (l .i) origin t))) (a .ensures .0) (a .ensures .1))
+    (search needs, search needs, adding.next (l .inv .2) (omega (arith, s .pre .0 .few)) (k .ensures ∙ ap inMm (sym (getD-take (s .args .t3 .count) (s .args .t3 .points) (l .i) origin t))) (a .ensures .0) (a .ensures .1))
 
 same-length : tie.Need-same-length Inv-loop μ-loop
-same-length c = let o = c .before in adding.same-size (o .before .before .before .before .pre .0) (o .loop .inv .1) (o .loop .inv .0)
+same-length c = let o = c .before in adding.same-size (o .before .before .before .before .pre .0) (o .loop .inv .2) (o .loop .inv .0)
 
 returns : tie.Need-returns Inv-loop μ-loop
 returns c =
     let a = c .before .before .before .before .before .args in
     let l = c .before .loop in
-    let e : l .i ≡ a .n = omega arith in
-    subst (λ (k : ℕ). Adds (a .nodes .now) (a .used) (cornerAt (a .t3) (a .n)) k (l .nodes) (l .at) (l .list)) e (l .inv .1)
+    let e : l .i ≡ a .t3 .count = omega arith in
+    subst (λ (k : ℕ). Adds (a .nodes .now) (a .used) (cornerAt (a .t3)) k (l .nodes) (l .at) (l .list)) e (l .inv .2)
 
 pub add-corners-spec : {M : Type 1} → statement M
 add-corners-spec =
@@ -79,7 +79,7 @@ add-corners-spec =
     μ-loop
     loop-holds
     mul-p
-    array-copy-out-p
+    element-copy-out-p
     new-requires
     add-node-requires
     mul-list

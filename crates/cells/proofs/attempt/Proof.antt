@@ -1,4 +1,4 @@
--- `cells::attempt` meets its contract.
+-- `attempt`: corners, middles, centre, cells and rim marks one after the other, each with what the one before left.
 use mathlib.Core.Path.{_∙_}
 use Rattle.cells.proofs.Adding.{listed, held}
 use Rattle.cells.proofs.OneAttempt as one
@@ -8,12 +8,12 @@ use Rattle.cells.proofs.attempt.Statement.{statement}
 use Rattle.cells.proofs.attempt.Tie as tie
 
 add-corners-requires : tie.Need-add-corners-requires
-add-corners-requires c κs = let s = c .before .before .before .before .before .before in (one.add-corners (s .pre .0), s .pre .2)
+add-corners-requires c κs = let s = c .before .before .before .before .before .before .before .before in (one.add-corners (s .pre .0), s .pre .0 .sheet, s .pre .2)
 
 add-middles-requires : tie.Need-add-middles-requires
 add-middles-requires c κs =
     let k = c .before .before .before .before in
-    let s = k .before .before .before .before .before .before .before in
+    let s = k .before .before .before .before .before .before .before .before .before in
     let f = s .pre .0 in
     (one.add-middles f (k .add-corners .ensures), listed (k .add-corners .ensures), held (k .add-corners .ensures) (s .pre .2))
 
@@ -21,16 +21,16 @@ mean-requires : tie.Need-mean-requires
 mean-requires c κs =
     let m = c .before .before .before .before in
     let k = m .before .before .before .before .before in
-    let s = k .before .before .before .before .before .before .before in
+    let s = k .before .before .before .before .before .before .before .before .before in
     let f = s .pre .0 in
-    (f .some, f .few, one.corner-room f (k .add-corners .ensures) (m .add-middles .ensures .0))
+    (f .some, f .sheet .count, one.corner-room f (k .add-corners .ensures) (m .add-middles .ensures .0))
 
 add-node-requires : tie.Need-add-node-requires
 add-node-requires c κs =
     let q = c .before in
     let m = q .before .before .before .before .before in
     let k = m .before .before .before .before .before in
-    let s = k .before .before .before .before .before .before .before in
+    let s = k .before .before .before .before .before .before .before .before .before in
     let f = s .pre .0 in
     let a = k .add-corners .ensures in
     let b = m .add-middles .ensures .0 in
@@ -42,8 +42,8 @@ put-cells-requires c κs =
     let q = z .before .before in
     let m = q .before .before .before .before .before in
     let k = m .before .before .before .before .before in
-    let s = k .before .before .before .before .before .before .before in
-    (s .pre .0 .few, s .pre .1, m .add-middles .ensures .0 .long, k .add-corners .ensures .long)
+    let s = k .before .before .before .before .before .before .before .before .before in
+    (s .pre .0 .sheet .count, s .pre .1, m .add-middles .ensures .0 .long, k .add-corners .ensures .long)
 
 mark-rims-requires : tie.Need-mark-rims-requires
 mark-rims-requires c κs =
@@ -51,7 +51,7 @@ mark-rims-requires c κs =
     let q = z .before .before in
     let m = q .before .before .before .before .before in
     let k = m .before .before .before .before .before in
-    let s = k .before .before .before .before .before .before .before in
+    let s = k .before .before .before .before .before .before .before .before .before in
     let f = s .pre .0 in
     let a = k .add-corners .ensures in
     let b = m .add-middles .ensures .0 in
@@ -59,7 +59,7 @@ mark-rims-requires c κs =
     let e = z .add-node .ensures in (
       one.used-up f a b d (e .0) (e .1),
       omega (arith, one.used-all f a b d (e .0) (e .1), s .pre .3),
-      f .few,
+      f .sheet .count,
       one.corners-listed f a b d (e .0) (e .1),
       one.middles-listed f a b d (e .0) (e .1),
       a .long,
@@ -72,13 +72,13 @@ first-failing-requires c κs =
     let q = z .before .before in
     let m = q .before .before .before .before .before in
     let k = m .before .before .before .before .before in
-    let s = k .before .before .before .before .before .before .before in
+    let s = k .before .before .before .before .before .before .before .before .before in
     let f = s .pre .0 in
     let a = k .add-corners .ensures in
     let b = m .add-middles .ensures .0 in
     let d = q .mean .ensures in
     let e = z .add-node .ensures in (
-      f .few,
+      f .sheet .count,
       one.used-room f a b d (e .0) (e .1),
       one.centre-listed f a b d (e .0) (e .1),
       one.middles-listed f a b d (e .0) (e .1),
@@ -106,7 +106,7 @@ returns c =
     let q = z .before .before in
     let m = q .before .before .before .before .before in
     let k = m .before .before .before .before .before in
-    let s = k .before .before .before .before .before .before .before in
+    let s = k .before .before .before .before .before .before .before .before .before in
     let e = z .add-node .ensures in
     one.answer (s .pre .0) (k .add-corners .ensures) (m .add-middles .ensures .0) (q .mean .ensures) (e .0) (e .1) (s .args .cells .now) (s .args .sides) (s .args .rims .now) (m .add-middles .ensures .1) (c .first-failing .ensures) (c .before .before .before .before .before .before .before .before .put-cells .ensures)
     (c .before .before .before .before .mark-rims .ensures (z .add-node .result .number))

@@ -1,4 +1,4 @@
--- `cells::subdivide` meets its contract.
+-- `subdivide`: one attempt, or a second on straight middles after it.
 use Rattle.cells.proofs.TwoAttempts as two
 use native.Mathlib.Omega.{arith}
 use borrow.Author.Needs.{needs}
@@ -19,7 +19,7 @@ same-length-3 c = search needs
 
 returns : tie.Need-returns
 returns c =
-    let x = c .before .before .before .before .before .before .before .before in
+    let x = c .before .before .before .before .before .before .before .before .before in
     let s = x .before .before .before .before .before .before .before .before .before in
     two.if-held (s .pre .0) (s .args .cells .now) (s .args .sides) (s .args .rims .now) (x .attempt .ensures) (c .if1 .taken)
 
@@ -34,14 +34,14 @@ same-length-6 c = search needs
 
 returns-2 : tie.Need-returns-2
 returns-2 c =
-    let x = c .before .before .before .before .before .before .before .before .before in
+    let x = c .before .before .before .before .before .before .before .before .before .before in
     let s = x .before .before .before .before .before .before .before .before .before in
     two.if-far (s .pre .0) (s .args .cells .now) (s .args .sides) (s .args .rims .now) (x .attempt .ensures) (c .before .if1 .left) (c .if2 .taken)
 
 attempt-requires-2 : tie.Need-attempt-requires-2
 attempt-requires-2 c κs =
-    let i = c .before .before .before in
-    let x = i .before .before .before .before .before .before .before .before .before in
+    let i = c .before .before .before .before in
+    let x = i .before .before .before .before .before .before .before .before .before .before in
     let s = x .before .before .before .before .before .before .before .before .before in
     (two.try-second (s .pre .0) (s .args .cells .now) (s .args .sides) (s .args .rims .now) (x .attempt .ensures) (i .before .if1 .left) (i .if2 .left), omega (arith, s .pre .1, x .attempt .kept .1 .1 .1 .0), two.held-first (s .pre .0) (s .args .cells .now) (s .args .sides) (s .args .rims .now) (x .attempt .ensures) (s .pre .2), two.rims-second (s .pre .0) (s .args .cells .now) (s .args .sides) (s .args .rims .now) (x .attempt .ensures) (i .before .if1 .left) (i .if2 .left) (s .pre .3))
 
@@ -57,8 +57,8 @@ same-length-9 c = search needs
 returns-3 : tie.Need-returns-3
 returns-3 c =
     let y = c .before .before .before .before .before .before in
-    let i = y .before .before .before .before in
-    let x = i .before .before .before .before .before .before .before .before .before in
+    let i = y .before .before .before .before .before in
+    let x = i .before .before .before .before .before .before .before .before .before .before in
     let s = x .before .before .before .before .before .before .before .before .before in
     two.if-again (s .pre .0) (s .args .cells .now) (s .args .sides) (s .args .rims .now) (x .attempt .ensures) (i .before .if1 .left) (i .if2 .left) (y .attempt2 .ensures)
 

@@ -8,7 +8,7 @@ use lib.Ieee.{nan, ofBits, ofInt}
 use borrow.Author.Needs.{needs}
 use Rattle.laws.specs.Table.{tab}
 use Rattle.laws.proofs.Table.{more, read-tab}
-use Rattle.vector.specs.Size.{AllOnSheet}
+use Rattle.vector.specs.Rings.{pointsOf, OnSheetRing}
 use Rattle.root.proofs.Length.{gridDist-comm}
 use Rattle.chain.specs.Chain as Chain
 use Rattle.chain.specs.Kept.{stepTo}
@@ -17,22 +17,22 @@ use Rattle.chain.proofs.measure.Statement.{statement}
 use Rattle.chain.proofs.measure.Tie as tie
 
 abbrev Inv-loop : tie.InvT-loop
-Inv-loop n chain step₀ arc₀ i₀ step arc i =
-    (1 ≤ i) × (i ≤ n) × (n ≤ 60) × AllOnSheet chain × (length step ≡ 60) × (length arc ≡ 60) × (take i step ≡ tab (stepTo (take n chain)) i)
-    × (take i arc ≡ tab (Chain.arc (take n chain)) i)
+Inv-loop chain n step₀ arc₀ i₀ step arc i =
+    (1 ≤ i) × (i ≤ n) × (n ≡ chain .count) × OnSheetRing chain × (length step ≡ 60) × (length arc ≡ 60) × (take i step ≡ tab (stepTo (pointsOf chain)) i)
+    × (take i arc ≡ tab (Chain.arc (pointsOf chain)) i)
 
 abbrev μ-loop : tie.MeasureT-loop
-μ-loop n chain step₀ arc₀ i₀ step arc i = n - i
+μ-loop chain n step₀ arc₀ i₀ step arc i = n - i
 
 loop-holds : tie.Need-loop-holds Inv-loop μ-loop
 unfolding tab Chain.arc stepTo ofBits ofInt
-loop-holds c = (search needs, search needs, search needs, c .pre .2, refl, refl, refl, refl)
+loop-holds c = (search needs, search needs, search needs, c .pre .0, refl, refl, refl, refl)
 
 mul-grid-dist : tie.Need-mul-grid-dist Inv-loop μ-loop
 mul-grid-dist c = search needs
 
-array-copy-out-grid-dist : tie.Need-array-copy-out-grid-dist Inv-loop μ-loop
-array-copy-out-grid-dist c = search needs
+element-copy-out-grid-dist : tie.Need-element-copy-out-grid-dist Inv-loop μ-loop
+element-copy-out-grid-dist c = search needs
 
 sub-grid-dist : tie.Need-sub-grid-dist Inv-loop μ-loop
 sub-grid-dist c = search needs
@@ -40,11 +40,11 @@ sub-grid-dist c = search needs
 mul-grid-dist-2 : tie.Need-mul-grid-dist-2 Inv-loop μ-loop
 mul-grid-dist-2 c = search needs
 
-array-copy-out-grid-dist-2 : tie.Need-array-copy-out-grid-dist-2 Inv-loop μ-loop
-array-copy-out-grid-dist-2 c = search needs
+element-copy-out-grid-dist-2 : tie.Need-element-copy-out-grid-dist-2 Inv-loop μ-loop
+element-copy-out-grid-dist-2 c = search needs
 
 grid-dist-requires : tie.Need-grid-dist-requires Inv-loop μ-loop
-grid-dist-requires c κs = let all = c .before .before .before .loop .inv .3 in (all _, all _)
+grid-dist-requires c κs = let all = c .before .before .before .loop .inv .3 .points in (all _, all _)
 
 mul-step : tie.Need-mul-step Inv-loop μ-loop
 mul-step c = search needs
@@ -77,8 +77,8 @@ loop-again : tie.Need-loop-again Inv-loop μ-loop
 loop-again c =
     let l = c .before .before .before .before .loop in
     let s = c .before .before .before .before .before in
-    let n = s .args .n in
-    let ps = s .args .t1 in
+    let n = s .args .t1 .count in
+    let ps = s .args .t1 .points in
     let d = c .grid-dist .ensures in
     let f = Chain.arc (take n ps) in (
       search needs,
@@ -94,7 +94,7 @@ loop-again c =
     )
 
 returns : tie.Need-returns Inv-loop μ-loop
-returns c = let l = c .before .loop in let e : l .i ≡ c .before .before .args .n = omega arith in (rw e at (l .inv .6), rw e at (l .inv .7))
+returns c = let l = c .before .loop in let e : l .i ≡ c .before .before .args .t1 .count = omega arith in (rw e at (l .inv .6), rw e at (l .inv .7))
 
 pub measure-spec : {M : Type 1} → statement M
 measure-spec =
@@ -104,10 +104,10 @@ measure-spec =
     μ-loop
     loop-holds
     mul-grid-dist
-    array-copy-out-grid-dist
+    element-copy-out-grid-dist
     sub-grid-dist
     mul-grid-dist-2
-    array-copy-out-grid-dist-2
+    element-copy-out-grid-dist-2
     grid-dist-requires
     mul-step
     array-write-step

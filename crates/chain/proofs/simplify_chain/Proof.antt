@@ -12,7 +12,8 @@ use Rattle.laws.specs.Double.{lit, _+f_, _*f_}
 use Rattle.laws.specs.Table.{tab}
 use Rattle.laws.proofs.Table.{read-tab}
 use Rattle.vector.specs.Grid.{origin}
-use Rattle.vector.specs.Size.{AllOnSheet}
+use Rattle.vector.specs.Rings.{pointsOf, OnSheetRing}
+use Rattle.vector.proofs.Rings as rings
 use Rattle.chain.specs.Chain as Chain
 use Rattle.chain.specs.Kept.{stepTo}
 use Rattle.chain.proofs.Walk as walk
@@ -21,37 +22,37 @@ use Rattle.chain.proofs.simplify_chain.Statement.{statement}
 use Rattle.chain.proofs.simplify_chain.Tie as tie
 
 abbrev Inv-loop : tie.InvT-loop
-Inv-loop n chain points₀ snaps₀ count₀ step arc previous₀ i₀ points snaps count previous i =
-    (1 ≤ i) × (i ≤ n) × (n ≤ 60) × AllOnSheet chain × (take n arc ≡ tab (Chain.arc (take n chain)) n) × Collected (take n chain) points snaps count previous i
-    × (take n step ≡ tab (stepTo (take n chain)) n)
+Inv-loop chain n points₀ snaps₀ count₀ step arc previous₀ i₀ points snaps count previous i =
+    (1 ≤ i) × (i ≤ n) × (n ≡ chain .count) × OnSheetRing chain × (take n arc ≡ tab (Chain.arc (pointsOf chain)) n) × Collected (pointsOf chain) points snaps count previous i
+    × (take n step ≡ tab (stepTo (pointsOf chain)) n)
 
 abbrev μ-loop : tie.MeasureT-loop
-μ-loop n chain points₀ snaps₀ count₀ step arc previous₀ i₀ points snaps count previous i = n - i
+μ-loop chain n points₀ snaps₀ count₀ step arc previous₀ i₀ points snaps count previous i = n - i
 
 -- whether the point at hand stays
 staying : (c : tie.After-stays Inv-loop μ-loop) →
     let l = c .before .before .before .before .before .before in
     let s = l .before .before .before .before .before .before in
-    c .stays .result ≡ Chain.stays (take (s .args .n) (s .args .t1)) (l .loop .i - 1)
+    c .stays .result ≡ Chain.stays (pointsOf (s .args .t1)) (l .loop .i - 1)
 staying c =
     let l = c .before .before .before .before .before .before in
     let s = l .before .before .before .before .before .before in
-    let h : s .args .n ≤ length (s .args .t1) = omega (arith, s .good .0 .1 .0 .1) in
-    walk.stays-in (s .args .t1) (s .args .n) h (l .loop .i) (omega arith)
+    let h = rings.room (s .args .t1) (s .pre) in
+    walk.stays-in (s .args .t1 .points) (s .args .t1 .count) h (l .loop .i) (omega arith)
     (omega arith) _ (c .before .before .before .before .next .ensures .0) _ (c .stays .ensures)
 
 -- what is collected after the turn, by whether the point stayed
 joined : (c : tie.Joined2 Inv-loop μ-loop) →
     let l = c .before .before .before .before .before .before .before in
     let s = l .before .before .before .before .before .before in
-    Collected (take (s .args .n) (s .args .t1)) (c .if2 .points) (c .if2 .snaps) (c .if2 .count) (c .if2 .previous) (l .loop .i + 1)
+    Collected (pointsOf (s .args .t1)) (c .if2 .points) (c .if2 .snaps) (c .if2 .count) (c .if2 .previous) (l .loop .i + 1)
 unfolding lit round ofBits
 joined c =
     let l = c .before .before .before .before .before .before .before in
     let s = l .before .before .before .before .before .before in
     let o = l .loop in
-    let n = s .args .n in
-    let ps = s .args .t1 in
+    let n = s .args .t1 .count in
+    let ps = s .args .t1 .points in
     let r = take n ps in
     let arc = l .before .before .before .before .measure .result .arc in
     ⊎-elim
@@ -60,7 +61,7 @@ joined c =
     let v = read-tab arc (Chain.arc r) n (o .i) nan (o .inv .4) (omega arith) in
     rw (w .4, w .5, w .6, w .7)
     (kept-more r (o .points) (o .snaps) (o .count) (o .previous) (o .i) (o .inv .5) (omega arith) (sym (staying (c .before)) ∙ w .0 .taken)
-    _ (sym (getD-take n ps (o .i) origin (omega arith))) (o .inv .3 (o .i))
+    _ (sym (getD-take n ps (o .i) origin (omega arith))) (o .inv .3 .points (o .i))
     _ (w .2 .ensures ∙ (λ j. Chain.pointAtArclength r (lit 5 1 *f (u j +f v j))))))
     (λ w. rw (w .1, w .2, w .3, w .4) (kept-same r (o .points) (o .snaps) (o .count) (o .previous) (o .i) (o .inv .5) (sym (staying (c .before)) ∙ w .0 .left)))
     (c .if2 .came)
@@ -72,8 +73,8 @@ returns c = rw (c .if1 .taken) none
 measure-requires : tie.Need-measure-requires Inv-loop μ-loop
 measure-requires c κs = search needs
 
-array-copy-out-points : tie.Need-array-copy-out-points Inv-loop μ-loop
-array-copy-out-points c = search needs
+element-copy-out-points : tie.Need-element-copy-out-points Inv-loop μ-loop
+element-copy-out-points c = search needs
 
 array-set-from-points : tie.Need-array-set-from-points Inv-loop μ-loop
 array-set-from-points c = search needs
@@ -86,9 +87,9 @@ loop-holds c =
       search needs,
       search needs,
       search needs,
-      s .pre .1,
+      s .pre,
       m .measure .ensures .1,
-      kept-first (take (s .args .n) (s .args .t1)) _ (sym (getD-take (s .args .n) (s .args .t1) 0 origin (omega arith))) (s .pre .1 0),
+      kept-first (pointsOf (s .args .t1)) _ (sym (getD-take (s .args .t1 .count) (s .args .t1 .points) 0 origin (omega arith))) (s .pre .points 0),
       m .measure .ensures .0,
     )
 
@@ -101,20 +102,20 @@ sub-stays c = search needs
 mul-stays : tie.Need-mul-stays Inv-loop μ-loop
 mul-stays c = search needs
 
-array-copy-out-stays : tie.Need-array-copy-out-stays Inv-loop μ-loop
-array-copy-out-stays c = search needs
+element-copy-out-stays : tie.Need-element-copy-out-stays Inv-loop μ-loop
+element-copy-out-stays c = search needs
 
 mul-stays-2 : tie.Need-mul-stays-2 Inv-loop μ-loop
 mul-stays-2 c = search needs
 
-array-copy-out-stays-2 : tie.Need-array-copy-out-stays-2 Inv-loop μ-loop
-array-copy-out-stays-2 c = search needs
+element-copy-out-stays-2 : tie.Need-element-copy-out-stays-2 Inv-loop μ-loop
+element-copy-out-stays-2 c = search needs
 
 mul-stays-3 : tie.Need-mul-stays-3 Inv-loop μ-loop
 mul-stays-3 c = search needs
 
-array-copy-out-stays-3 : tie.Need-array-copy-out-stays-3 Inv-loop μ-loop
-array-copy-out-stays-3 c = search needs
+element-copy-out-stays-3 : tie.Need-element-copy-out-stays-3 Inv-loop μ-loop
+element-copy-out-stays-3 c = search needs
 
 mul-stays-4 : tie.Need-mul-stays-4 Inv-loop μ-loop
 mul-stays-4 c = search needs
@@ -135,13 +136,13 @@ stays-requires : tie.Need-stays-requires Inv-loop μ-loop
 stays-requires c κs =
     let l = c .before .before .before .before .before in
     let s = l .before .before .before .before .before .before in
-    let all = l .loop .inv .3 in
+    let all = l .loop .inv .3 .points in
     let e = l .loop .inv .6 in (
       all _,
       all _,
       all _,
-      walk.step-in (s .args .t1) (s .args .n) _ e (l .loop .i) (omega arith) (omega arith),
-      walk.step-after (s .args .t1) (s .args .n) _ e (l .loop .i) _ (omega arith) (c .before .before .before .next .ensures .0),
+      walk.step-in (s .args .t1 .points) (s .args .t1 .count) _ e (l .loop .i) (omega arith) (omega arith),
+      walk.step-after (s .args .t1 .points) (s .args .t1 .count) _ e (l .loop .i) _ (omega arith) (c .before .before .before .next .ensures .0),
     )
 
 mul-half : tie.Need-mul-half Inv-loop μ-loop
@@ -171,8 +172,8 @@ add-count c = search needs
 mul-points : tie.Need-mul-points Inv-loop μ-loop
 mul-points c = search needs
 
-array-copy-out-points-2 : tie.Need-array-copy-out-points-2 Inv-loop μ-loop
-array-copy-out-points-2 c = search needs
+element-copy-out-points-2 : tie.Need-element-copy-out-points-2 Inv-loop μ-loop
+element-copy-out-points-2 c = search needs
 
 mul-points-2 : tie.Need-mul-points-2 Inv-loop μ-loop
 mul-points-2 c = search needs
@@ -195,9 +196,9 @@ returns-2 : tie.Need-returns-2 Inv-loop μ-loop
 returns-2 c =
     let l = c .before .loop in
     let s = c .before .before .before .before .before .before .before in
-    let h : s .args .n ≤ length (s .args .t1) = omega (arith, s .good .0 .1 .0 .1) in
-    let e : l .i ≡ length (take (s .args .n) (s .args .t1)) = rw (length-take-le (s .args .n) (s .args .t1) h) (omega arith) in
-    kept-whole (take (s .args .n) (s .args .t1)) (l .points) (l .snaps) (l .count) (l .previous) (l .i) (l .inv .5) (omega arith) e
+    let h = rings.room (s .args .t1) (s .pre) in
+    let e : l .i ≡ length (pointsOf (s .args .t1)) = rw (length-take-le (s .args .t1 .count) (s .args .t1 .points) h) (omega arith) in
+    kept-whole (pointsOf (s .args .t1)) (l .points) (l .snaps) (l .count) (l .previous) (l .i) (l .inv .5) (omega arith) e
 
 pub simplify-chain-spec : {M : Type 1} → statement M
 simplify-chain-spec =
@@ -207,17 +208,17 @@ simplify-chain-spec =
     μ-loop
     returns
     measure-requires
-    array-copy-out-points
+    element-copy-out-points
     array-set-from-points
     loop-holds
     next-requires
     sub-stays
     mul-stays
-    array-copy-out-stays
+    element-copy-out-stays
     mul-stays-2
-    array-copy-out-stays-2
+    element-copy-out-stays-2
     mul-stays-3
-    array-copy-out-stays-3
+    element-copy-out-stays-3
     mul-stays-4
     array-read-stays
     mul-stays-5
@@ -233,7 +234,7 @@ simplify-chain-spec =
     array-set-from-snaps
     add-count
     mul-points
-    array-copy-out-points-2
+    element-copy-out-points-2
     mul-points-2
     array-set-from-points-2
     add-i

@@ -1,12 +1,13 @@
--- `runs_over` meets its contract. The loop's invariant: no corner passed so far is strictly between the ends; the scan is left at the
--- first that is. Assumes nothing.
+-- `runs_over`. The loop's invariant: no corner passed so far is strictly between the ends; the scan is left at the first
+-- that is.
 use Prim.Native.Nat.{_-_, _≤_, _<_}
 use mathlib.Core.Bool.{true, false}
 use mathlib.Core.Path.{_≡_, refl, sym, ap, _∙_}
 use lib.ListN.{take, length}
 use Rattle.laws.specs.Bounded.{any}
 use Rattle.laws.proofs.Search.{any-pass, any-hit}
-use Rattle.vector.specs.Size.{AllOnSheet}
+use Rattle.vector.specs.Rings.{pointsOf, OnSheetRing}
+use Rattle.vector.proofs.Rings as rings
 use Rattle.diagonal.specs.Diagonal.{runsOver}
 use Rattle.diagonal.proofs.Blocking as blocking
 use borrow.Author.Needs.{needs}
@@ -15,32 +16,32 @@ use Rattle.diagonal.proofs.runs_over.Statement.{statement}
 use Rattle.diagonal.proofs.runs_over.Tie as tie
 
 abbrev Inv-scan : tie.InvT-scan
-Inv-scan n k ps o q found₀ j₀ found j = (j ≤ n) × (n ≤ 60) × (k < n) × AllOnSheet ps × (found ≡ false) × (any (runsOver (take n ps) k) j ≡ false)
+Inv-scan k part n o q found₀ j₀ found j = (j ≤ n) × (n ≡ part .count) × (k < n) × OnSheetRing part × (found ≡ false) × (any (runsOver (pointsOf part) k) j ≡ false)
 
 abbrev μ-scan : tie.MeasureT-scan
-μ-scan n k ps o q found₀ j₀ found j = n - j
+μ-scan k part n o q found₀ j₀ found j = n - j
 
-array-copy-out-o : tie.Need-array-copy-out-o Inv-scan μ-scan
-array-copy-out-o c = search needs
+element-copy-out-o : tie.Need-element-copy-out-o Inv-scan μ-scan
+element-copy-out-o c = search needs
 
 mul-q : tie.Need-mul-q Inv-scan μ-scan
 mul-q c = search needs
 
-array-copy-out-q : tie.Need-array-copy-out-q Inv-scan μ-scan
-array-copy-out-q c = search needs
+element-copy-out-q : tie.Need-element-copy-out-q Inv-scan μ-scan
+element-copy-out-q c = search needs
 
 scan-holds : tie.Need-scan-holds Inv-scan μ-scan
 unfolding any
-scan-holds c = (search needs, search needs, search needs, c .before .before .pre .3, refl, refl)
+scan-holds c = (search needs, search needs, search needs, c .before .before .pre .0, refl, refl)
 
 mul-strictly-between : tie.Need-mul-strictly-between Inv-scan μ-scan
 mul-strictly-between c = search needs
 
-array-copy-out-strictly-between : tie.Need-array-copy-out-strictly-between Inv-scan μ-scan
-array-copy-out-strictly-between c = search needs
+element-copy-out-strictly-between : tie.Need-element-copy-out-strictly-between Inv-scan μ-scan
+element-copy-out-strictly-between c = search needs
 
 strictly-between-requires : tie.Need-strictly-between-requires Inv-scan μ-scan
-strictly-between-requires c κs = let s = c .before .before .scan .inv .3 in (s _, s _, s _)
+strictly-between-requires c κs = let s = c .before .before .scan .inv .3 .points in (s _, s _, s _)
 
 add-j : tie.Need-add-j Inv-scan μ-scan
 add-j c = search needs
@@ -53,9 +54,9 @@ scan-again c =
     let a = c .before in
     let l = a .before .before .before .scan in
     let s = a .before .before .before .before .before .before in
-    let h : s .args .n ≤ length (s .args .t1) = omega (arith, s .good .0 .1 .0 .1) in
-    let ps = s .args .t1 in
-    let n = s .args .n in (
+    let h = rings.room (s .args .t1) (s .pre .0) in
+    let ps = s .args .t1 .points in
+    let n = s .args .t1 .count in (
       search needs,
       search needs,
       search needs,
@@ -69,17 +70,17 @@ returns : tie.Need-returns Inv-scan μ-scan
 returns c =
     let l = c .before .scan in
     let s = c .before .before .before .before in
-    let e : l .j ≡ s .args .n = omega arith in
-    l .inv .4 ∙ sym (l .inv .5) ∙ ap (any (runsOver (take (s .args .n) (s .args .t1)) (s .args .k))) e
+    let e : l .j ≡ s .args .t1 .count = omega arith in
+    l .inv .4 ∙ sym (l .inv .5) ∙ ap (any (runsOver (pointsOf (s .args .t1)) (s .args .k))) e
 
 returns-2 : tie.Need-returns-2 Inv-scan μ-scan
 returns-2 c =
     let a = c .before in
     let l = a .before .before .before .scan in
     let s = a .before .before .before .before .before .before in
-    let h : s .args .n ≤ length (s .args .t1) = omega (arith, s .good .0 .1 .0 .1) in
-    let ps = s .args .t1 in
-    let n = s .args .n in
+    let h = rings.room (s .args .t1) (s .pre .0) in
+    let ps = s .args .t1 .points in
+    let n = s .args .t1 .count in
     sym (any-hit (runsOver (take n ps) (s .args .k)) (l .j) n (omega arith)
     (blocking.over ps n h (omega arith) (s .args .k) (omega arith) (l .j) (omega arith) true (sym (a .strictly-between .ensures) ∙ c .if1 .taken)))
 
@@ -89,12 +90,12 @@ runs-over-spec =
     (tie.spec
     Inv-scan
     μ-scan
-    array-copy-out-o
+    element-copy-out-o
     mul-q
-    array-copy-out-q
+    element-copy-out-q
     scan-holds
     mul-strictly-between
-    array-copy-out-strictly-between
+    element-copy-out-strictly-between
     strictly-between-requires
     add-j
     scan-less

@@ -1,13 +1,13 @@
--- `divide_core` meets its contract: refusals 5 to 7 leave everything as found, and else the pieces are laid out. Assumes nothing.
+-- `divide_core`: refusals 5 to 7 leave everything as found, and else the pieces are laid out.
 use mathlib.Core.Path.{_≡_}
 use borrow.Author.Needs.{needs}
-use Rattle.divider.specs.Steps.{partIn}
+use Rattle.marks.specs.Edges.{partIn}
 use Rattle.divider.proofs.Calling.{core-refused, core-whole, core-laid}
 use Rattle.divider.proofs.divide_core.Statement.{statement}
 use Rattle.divider.proofs.divide_core.Tie as tie
 
 ring-refusal-requires : tie.Need-ring-refusal-requires
-ring-refusal-requires c κs = let h = c .before .before .before .before .pre .held in (h .count, h .points)
+ring-refusal-requires c κs = c .before .before .before .before .pre .held .ring
 
 returns : tie.Need-returns
 returns c =

@@ -1,10 +1,11 @@
--- `lay_out` meets its contract: the answer of the pieces, done or failed, is the definition's. Assumes nothing.
+-- `lay_out`: the answer of the pieces, done or failed, is the definition's.
 use Prim.Native.Nat.{_^_}
 use native.Mathlib.Omega.{arith}
 use mathlib.Core.Path.{_≡_, sym, ap, _∙_}
 use lib.Seq.{length-take-le}
 use borrow.Author.Needs.{needs}
 use Rattle.laws.proofs.Signed.{small64}
+use Rattle.vector.proofs.Rings.{room}
 use Rattle.marks.specs.declared.MarkedRing.{MarkedRing}
 use Rattle.parts.specs.Pieces.{marksOf}
 use Rattle.nodes.specs.Flat.{over}
@@ -16,7 +17,8 @@ use Rattle.pieces.proofs.Cases.{if-done, if-failed}
 use Rattle.table.specs.Answers.{values}
 use Rattle.call.proofs.Course.{Divisible, outcomeOf}
 use Rattle.divider.specs.Promise.{Leaves}
-use Rattle.divider.specs.Steps.{partIn, listsIn, failedAnswer}
+use Rattle.marks.specs.Edges.{partIn}
+use Rattle.divider.specs.Steps.{listsIn, failedAnswer}
 use Rattle.divider.proofs.Leaving.{moved}
 use Rattle.divider.proofs.RingTests.{area-size}
 use Rattle.divider.proofs.Laying.{marks-length, every-length, three, shown, count-is, outcome-is, can-subdivide, mark-room-in, rims-are}
@@ -30,25 +32,25 @@ sought s = record { prepared = s .pre .0 .prepared; whole = s .pre .1 }
 
 cell-reserve-requires : tie.Need-cell-reserve-requires
 cell-reserve-requires c κs =
-    let s = c .before .before .before .before .before in
+    let s = c .before .before .before .before in
     let a = s .args in
     (three (a .limits) (a .own) (a .ring) (a .nodes .now) (a .node-count) (a .rims .now) (a .cells .now) (a .cell-count) (sought s) .1, s .pre .0 .prepared .few)
 
 split-bad-vertices-requires : tie.Need-split-bad-vertices-requires
 split-bad-vertices-requires c κs =
-    let s = c .before .before .before .before .before .before in
+    let s = c .before .before .before .before .before in
     let a = s .args in
     let k = s .pre .0 in
-    (three (a .limits) (a .own) (a .ring) (a .nodes .now) (a .node-count) (a .rims .now) (a .cells .now) (a .cell-count) (sought s) .0, k .held .count, k .held .points, k .cuts)
+    (k .held .ring, three (a .limits) (a .own) (a .ring) (a .nodes .now) (a .node-count) (a .rims .now) (a .cells .now) (a .cell-count) (sought s) .0, k .cuts)
 
 subdivide-all-requires : tie.Need-subdivide-all-requires
 subdivide-all-requires c κs =
-    let s = c .before .before .before .before .before .before .before .before .before .before .before in
+    let s = c .before .before .before .before .before .before .before .before .before .before in
     let a = s .args in
     let r = c .before .before .before .before .before .cell-reserve in
     let t = c .before .before .before .before .split-bad-vertices in
     let w = t .ensures .0 (marksOf (a .ring .edges)) (marks-length (a .ring .edges) (s .pre .0 .held .marks)) in (
-      can-subdivide (a .limits) (a .own) (a .ring) (a .nodes .now) (a .node-count) (a .rims .now) (a .cells .now) (a .cell-count) (sought s) (t .result) w (r .result) (r .ensures) (s .pre .0 .held .points) (t .ensures .1),
+      can-subdivide (a .limits) (a .own) (a .ring) (a .nodes .now) (a .node-count) (a .rims .now) (a .cells .now) (a .cell-count) (sought s) (t .result) w (r .result) (r .ensures) (s .pre .0 .held .ring .points) (t .ensures .1),
       mark-room-in (a .limits) (a .own) (a .ring) (a .nodes .now) (a .node-count) (a .rims .now) (a .cells .now) (a .cell-count) (sought s) (t .result) w,
     )
 
@@ -72,7 +74,7 @@ same-length-3 c = search needs
 
 returns : tie.Need-returns
 returns c =
-    let s = c .before .before .before .before .before .before .before .before .before .before .before .before .before .before .before .before .before .before .before .before .before in
+    let s = c .before .before .before .before .before .before .before .before .before .before .before .before .before .before .before .before .before .before .before .before in
     let a = s .args in
     let r = c .before .before .before .before .before .before .before .before .before .before .before .before .before .before .before .cell-reserve in
     let t = c .before .before .before .before .before .before .before .before .before .before .before .before .before .before .split-bad-vertices in
@@ -88,17 +90,17 @@ returns c =
     (laid-failed (a .limits) (a .own) (a .ring) (a .nodes .now) (a .node-count) (a .rims .now) (a .cells .now) (a .cell-count) (sought s) (r .result) _ _ _ y (r .ensures)))
 
 mark-count-requires : tie.Need-mark-count-requires
-mark-count-requires c κs = c .before .before .before .before .before .before .before .before .before .before .before .before .before .before .before .before .before .before .before .before .before .pre .0 .held .count
+mark-count-requires c κs = c .before .before .before .before .before .before .before .before .before .before .before .before .before .before .before .before .before .before .before .before .pre .0 .held
 
 polygon-area-requires : tie.Need-polygon-area-requires
-polygon-area-requires c κs = let h = c .before .before .before .before .before .before .before .before .before .before .before .before .before .before .before .before .before .before .before .before .before .before .pre .0 .held in (h .count, h .points)
+polygon-area-requires c κs = c .before .before .before .before .before .before .before .before .before .before .before .before .before .before .before .before .before .before .before .before .before .pre .0 .held .ring
 
 magnitude-requires : tie.Need-magnitude-requires
 magnitude-requires c κs = small64 (c .polygon-area .result) (2 ^ 55) (omega arith) (omega (arith, c .polygon-area .ensures .1))
 
-add-t29 : tie.Need-add-t29
-add-t29 c =
-    let s = c .before .before .before .before .before .before .before .before .before .before .before .before .before .before .before .before .before .before .before .before .before .before .before .before in
+add-t27 : tie.Need-add-t27
+add-t27 c =
+    let s = c .before .before .before .before .before .before .before .before .before .before .before .before .before .before .before .before .before .before .before .before .before .before .before in
     let a = s .args in
     let t = c .before .before .before .before .before .before .before .before .before .before .before .before .before .before .before .before .before .split-bad-vertices in
     let w = t .ensures .0 (marksOf (a .ring .edges)) (marks-length (a .ring .edges) (s .pre .0 .held .marks)) in
@@ -120,7 +122,7 @@ same-length-6 c = search needs
 
 returns-2 : tie.Need-returns-2
 returns-2 c =
-    let s = c .before .before .before .before .before .before .before .before .before .before .before .before .before .before .before .before .before .before .before .before .before .before .before .before in
+    let s = c .before .before .before .before .before .before .before .before .before .before .before .before .before .before .before .before .before .before .before .before .before .before .before in
     let a = s .args in
     let r = c .before .before .before .before .before .before .before .before .before .before .before .before .before .before .before .before .before .before .cell-reserve in
     let t = c .before .before .before .before .before .before .before .before .before .before .before .before .before .before .before .before .before .split-bad-vertices in
@@ -133,7 +135,7 @@ returns-2 c =
     let z = shown (a .limits) (a .own) (a .ring) (a .nodes .now) (a .node-count) (a .rims .now) (a .cells .now) (a .cell-count) (sought s) (t .result) w in
     moved (d .ensures .1 ∙ ap (λ (o : Outcome). over (a .nodes .now) (nodesOf o)) o) (d .ensures .3 ∙ g) (d .ensures .2 ∙ ap (λ (o : Outcome). overFrom (a .cells .now) (a .cell-count) (cellsLeft (r .result) o)) o)
     (laid-done (a .limits) (a .own) (a .ring) (a .nodes .now) (a .node-count) (a .rims .now) (a .cells .now) (a .cell-count) (sought s) (r .result) _ _ _ _ _ _ _ _ y
-    (sym (length-take-le (a .ring .count) (a .ring .points) (omega (arith, s .pre .0 .held .count, s .pre .0 .held .places))))
+    (sym (length-take-le (a .ring .ring .count) (a .ring .ring .points) (room (a .ring .ring) (s .pre .0 .held .ring))))
     (c .before .before .mark-count .ensures .0)
     (z .cuts)
     (count-is (a .limits) (a .own) (a .ring) (a .nodes .now) (a .node-count) (a .rims .now) (a .cells .now) (a .cell-count) (sought s) (t .result) w)
@@ -157,7 +159,7 @@ lay-out-spec =
     mark-count-requires
     polygon-area-requires
     magnitude-requires
-    add-t29
+    add-t27
     same-length-4
     same-length-5
     same-length-6

@@ -1,7 +1,8 @@
--- `lead_line` meets its contract.
+-- `lead_line`: none where no mark calls for it, and else the outline that was lent.
 use native.Mathlib.Omega.{arith}
 use borrow.Author.Needs.{needs}
-use mathlib.Core.Path.{refl, sym, _∙_, subst}
+use mathlib.Core.Path.{refl, sym, ap, _∙_, subst}
+use Rattle.vector.specs.declared.Ring.{Ring}
 use lib.Dec.{T}
 use Rattle.laws.proofs.Booleans.{is-true, is-false}
 use Rattle.given.proofs.Scans.{none-sought, outline-asks, few-loops, held}
@@ -18,10 +19,10 @@ points-requires : tie.Need-points-requires
 points-requires c κs = outline-asks _ _ _ (c .before .before .before .before .pre) (sym (c .before .called-for .ensures) ∙ is-true _ (c .if1 .left))
 
 loop-counts-requires : tie.Need-loop-counts-requires
-loop-counts-requires c κs = let k = c .before in few-loops _ _ _ (k .before .before .before .before .pre) (sym (k .before .called-for .ensures) ∙ is-true _ (k .if1 .left))
+loop-counts-requires c κs = let k = c .before .before in few-loops _ _ _ (k .before .before .before .before .pre) (sym (k .before .called-for .ensures) ∙ is-true _ (k .if1 .left))
 
 returns-2 : tie.Need-returns-2
-returns-2 c = let k = c .before .before in held _ _ _ (k .before .before .before .before .pre) (sym (k .before .called-for .ensures) ∙ is-true _ (k .if1 .left)) _ _ (c .before .points .ensures .0) (c .loop-counts .ensures)
+returns-2 c = let k = c .before .before .before in held _ _ _ (k .before .before .before .before .pre) (sym (k .before .called-for .ensures) ∙ is-true _ (k .if1 .left)) _ _ (ap (λ (r : Ring). r .points) (c .before .before .points .ensures .0)) (c .loop-counts .ensures)
 
 pub lead-line-spec : {M : Type 1} → statement M
 lead-line-spec =

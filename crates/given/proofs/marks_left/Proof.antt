@@ -1,4 +1,4 @@
--- `marks_left` meets its contract.
+-- `marks_left`. The loop's invariant: the edges before j have the marks that are left (`Laid`).
 use borrow.Author.Needs.{needs}
 use native.Mathlib.Omega.{arith}
 use Prim.Native.Nat.{ℕ, _-_, _≤_, _<_}
@@ -10,13 +10,13 @@ use Rattle.given.proofs.marks_left.Statement.{statement}
 use Rattle.given.proofs.marks_left.Tie as tie
 
 abbrev Inv-loop : tie.InvT-loop
-Inv-loop n kinds snaps lead ring clean count edges₀ j₀ edges j = (j ≤ count) × (count ≡ clean .count) × Laid (markLeft ring n (clean .places) (clean .count) kinds snaps (sought lead)) j edges
+Inv-loop kinds snaps lead ring clean n count edges₀ j₀ edges j = (j ≤ count) × (count ≡ clean .ring .count) × (n ≡ ring .count) × Laid (markLeft ring clean kinds snaps (sought lead)) j edges
 
 abbrev μ-loop : tie.MeasureT-loop
-μ-loop n kinds snaps lead ring clean count edges₀ j₀ edges j = count - j
+μ-loop kinds snaps lead ring clean n count edges₀ j₀ edges j = count - j
 
 loop-holds : tie.Need-loop-holds Inv-loop μ-loop
-loop-holds c = (search needs, search needs, laid-none _)
+loop-holds c = (search needs, search needs, search needs, laid-none _)
 
 element-copy-out-k : tie.Need-element-copy-out-k Inv-loop μ-loop
 element-copy-out-k c = search needs
@@ -25,11 +25,11 @@ cast-k : tie.Need-cast-k Inv-loop μ-loop
 cast-k c = search needs
 
 -- the kept place is one of the ring's
-low : (c : tie.In-loop Inv-loop μ-loop) → let s = c .before .before .before .before in getD (s .args .t3 .places) (c .before .loop .j) 0 < s .args .n
-low c = let s = c .before .before .before .before in place-low _ _ _ _ (s .args .t3) (s .pre .1) (c .before .loop .j) (omega (arith, c .loop-test .taken, c .before .loop .inv .1))
+low : (c : tie.In-loop Inv-loop μ-loop) → let s = c .before .before .before .before in getD (s .args .t2 .places) (c .before .loop .j) 0 < s .args .t1 .count
+low c = let s = c .before .before .before .before in place-low _ _ _ (s .args .t2) (s .pre .1) (c .before .loop .j) (omega (arith, c .loop-test .taken, c .before .loop .inv .1))
 
 next-requires : tie.Need-next-requires Inv-loop μ-loop
-next-requires c κs = (low (c .before), c .before .before .before .before .before .pre .1 .few)
+next-requires c κs = (low (c .before), c .before .before .before .before .before .pre .1 .sheet .count)
 
 next-requires-2 : tie.Need-next-requires-2 Inv-loop μ-loop
 next-requires-2 c κs = let s = c .before .before .before .before .before .before in (omega (arith, c .before .before .loop-test .taken), omega (arith, s .pre .1 .count, c .before .before .before .loop .inv .1))
@@ -41,40 +41,40 @@ cast-kept : tie.Need-cast-kept Inv-loop μ-loop
 cast-kept c = search needs
 
 mul-t23 : tie.Need-mul-t23 Inv-loop μ-loop
-mul-t23 c = omega (arith, low (c .before .before .before .before), c .before .before .before .before .before .before .before .before .pre .1 .few, c .before .before .before .before .before .before .before .before .pre .1 .marks, c .before .before .before .before .before .before .before .before .pre .1 .points)
+mul-t23 c = omega (arith, low (c .before .before .before .before), c .before .before .before .before .before .before .before .before .pre .1 .sheet .count, c .before .before .before .before .before .before .before .before .pre .1 .marks, c .before .before .before .before .before .before .before .before .pre .1 .points)
 
 mul-t26 : tie.Need-mul-t26 Inv-loop μ-loop
-mul-t26 c = omega (arith, low (c .before .before .before .before), c .before .before .before .before .before .before .before .before .pre .1 .few, c .before .before .before .before .before .before .before .before .pre .1 .marks, c .before .before .before .before .before .before .before .before .pre .1 .points)
+mul-t26 c = omega (arith, low (c .before .before .before .before), c .before .before .before .before .before .before .before .before .pre .1 .sheet .count, c .before .before .before .before .before .before .before .before .pre .1 .marks, c .before .before .before .before .before .before .before .before .pre .1 .points)
 
 shared-slice-read-t28 : tie.Need-shared-slice-read-t28 Inv-loop μ-loop
-shared-slice-read-t28 c = omega (arith, low (c .before .before .before .before .before), c .before .before .before .before .before .before .before .before .before .pre .1 .few, c .before .before .before .before .before .before .before .before .before .pre .1 .marks, c .before .before .before .before .before .before .before .before .before .pre .1 .points)
+shared-slice-read-t28 c = omega (arith, low (c .before .before .before .before .before), c .before .before .before .before .before .before .before .before .before .pre .1 .sheet .count, c .before .before .before .before .before .before .before .before .before .pre .1 .marks, c .before .before .before .before .before .before .before .before .before .pre .1 .points)
 
 mul-t29 : tie.Need-mul-t29 Inv-loop μ-loop
-mul-t29 c = omega (arith, low (c .before .before .before .before .before), c .before .before .before .before .before .before .before .before .before .pre .1 .few, c .before .before .before .before .before .before .before .before .before .pre .1 .marks, c .before .before .before .before .before .before .before .before .before .pre .1 .points)
+mul-t29 c = omega (arith, low (c .before .before .before .before .before), c .before .before .before .before .before .before .before .before .before .pre .1 .sheet .count, c .before .before .before .before .before .before .before .before .before .pre .1 .marks, c .before .before .before .before .before .before .before .before .before .pre .1 .points)
 
 add-t30 : tie.Need-add-t30 Inv-loop μ-loop
-add-t30 c = omega (arith, low (c .before .before .before .before .before), c .before .before .before .before .before .before .before .before .before .pre .1 .few, c .before .before .before .before .before .before .before .before .before .pre .1 .marks, c .before .before .before .before .before .before .before .before .before .pre .1 .points)
+add-t30 c = omega (arith, low (c .before .before .before .before .before), c .before .before .before .before .before .before .before .before .before .pre .1 .sheet .count, c .before .before .before .before .before .before .before .before .before .pre .1 .marks, c .before .before .before .before .before .before .before .before .before .pre .1 .points)
 
 mul-t31 : tie.Need-mul-t31 Inv-loop μ-loop
-mul-t31 c = omega (arith, low (c .before .before .before .before .before), c .before .before .before .before .before .before .before .before .before .pre .1 .few, c .before .before .before .before .before .before .before .before .before .pre .1 .marks, c .before .before .before .before .before .before .before .before .before .pre .1 .points)
+mul-t31 c = omega (arith, low (c .before .before .before .before .before), c .before .before .before .before .before .before .before .before .before .pre .1 .sheet .count, c .before .before .before .before .before .before .before .before .before .pre .1 .marks, c .before .before .before .before .before .before .before .before .before .pre .1 .points)
 
 shared-slice-read-t33 : tie.Need-shared-slice-read-t33 Inv-loop μ-loop
-shared-slice-read-t33 c = omega (arith, low (c .before .before .before .before .before .before), c .before .before .before .before .before .before .before .before .before .before .pre .1 .few, c .before .before .before .before .before .before .before .before .before .before .pre .1 .marks, c .before .before .before .before .before .before .before .before .before .before .pre .1 .points)
+shared-slice-read-t33 c = omega (arith, low (c .before .before .before .before .before .before), c .before .before .before .before .before .before .before .before .before .before .pre .1 .sheet .count, c .before .before .before .before .before .before .before .before .before .before .pre .1 .marks, c .before .before .before .before .before .before .before .before .before .before .pre .1 .points)
 
 shared-slice-read-surviving-mark : tie.Need-shared-slice-read-surviving-mark Inv-loop μ-loop
-shared-slice-read-surviving-mark c = omega (arith, low (c .before .before .before .before .before .before .before), c .before .before .before .before .before .before .before .before .before .before .before .pre .1 .few, c .before .before .before .before .before .before .before .before .before .before .before .pre .1 .marks, c .before .before .before .before .before .before .before .before .before .before .before .pre .1 .points)
+shared-slice-read-surviving-mark c = omega (arith, low (c .before .before .before .before .before .before .before), c .before .before .before .before .before .before .before .before .before .before .before .pre .1 .sheet .count, c .before .before .before .before .before .before .before .before .before .before .before .pre .1 .marks, c .before .before .before .before .before .before .before .before .before .before .before .pre .1 .points)
 
 mul-surviving-mark : tie.Need-mul-surviving-mark Inv-loop μ-loop
-mul-surviving-mark c = omega (arith, low (c .before .before .before .before .before .before .before), c .before .before .before .before .before .before .before .before .before .before .before .pre .1 .few, c .before .before .before .before .before .before .before .before .before .before .before .pre .1 .marks, c .before .before .before .before .before .before .before .before .before .before .before .pre .1 .points)
+mul-surviving-mark c = omega (arith, low (c .before .before .before .before .before .before .before), c .before .before .before .before .before .before .before .before .before .before .before .pre .1 .sheet .count, c .before .before .before .before .before .before .before .before .before .before .before .pre .1 .marks, c .before .before .before .before .before .before .before .before .before .before .before .pre .1 .points)
 
-array-copy-out-surviving-mark : tie.Need-array-copy-out-surviving-mark Inv-loop μ-loop
-array-copy-out-surviving-mark c = omega (arith, low (c .before .before .before .before .before .before .before), c .before .before .before .before .before .before .before .before .before .before .before .pre .1 .few, c .before .before .before .before .before .before .before .before .before .before .before .pre .1 .marks, c .before .before .before .before .before .before .before .before .before .before .before .pre .1 .points)
+element-copy-out-surviving-mark : tie.Need-element-copy-out-surviving-mark Inv-loop μ-loop
+element-copy-out-surviving-mark c = omega (arith, low (c .before .before .before .before .before .before .before), c .before .before .before .before .before .before .before .before .before .before .before .pre .1 .sheet .count, c .before .before .before .before .before .before .before .before .before .before .before .pre .1 .marks, c .before .before .before .before .before .before .before .before .before .before .before .pre .1 .points)
 
 mul-surviving-mark-2 : tie.Need-mul-surviving-mark-2 Inv-loop μ-loop
 mul-surviving-mark-2 c = search needs
 
-array-copy-out-surviving-mark-2 : tie.Need-array-copy-out-surviving-mark-2 Inv-loop μ-loop
-array-copy-out-surviving-mark-2 c = search needs
+element-copy-out-surviving-mark-2 : tie.Need-element-copy-out-surviving-mark-2 Inv-loop μ-loop
+element-copy-out-surviving-mark-2 c = search needs
 
 surviving-mark-requires : tie.Need-surviving-mark-requires Inv-loop μ-loop
 surviving-mark-requires c κs = search needs
@@ -100,16 +100,17 @@ loop-again c =
     let o = l .before .loop in (
       search needs,
       search needs,
-      laid-more _ (o .j) (o .edges) _ (o .inv .2) (search needs)
-          (c .surviving-mark .ensures ∙ mark-next (a .t1) (a .n) (a .t3 .places) (a .t3 .count) (a .kinds .now) (a .snaps .now) (sought (a .lead)) (o .j) _ _ (w .next2 .ensures .0) (w .before .next .ensures .0)),
+      search needs,
+      laid-more _ (o .j) (o .edges) _ (o .inv .3) (search needs)
+          (c .surviving-mark .ensures ∙ mark-next (a .t1) (a .t2) (a .kinds .now) (a .snaps .now) (sought (a .lead)) (o .j) _ _ (w .next2 .ensures .0) (w .before .next .ensures .0)),
     )
 
 returns : tie.Need-returns Inv-loop μ-loop
 returns c =
     let o = c .before .loop in
     let a = c .before .before .before .before .args in
-    let e : o .j ≡ a .t3 .count = omega arith in
-    subst (λ (k : ℕ). Laid (markLeft (a .t1) (a .n) (a .t3 .places) (a .t3 .count) (a .kinds .now) (a .snaps .now) (sought (a .lead))) k (o .edges)) e (o .inv .2)
+    let e : o .j ≡ a .t2 .ring .count = omega arith in
+    subst (λ (k : ℕ). Laid (markLeft (a .t1) (a .t2) (a .kinds .now) (a .snaps .now) (sought (a .lead))) k (o .edges)) e (o .inv .3)
 
 pub marks-left-spec : {M : Type 1} → statement M
 marks-left-spec =
@@ -133,9 +134,9 @@ marks-left-spec =
     shared-slice-read-t33
     shared-slice-read-surviving-mark
     mul-surviving-mark
-    array-copy-out-surviving-mark
+    element-copy-out-surviving-mark
     mul-surviving-mark-2
-    array-copy-out-surviving-mark-2
+    element-copy-out-surviving-mark-2
     surviving-mark-requires
     mul-edges
     array-set-from-edges

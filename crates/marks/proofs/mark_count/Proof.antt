@@ -4,6 +4,7 @@ use native.Mathlib.Omega.{arith}
 use mathlib.Core.Path.{_≡_, refl, sym, ap, _∙_}
 use lib.ListN.{length}
 use borrow.Author.Needs.{needs}
+use Rattle.vector.specs.Rings.{mostPoints}
 use Rattle.marks.specs.Part.{markCount}
 use Rattle.marks.specs.Edges.{marksIn}
 use Rattle.marks.proofs.Edges.{marks-more, count-more}
@@ -11,19 +12,19 @@ use Rattle.marks.proofs.mark_count.Statement.{statement}
 use Rattle.marks.proofs.mark_count.Tie as tie
 
 abbrev Inv-loop : tie.InvT-loop
-Inv-loop n edges total₀ i₀ total i = (i ≤ n) × (n ≤ 60) × (total ≤ i) × (total ≡ markCount (marksIn edges i))
+Inv-loop ring n total₀ i₀ total i = (i ≤ n) × (n ≡ ring .ring .count) × (n ≤ mostPoints) × (total ≤ i) × (total ≡ markCount (marksIn (ring .edges) i))
 
 abbrev μ-loop : tie.MeasureT-loop
-μ-loop n edges total₀ i₀ total i = n - i
+μ-loop ring n total₀ i₀ total i = n - i
 
 loop-holds : tie.Need-loop-holds Inv-loop μ-loop
-loop-holds c = (search needs, search needs, search needs, refl)
+loop-holds c = (search needs, search needs, search needs, search needs, refl)
 
 mul-e : tie.Need-mul-e Inv-loop μ-loop
 mul-e c = search needs
 
-array-copy-out-e : tie.Need-array-copy-out-e Inv-loop μ-loop
-array-copy-out-e c = search needs
+element-copy-out-e : tie.Need-element-copy-out-e Inv-loop μ-loop
+element-copy-out-e c = search needs
 
 weight-requires : tie.Need-weight-requires Inv-loop μ-loop
 weight-requires c κs = search needs
@@ -41,10 +42,11 @@ loop-again : tie.Need-loop-again Inv-loop μ-loop
 loop-again c =
     let l = c .before .before .before .loop in
     let s = c .before .before .before .before in
-    let es = s .args .t1 in
-    let h : l .i < length es = omega (arith, s .good .0 .1 .0 .1) in
-    let q = l .inv .3 in
+    let es = s .args .t1 .edges in
+    let h : l .i < length es = omega (arith, s .pre .marks, s .pre .ring .count) in
+    let q = l .inv .4 in
     let w = c .weight .ensures .0 in (
+      search needs,
       search needs,
       search needs,
       omega (arith, c .weight .ensures .1),
@@ -54,8 +56,8 @@ loop-again c =
 returns : tie.Need-returns Inv-loop μ-loop
 returns c =
     let l = c .before .loop in
-    let e : l .i ≡ c .before .before .args .n = omega arith in
-    (rw e at (l .inv .3), omega arith)
+    let e : l .i ≡ c .before .before .args .t1 .ring .count = omega arith in
+    (rw e at (l .inv .4), omega arith)
 
 pub mark-count-spec : {M : Type 1} → statement M
 mark-count-spec =
@@ -65,7 +67,7 @@ mark-count-spec =
     μ-loop
     loop-holds
     mul-e
-    array-copy-out-e
+    element-copy-out-e
     weight-requires
     add-total
     add-i

@@ -1,4 +1,4 @@
--- `piece_points` meets its contract. The loop's invariant: the places filled are the points of the piece's first corners. Assumes nothing.
+-- `piece_points`. The loop's invariant: the places filled are the points of the piece's first corners.
 use Prim.Native.Nat.{ℕ, _+_, _-_, _≤_}
 use mathlib.Core.Path.{_≡_, refl, _∙_}
 use lib.ListN.{take, length, getD, length-set}
@@ -105,8 +105,14 @@ returns c =
     let s = l .before .before .before in
     let z = placed s in
     let e : l .loop .j ≡ size (s .args .t2) (s .args .i) = omega (arith, z .3) in
-    let f = rw e at (l .loop .inv .4) in
-    (λ es. f ∙ Pieces.points-are (s .args .t2) (s .args .i) (s .pre .1) (s .args .t1) es, l .loop .inv .5, λ j h. l .loop .inv .6 j (omega arith))
+    let f : take (size (s .args .t2) (s .args .i)) (l .loop .out) ≡ tab (λ k. cornerPoint (s .args .t1) (s .args .t2 .corners) (end (s .args .t2) (s .args .i) + k)) (size (s .args .t2) (s .args .i)) =
+    rw e at (l .loop .inv .4) in (
+      λ es. rw (z .3) (f ∙ Pieces.points-are (s .args .t2) (s .args .i) (s .pre .1) (s .args .t1) es),
+      record { count = omega arith; places = l .loop .inv .3; points = l .loop .inv .5 },
+      z .3,
+      omega arith,
+      λ j h. l .loop .inv .6 j (omega arith),
+    )
 
 pub piece-points-spec : {M : Type 1} → statement M
 piece-points-spec =

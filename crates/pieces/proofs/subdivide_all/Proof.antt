@@ -1,8 +1,11 @@
--- `pieces::subdivide_all` meets its contract.
-use mathlib.Core.Path.{_≡_, refl, ap, _∙_}
+-- `subdivide_all`. The loop's invariant: the pieces before i are done (`Reached`).
+use mathlib.Core.Path.{_≡_, refl, sym, ap, _∙_}
 use Prim.Native.Nat.{ℕ, _+_, _-_, _*_, _^_, _≤_, _<_}
 use lib.ListN.{length, take, length-take, length-drop}
+use lib.Seq.{length-take-le}
 use borrow.Rule.Slice.PartMut.{putMid}
+use Rattle.vector.proofs.Rings as rings
+use Rattle.marks.specs.declared.MarkedRing.{MarkedRing}
 use Rattle.parts.specs.Pieces.{marksOf}
 use Rattle.nodes.proofs.Gathering as gathering
 use Rattle.pieces.proofs.Course as course
@@ -13,40 +16,41 @@ use Rattle.pieces.proofs.subdivide_all.Statement.{statement}
 use Rattle.pieces.proofs.subdivide_all.Tie as tie
 
 abbrev Inv-loop : tie.InvT-loop
-Inv-loop nodes₀ used rims₀ cells₀ first reserve ring marks pieces share numbers xs near u₀ at₀ i₀ i-end nodes rims cells u at i =
-    (i ≤ pieces .count) × (i-end ≡ pieces .count) × Reached share nodes₀ used rims₀ cells₀ first ring marks pieces i nodes u rims cells at
+Inv-loop nodes₀ used rims₀ cells₀ first reserve pieces share points edges numbers xs near u₀ at₀ i₀ i-end nodes rims cells u at i =
+    (i ≤ pieces .count) × (i-end ≡ pieces .count) × Reached share nodes₀ used rims₀ cells₀ first points edges pieces i nodes u rims cells at
 
 abbrev μ-loop : tie.MeasureT-loop
-μ-loop nodes₀ used rims₀ cells₀ first reserve ring marks pieces share numbers xs near u₀ at₀ i₀ i-end nodes rims cells u at i = pieces .count - i
+μ-loop nodes₀ used rims₀ cells₀ first reserve pieces share points edges numbers xs near u₀ at₀ i₀ i-end nodes rims cells u at i = pieces .count - i
 
 -- where the function began
 abbrev begin : tie.At-loop Inv-loop μ-loop → tie.Start Inv-loop μ-loop
-begin c = c .before .before .before .before .before .before .before .before .before .before .before .before
+begin c = c .before .before .before .before .before .before .before .before .before .before .before .before .before .before .before
 
 -- piece i has been read
-read : (c : tie.After-piece-sides Inv-loop μ-loop)
-    → let s = begin (c .before .before .before .before .before) in
-    Read (s .args .ring) (s .args .marks) (s .args .pieces) (c .before .before .before .before .before .loop .i) (c .before .before .before .piece-size .result) (c .before .before .piece-points .result)
-    (c .before .piece-marks .result) (c .piece-sides .result)
+abbrev piece : tie.After-piece-sides Inv-loop μ-loop → MarkedRing
+piece c = record { ring = c .before .before .piece-points .result; edges = c .before .piece-marks .result }
+
+read : (c : tie.After-piece-sides Inv-loop μ-loop) →
+    let o = c .before .before .before .before in
+    Read (begin o .args .ring .ring .points) (begin o .args .ring .edges) (begin o .args .pieces) (o .loop .i) (piece c) (c .piece-sides .result)
 read c =
-    let d = c .before in
-    let x = d .before .before in
+    let x = c .before .before in
     let a = begin (x .before .before) .args in
-    let n = x .piece-size .ensures in
+    let q = x .piece-points in
+    let e = q .ensures .0 (marksOf (a .ring .edges)) in
     record {
       count = x .before .loop-test .taken;
-      some = n .2;
-      few = n .3;
-      corners = n .0 (a .ring) (marksOf (a .marks));
-      long = search needs;
-      points = ap (λ (k : ℕ). take k (d .before .piece-points .result)) (n .1) ∙ d .before .piece-points .ensures .0 (marksOf (a .marks));
-      marks = ap (λ (k : ℕ). marksOf (take k (d .piece-marks .result))) (n .1) ∙ d .piece-marks .ensures .0 (a .ring);
-      sides = c .piece-sides .ensures (a .ring);
+      some = q .ensures .3;
+      sheet = q .ensures .1;
+      corners = sym (length-take-le (q .result .count) (q .result .points) (rings.room (q .result) (q .ensures .1))) ∙ ap length e;
+      points = e;
+      marks = ap (λ (k : ℕ). marksOf (take k (c .before .piece-marks .result))) (q .ensures .2) ∙ c .before .piece-marks .ensures .0 (a .ring .ring .points);
+      sides = c .piece-sides .ensures (a .ring .ring .points);
     }
 
 -- its cells have room from place `at` on
-room : (c : tie.After-piece-sides Inv-loop μ-loop) → let o = c .before .before .before .before .before .loop in o .at * 4 + c .before .before .before .piece-size .result * 4 ≤ length (o .cells)
-room c = let o = c .before .before .before .before .before in course.cell-room (begin o .pre .0) _ (o .loop .inv .2) (read c)
+room : (c : tie.After-piece-sides Inv-loop μ-loop) → let o = c .before .before .before .before .loop in o .at * 4 + piece c .ring .count * 4 ≤ length (o .cells)
+room c = let o = c .before .before .before .before in course.cell-room (begin o .pre .0) _ (o .loop .inv .2) (read c)
 
 -- the list of cells is as long as it came
 long : (c : tie.At-loop Inv-loop μ-loop) → length (c .loop .cells) ≡ length (begin c .args .cells .now)
@@ -55,13 +59,13 @@ long c = course.long-cells (begin c .pre .0) _ (c .loop .inv .2) (c .loop .inv .
 -- after the piece the list still has the places that are to be cleared
 window : (c : tie.Then1 Inv-loop μ-loop)
     → let y = c .before .before .before .before .before .before .before .before in
-    let o = y .before .before .before .before .before .before .before .before .before .before .before in
+    let o = y .before .before .before .before .before .before .before .before .before .before in
     let a = begin o .args in
     (a .first + a .reserve) * 4 ≤ length (putMid (o .loop .at * 4) (length (o .loop .cells) - o .loop .at * 4) (o .loop .cells) (y .subdivide .last .1 .1 .1 .0))
 window c =
     let y = c .before .before .before .before .before .before .before .before in
     let x = y .before .before .before .before .before .before in
-    let o = x .before .before .before .before .before in
+    let o = x .before .before .before .before in
     course.clear-room (begin o .pre .0) _ (o .loop .inv .2) (read x) (y .subdivide .ensures)
 
 of-pieces-requires : tie.Need-of-pieces-requires Inv-loop μ-loop
@@ -78,35 +82,32 @@ slice-aggregate-collect-2 c = search needs
 
 collect-requires : tie.Need-collect-requires Inv-loop μ-loop
 collect-requires c κs =
-    let s = c .before .before .before .before .before .before .before .before in
+    let s = c .before .before .before .before .before .before .before .before .before .before .before in
     (s .pre .0 .usable, refl, refl)
 
 -- the places to be cleared begin within the list
 low : (c : tie.Then1 Inv-loop μ-loop)
-    → let o = c .before .before .before .before .before .before .before .before .before .before .before .before .before .before .before .before .before .before .before in
+    → let o = c .before .before .before .before .before .before .before .before .before .before .before .before .before .before .before .before .before .before in
     begin o .args .first * 16 < 2 ^ 64
-low c = let o = c .before .before .before .before .before .before .before .before .before .before .before .before .before .before .before .before .before .before .before in omega (arith, begin o .pre .0 .places, begin o .good .1 .1 .1 .0)
+low c = let o = c .before .before .before .before .before .before .before .before .before .before .before .before .before .before .before .before .before .before in omega (arith, begin o .pre .0 .places, begin o .good .1 .1 .1 .0)
 
 loop-holds : tie.Need-loop-holds Inv-loop μ-loop
-loop-holds c = (search needs, refl, course.start (c .before .before .before .before .before .before .before .before .before .before .before .pre .0) _)
-
-piece-size-requires : tie.Need-piece-size-requires Inv-loop μ-loop
-piece-size-requires c κs = search needs
+loop-holds c = (search needs, refl, course.start (c .before .before .before .before .before .before .before .before .before .before .before .before .before .before .pre .0) _)
 
 piece-points-requires : tie.Need-piece-points-requires Inv-loop μ-loop
-piece-points-requires c κs = let f = begin (c .before .before) .pre .0 in (f .kept, c .before .loop-test .taken, f .sheet)
+piece-points-requires c κs = let f = begin (c .before) .pre .0 in (f .kept, c .loop-test .taken, f .sheet)
 
 piece-marks-requires : tie.Need-piece-marks-requires Inv-loop μ-loop
-piece-marks-requires c κs = (begin (c .before .before .before) .pre .0 .kept, c .before .before .loop-test .taken)
+piece-marks-requires c κs = (begin (c .before .before) .pre .0 .kept, c .before .loop-test .taken)
 
 piece-sides-requires : tie.Need-piece-sides-requires Inv-loop μ-loop
-piece-sides-requires c κs = (begin (c .before .before .before .before) .pre .0 .kept, c .before .before .before .loop-test .taken)
+piece-sides-requires c κs = (begin (c .before .before .before) .pre .0 .kept, c .before .before .loop-test .taken)
 
 mul-start : tie.Need-mul-start Inv-loop μ-loop
-mul-start c = let o = c .before .before .before .before .before in omega (arith, room c, long o, begin o .good .1 .1 .1 .0)
+mul-start c = let o = c .before .before .before .before in omega (arith, room c, long o, begin o .good .1 .1 .1 .0)
 
 mul-subdivide : tie.Need-mul-subdivide Inv-loop μ-loop
-mul-subdivide c = let o = c .before .before .before .before .before .before .before in omega (arith, room (c .before .before), long o, begin o .good .1 .1 .1 .0)
+mul-subdivide c = let o = c .before .before .before .before .before .before in omega (arith, room (c .before .before), long o, begin o .good .1 .1 .1 .0)
 
 sub-subdivide : tie.Need-sub-subdivide Inv-loop μ-loop
 sub-subdivide c = omega (arith, room (c .before .before))
@@ -126,7 +127,7 @@ slice-aggregate-subdivide-2 c = search needs
 subdivide-requires : tie.Need-subdivide-requires Inv-loop μ-loop
 subdivide-requires c κs =
     let x = c .before .before .before .before .before in
-    let o = x .before .before .before .before .before in
+    let o = x .before .before .before .before in
     let k = o .before .before .before in
     let e = k .collect .ensures in
     (course.can (begin o .pre .0) _ (o .loop .inv .2) (read x), simp (length-take, length-drop) (omega (arith, room x)), course.held (begin o .pre .0) _ (o .loop .inv .2) (gathering.held _ _ _ _ _ _ _ _ refl refl (k .before .before .before .before .window .ensures) (e .0) (e .1) (e .2)), course.rim-room (begin o .pre .0) _ (o .loop .inv .2) (read x) (begin o .pre .1))
@@ -152,20 +153,20 @@ clear-requires c κs = simp (length-take, length-drop) (omega (arith, window (c 
 same-length : tie.Need-same-length Inv-loop μ-loop
 same-length c =
     let y = c .before .before .before .before .before .before .before .before .before .before .before .before in
-    let o = y .before .before .before .before .before .before .before .before .before .before .before in
+    let o = y .before .before .before .before .before .before .before .before .before .before in
     y .subdivide .kept .0 ∙ course.long-nodes (begin o .pre .0) _ (o .loop .inv .2) (o .loop .inv .0)
 
 same-length-2 : tie.Need-same-length-2 Inv-loop μ-loop
 same-length-2 c =
     let y = c .before .before .before .before .before .before .before .before .before .before .before .before in
-    let o = y .before .before .before .before .before .before .before .before .before .before .before in
+    let o = y .before .before .before .before .before .before .before .before .before .before in
     y .subdivide .kept .1 .1 .0 ∙ course.long-rims (begin o .pre .0) _ (o .loop .inv .2)
 
 same-length-3 : tie.Need-same-length-3 Inv-loop μ-loop
 same-length-3 c =
     let y = c .before .before .before .before .before .before .before .before .before .before .before .before in
     let x = y .before .before .before .before .before .before in
-    let o = x .before .before .before .before .before in
+    let o = x .before .before .before .before in
     course.long-cleared (begin o .pre .0) _ (o .loop .inv .2) (read x) (y .subdivide .ensures) (c .before .before .clear .ensures)
 
 returns : tie.Need-returns Inv-loop μ-loop
@@ -173,19 +174,19 @@ returns c =
     let t = c .before .before .before .before in
     let y = t .before .before .before .before .before .before .before .before in
     let x = y .before .before .before .before .before .before in
-    let o = x .before .before .before .before .before in
+    let o = x .before .before .before .before in
     course.after-failure (begin o .pre .0) _ (o .loop .inv .2) (read x) (y .subdivide .ensures) (c .before .before .clear .ensures) (t .if1 .taken)
 
 add-at : tie.Need-add-at Inv-loop μ-loop
 add-at c =
     let x = c .before .before .before .before .before .before .before .before .before .before .before .before .before .before in
-    let o = x .before .before .before .before .before in
+    let o = x .before .before .before .before in
     omega (arith, room x, long o, begin o .good .1 .1 .1 .0)
 
 add-i : tie.Need-add-i Inv-loop μ-loop
 add-i c =
     let x = c .before .before .before .before .before .before .before .before .before .before .before .before .before .before in
-    let o = x .before .before .before .before .before in
+    let o = x .before .before .before .before in
     omega (arith, read x .count, begin o .pre .0 .kept .few)
 
 loop-less : tie.Need-loop-less Inv-loop μ-loop
@@ -195,11 +196,11 @@ loop-again : tie.Need-loop-again Inv-loop μ-loop
 loop-again c =
     let y = c .before .before .before .before .before .before .before .before in
     let x = y .before .before .before .before .before .before in
-    let o = x .before .before .before .before .before in
+    let o = x .before .before .before .before in
     (search needs, search needs, course.go-on (begin o .pre .0) _ (o .loop .inv .2) (read x) (y .subdivide .ensures) (c .if1 .left))
 
-sub-t53 : tie.Need-sub-t53 Inv-loop μ-loop
-sub-t53 c = search needs
+sub-t56 : tie.Need-sub-t56 Inv-loop μ-loop
+sub-t56 c = search needs
 
 same-length-4 : tie.Need-same-length-4 Inv-loop μ-loop
 same-length-4 c = let o = c .before in course.long-nodes (begin o .pre .0) _ (o .loop .inv .2) (o .loop .inv .0)
@@ -228,7 +229,6 @@ subdivide-all-spec =
     slice-aggregate-collect-2
     collect-requires
     loop-holds
-    piece-size-requires
     piece-points-requires
     piece-marks-requires
     piece-sides-requires
@@ -254,7 +254,7 @@ subdivide-all-spec =
     add-i
     loop-less
     loop-again
-    sub-t53
+    sub-t56
     same-length-4
     same-length-5
     same-length-6

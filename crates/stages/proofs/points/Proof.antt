@@ -1,5 +1,7 @@
--- `points` meets its contract: every place holds a point of the sheet, those not written yet the origin.
+-- `points`. The loop's invariant: every place holds a point of the sheet, those not written yet the origin.
 use Prim.Native.Nat.{_-_, _≤_}
+use mathlib.Core.Path.{_≡_, refl}
+use lib.ListN.{length, length-set}
 use borrow.Author.Needs.{needs}
 use Rattle.laws.proofs.Lists.{all-set, all-same}
 use Rattle.vector.specs.Grid.{origin}
@@ -9,13 +11,13 @@ use Rattle.stages.proofs.points.Statement.{statement}
 use Rattle.stages.proofs.points.Tie as tie
 
 abbrev Inv-loop : tie.InvT-loop
-Inv-loop block out₀ i₀ out i = (i ≤ 60) × AllOnSheet out
+Inv-loop block out₀ i₀ out i = (i ≤ 60) × AllOnSheet out × (length out ≡ 60)
 
 abbrev μ-loop : tie.MeasureT-loop
 μ-loop block out₀ i₀ out i = 60 - i
 
 loop-holds : tie.Need-loop-holds Inv-loop μ-loop
-loop-holds c = (search needs, all-same OnSheet origin 60 origin values.on-origin values.on-origin)
+loop-holds c = (search needs, all-same OnSheet origin 60 origin values.on-origin values.on-origin, refl)
 
 mul-at : tie.Need-mul-at Inv-loop μ-loop
 mul-at c = search needs
@@ -95,10 +97,13 @@ loop-less c = search needs
 loop-again : tie.Need-loop-again Inv-loop μ-loop
 loop-again c =
     let l = c .before .before .before .before .before .loop in
-    (search needs, all-set OnSheet origin (l .out) (l .i) _ (l .inv .1) (values.on-sheet (c .before .before .coordinate .result) (c .coordinate2 .result) (c .before .before .coordinate .ensures) (c .coordinate2 .ensures)))
+    (search needs, all-set OnSheet origin (l .out) (l .i) _ (l .inv .1) (values.on-sheet (c .before .before .coordinate .result) (c .coordinate2 .result) (c .before .before .coordinate .ensures) (c .coordinate2 .ensures)), simp length-set (l .inv .2))
+
+count-requires : tie.Need-count-requires Inv-loop μ-loop
+count-requires c κs = search needs
 
 returns : tie.Need-returns Inv-loop μ-loop
-returns c = search needs
+returns c = let l = c .before .before .loop in record { count = c .count .ensures; places = l .inv .2; points = l .inv .1 }
 
 pub points-spec : {M : Type 1} → statement M
 points-spec =
@@ -133,4 +138,5 @@ points-spec =
     add-i
     loop-less
     loop-again
+    count-requires
     returns)

@@ -5,10 +5,10 @@ use Rattle.stages.proofs.print_marks.Statement.{statement}
 use Rattle.stages.proofs.print_marks.Tie as tie
 
 abbrev Inv-loop : tie.InvT-loop
-Inv-loop n edges i₀ i = (i ≤ n) × (n ≤ 60)
+Inv-loop ring n i₀ i = (i ≤ n) × (n ≤ 60)
 
 abbrev μ-loop : tie.MeasureT-loop
-μ-loop n edges i₀ i = n - i
+μ-loop ring n i₀ i = n - i
 
 loop-holds : tie.Need-loop-holds Inv-loop μ-loop
 loop-holds c = search needs
@@ -16,8 +16,8 @@ loop-holds c = search needs
 mul-e : tie.Need-mul-e Inv-loop μ-loop
 mul-e c = search needs
 
-array-copy-out-e : tie.Need-array-copy-out-e Inv-loop μ-loop
-array-copy-out-e c = search needs
+element-copy-out-e : tie.Need-element-copy-out-e Inv-loop μ-loop
+element-copy-out-e c = search needs
 
 mark-requires : tie.Need-mark-requires Inv-loop μ-loop
 mark-requires c κs = search needs
@@ -42,7 +42,7 @@ print-marks-spec =
     μ-loop
     loop-holds
     mul-e
-    array-copy-out-e
+    element-copy-out-e
     mark-requires
     add-i
     loop-less

@@ -1,15 +1,15 @@
 -- `print_piece` stays within its arrays, and each point that it prints is on the sheet.
 use Prim.Native.Nat.{_-_, _≤_}
 use borrow.Author.Needs.{needs}
-use Rattle.vector.specs.Size.{AllOnSheet}
+use Rattle.vector.specs.Rings.{OnSheetRing}
 use Rattle.stages.proofs.print_piece.Statement.{statement}
 use Rattle.stages.proofs.print_piece.Tie as tie
 
 abbrev Inv-loop : tie.InvT-loop
-Inv-loop n points edges i₀ i = (i ≤ n) × (n ≤ 60) × AllOnSheet points
+Inv-loop piece n ring i₀ i = (i ≤ n) × (n ≤ 60) × OnSheetRing ring
 
 abbrev μ-loop : tie.MeasureT-loop
-μ-loop n points edges i₀ i = n - i
+μ-loop piece n ring i₀ i = n - i
 
 slice-aggregate-number : tie.Need-slice-aggregate-number Inv-loop μ-loop
 slice-aggregate-number c = search needs
@@ -26,17 +26,17 @@ loop-holds c = search needs
 mul-e : tie.Need-mul-e Inv-loop μ-loop
 mul-e c = search needs
 
-array-copy-out-e : tie.Need-array-copy-out-e Inv-loop μ-loop
-array-copy-out-e c = search needs
+element-copy-out-e : tie.Need-element-copy-out-e Inv-loop μ-loop
+element-copy-out-e c = search needs
 
 mul-corner : tie.Need-mul-corner Inv-loop μ-loop
 mul-corner c = search needs
 
-array-copy-out-corner : tie.Need-array-copy-out-corner Inv-loop μ-loop
-array-copy-out-corner c = search needs
+element-copy-out-corner : tie.Need-element-copy-out-corner Inv-loop μ-loop
+element-copy-out-corner c = search needs
 
 corner-requires : tie.Need-corner-requires Inv-loop μ-loop
-corner-requires c κs = c .before .before .before .loop .inv .2 _
+corner-requires c κs = c .before .before .before .loop .inv .2 .points _
 
 add-i : tie.Need-add-i Inv-loop μ-loop
 add-i c = search needs
@@ -61,9 +61,9 @@ print-piece-spec =
     end-requires
     loop-holds
     mul-e
-    array-copy-out-e
+    element-copy-out-e
     mul-corner
-    array-copy-out-corner
+    element-copy-out-corner
     corner-requires
     add-i
     loop-less

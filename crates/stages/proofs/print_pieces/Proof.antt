@@ -1,20 +1,18 @@
 -- `print_pieces` asks for pieces that there are.
 use Prim.Native.Nat.{_-_, _≤_}
 use borrow.Author.Needs.{needs}
+use Rattle.vector.specs.Size.{AllOnSheet}
 use Rattle.stages.proofs.print_pieces.Statement.{statement}
 use Rattle.stages.proofs.print_pieces.Tie as tie
 
 abbrev Inv-loop : tie.InvT-loop
-Inv-loop ring edges pieces k i₀ i = i ≤ pieces .count
+Inv-loop pieces points edges k i₀ i = (i ≤ pieces .count) × AllOnSheet points
 
 abbrev μ-loop : tie.MeasureT-loop
-μ-loop ring edges pieces k i₀ i = k - i
+μ-loop pieces points edges k i₀ i = k - i
 
 loop-holds : tie.Need-loop-holds Inv-loop μ-loop
 loop-holds c = search needs
-
-piece-size-requires : tie.Need-piece-size-requires Inv-loop μ-loop
-piece-size-requires c κs = search needs
 
 piece-points-requires : tie.Need-piece-points-requires Inv-loop μ-loop
 piece-points-requires c κs = search needs
@@ -44,7 +42,6 @@ print-pieces-spec =
     Inv-loop
     μ-loop
     loop-holds
-    piece-size-requires
     piece-points-requires
     piece-marks-requires
     print-piece-requires

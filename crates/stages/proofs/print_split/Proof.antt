@@ -11,7 +11,7 @@ on-delivery-requires c κs = search needs
 split-bad-vertices-requires : tie.Need-split-bad-vertices-requires
 split-bad-vertices-requires c κs =
     let e : c .on-delivery .result .cuts ≡ 32 = ap (λ l. l .cuts) (c .on-delivery .ensures) in
-    (search needs, search needs, search needs, omega arith)
+    (search needs, search needs, omega arith)
 
 slice-aggregate-number : tie.Need-slice-aggregate-number
 slice-aggregate-number c = search needs

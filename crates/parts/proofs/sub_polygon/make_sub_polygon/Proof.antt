@@ -1,4 +1,4 @@
--- `make_sub_polygon` meets its contract: the part is kept or turned round by the sign of its area. Assumes nothing.
+-- `make_sub_polygon`: the part is kept or turned round by the sign of its area.
 use Prim.Native.Nat.{_^_}
 use mathlib.Core.Path.{_≡_, ap, _∙_}
 use mathlib.Core.Bool.{true, false}

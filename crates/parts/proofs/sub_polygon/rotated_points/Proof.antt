@@ -1,4 +1,4 @@
--- `rotated_points` meets its contract. The loop's invariant: the places filled are the points of the corners from v on, counted round. Assumes nothing.
+-- `rotated_points`. The loop's invariant: the places filled are the points of the corners from v on, counted round.
 use Prim.Native.Nat.{_+_, _-_, _%_, _≤_, _<_}
 use mathlib.Core.Path.{_≡_, refl, ap}
 use lib.ListN.{take, length, length-set}
@@ -75,7 +75,7 @@ returns c =
     let l = c .before .loop in
     let s = c .before .before in
     let e : l .i ≡ s .args .n = omega arith in
-    (rw e at (l .inv .5), l .inv .6)
+    (rw e at (l .inv .5), record { count = omega arith; places = l .inv .2; points = l .inv .6 }, refl)
 
 pub rotated-points-spec : {M : Type 1} → statement M
 rotated-points-spec =

@@ -1,15 +1,15 @@
 -- `text::points` stays within its array, and each point that it prints is on the sheet.
 use Prim.Native.Nat.{_-_, _≤_}
 use borrow.Author.Needs.{needs}
-use Rattle.vector.specs.Size.{AllOnSheet}
+use Rattle.vector.specs.Rings.{OnSheetRing}
 use Rattle.stages.proofs.text.points.Statement.{statement}
 use Rattle.stages.proofs.text.points.Tie as tie
 
 abbrev Inv-loop : tie.InvT-loop
-Inv-loop n ps i₀ t5 i = (i ≤ n) × (n ≤ 60) × AllOnSheet ps
+Inv-loop ring n i₀ t5 i = (i ≤ n) × (n ≤ 60) × OnSheetRing ring
 
 abbrev μ-loop : tie.MeasureT-loop
-μ-loop n ps i₀ t5 i = n - i
+μ-loop ring n i₀ t5 i = n - i
 
 loop-holds : tie.Need-loop-holds Inv-loop μ-loop
 loop-holds c = search needs
@@ -20,11 +20,11 @@ slice-aggregate-point c = search needs
 mul-point : tie.Need-mul-point Inv-loop μ-loop
 mul-point c = search needs
 
-array-copy-out-point : tie.Need-array-copy-out-point Inv-loop μ-loop
-array-copy-out-point c = search needs
+element-copy-out-point : tie.Need-element-copy-out-point Inv-loop μ-loop
+element-copy-out-point c = search needs
 
 point-requires : tie.Need-point-requires Inv-loop μ-loop
-point-requires c κs = c .before .before .before .loop .inv .2 _
+point-requires c κs = c .before .before .before .loop .inv .2 .points _
 
 add-i : tie.Need-add-i Inv-loop μ-loop
 add-i c = search needs
@@ -47,7 +47,7 @@ points-spec =
     loop-holds
     slice-aggregate-point
     mul-point
-    array-copy-out-point
+    element-copy-out-point
     point-requires
     add-i
     loop-less
