@@ -1,6 +1,6 @@
--- THEOREM `as-before`, `as-before-records`, `as-before-marked`, Card 7: "The set on delivery gives every old answer." Over whatever a caller lends, the call with the set on delivery, which tests
--- the set too, returns and leaves all that the call did before there were sets (specs/Before): its number is the first of the old tests that holds
--- (`first-as-before`).
+-- THEOREM `as-before`, `as-before-records`, `as-before-marked`, Card 7: "The set on delivery gives every old answer." Over whatever a caller lends, the call
+-- with the set on delivery, which tests the set too, returns and leaves all that the call did before there were sets (specs/Before): its number is the first
+-- of the old tests that holds (`first-as-before`).
 use Prim.Native.Nat.{ℕ, _-_}
 use mathlib.Core.Path.{_≡_, ap}
 use mathlib.Core.Bool.{Bool, _||_, cond}
@@ -12,7 +12,7 @@ use Rattle.quads.specs.declared.Cell.{Cell}
 use Rattle.table.specs.Refusals.{firstOf}
 use Rattle.sets.proofs.Taken.{delivered-taken}
 use Rattle.call.specs.Call.{Call, listsOf, countsOut, unitsOut, listsOut, roomOut, tests}
-use Rattle.call.specs.Divide.{CallAnswer, refused, core, startOf}
+use Rattle.call.specs.Divide.{refused, core, startOf}
 use Rattle.call.specs.Lent.{LentOf, callBy, odd, allCells, Lent, divideBy, divideLent, LentRecords, divideRecords}
 use Rattle.call.specs.Marked.{allPoints, marksOut, outlineOut, LentMarked, markedLists, markedStart, markedTests, divideMarked}
 use Rattle.call.specs.Before.{oldTests, divideBefore, oldMarkedTests, divideMarkedBefore}
@@ -20,7 +20,9 @@ use Rattle.call.specs.Before.{oldTests, divideBefore, oldMarkedTests, di
 pub first-as-before : (c : Call) → firstOf (tests delivered c) ≡ firstOf (oldTests c)
 first-as-before c =
     let room = roomOut delivered (length (c .ring)) (length (c .nodes) - c .nodeCount) (length (c .cells) - c .cellCount) in
-    ap (λ (b : Bool). cond (countsOut (length (c .ring)) (length (c .chain))) 1 (cond (unitsOut (c .ring) (c .chain) (c .size)) 2 (cond b 15 (cond (listsOut (listsOf c)) 3 (cond room 4 0)))))
+    ap
+    (λ (b : Bool). cond (countsOut (length (c .ring)) (length (c .chain))) 1
+    (cond (unitsOut (c .ring) (c .chain) (c .size)) 2 (cond b 15 (cond (listsOut (listsOf c)) 3 (cond room 4 0)))))
     delivered-taken
 
 by-before : {A : Type 0} (read : List A → List Cell) (l : LentOf A) → divideBy read delivered l ≡ divideBefore read l
@@ -48,7 +50,10 @@ first-marked l =
     let marks = marksOut (l .marking .kinds) (l .marking .snaps) n in
     let outline = outlineOut (l .marking .kinds) (l .marking .outline) (l .marking .loops) in
     let room = roomOut delivered n (length (x .nodes) - x .nodeCount) (length (x .cells) - x .cellCount) in
-    ap (λ (b : Bool). cond counts 1 (cond (unitsOut (allPoints (l .ring)) [] (l .size)) 2 (cond marks 13 (cond outline 14 (cond b 15 (cond (listsOut x) 3 (cond room 4 0))))))) delivered-taken
+    ap
+    (λ (b : Bool).
+    cond counts 1 (cond (unitsOut (allPoints (l .ring)) [] (l .size)) 2 (cond marks 13 (cond outline 14 (cond b 15 (cond (listsOut x) 3 (cond room 4 0)))))))
+    delivered-taken
 
 pub as-before-marked : (l : LentMarked) → divideMarked delivered l ≡ divideMarkedBefore l
 unfolding divideMarked

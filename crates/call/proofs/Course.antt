@@ -1,13 +1,13 @@
--- A ring takes one of two courses (`course`), whatever the entry. It is turned away by a test, with a number and everything as found; or it is prepared, its cleaned ring has
--- three corners or more, is simple and has an area above 0, and the answer is what its pieces come to.
-use Prim.Native.Nat.{ℕ, _≤_}
+-- A ring takes one of two courses (`course`), whatever the entry. It is turned away by a test, with a number and everything as found; or it is prepared, its
+-- cleaned ring has three corners or more, is simple and has an area above 0, and the answer is what its pieces come to.
+use Prim.Native.Nat.{ℕ}
 use mathlib.Core.Path.{_≡_, refl, sym, ap, _∙_, subst}
-use mathlib.Core.Bool.{Bool, true, false, not, cond}
+use mathlib.Core.Bool.{Bool, true, false, cond}
 use mathlib.Core.List.{List}
 use lib.IntN.{pos}
 use lib.Signed.{ltZ}
 use lib.ListN.{length}
-use lib.Dec.{T, eqb, ltb}
+use lib.Dec.{T, eqb}
 use borrow.Author.Tests.{eq-eqb, ne-eqb, eqb-true, eqb-false, ltb-false}
 use Rattle.vector.specs.declared.GridPoint.{GridPoint}
 use Rattle.vector.specs.Grid.{polygonArea}
@@ -20,10 +20,11 @@ use Rattle.marks.specs.Marks.{marked}
 use Rattle.marks.proofs.SnapRange.{marked-many, marked-in-range}
 use Rattle.corner.specs.declared.Limits.{Limits}
 use Rattle.split.specs.Split.{Stack, splitBadVertices}
-use Rattle.cells.specs.Pieces.{Outcome, done, failed, piecesTo}
+use Rattle.cells.specs.Pieces.{Outcome, done, failed}
 use Rattle.table.specs.Refusals.{Refusal, firstOf, inOrder, Passes, turnsAway, numbered}
 use Rattle.table.proofs.Refusals as Refusals
-use Rattle.call.specs.Call.{Lists, usedIn, Call, listsOf, madeBy, noTest, tests}
+use Rattle.call.specs.Call.{Lists, Call, listsOf, madeBy, noTest, tests}
+pub use Rattle.call.specs.Divide.{Whole, outcomeOf}
 use Rattle.call.specs.Divide.{CallAnswer, refused, refusedOr, ringTests, answered, core, cleanedRing, startOf, divide}
 use Rattle.call.specs.Demand.{Prepared}
 use Rattle.call.proofs.Tests.{Passed, passed-by, not-false}
@@ -45,22 +46,18 @@ by-tests-both x y rs a b P n f g = go (eqb (firstOf rs) 0) refl
     go true e = let z = eqb-true (firstOf rs) 0 e in rw (goes-on x rs a z, goes-on y rs b z) (g (Refusals.all-pass rs n z))
     go false e = let z = eqb-false (firstOf rs) 0 e in rw (turned-away x rs a z, turned-away y rs b z) (f (Refusals.away rs n z))
 
-pub by-tests : (x : Lists) (rs : List Refusal) (a : CallAnswer) (P : CallAnswer → Type 0) → T (numbered rs) → (T (turnsAway (firstOf rs)) → P (refused x (firstOf rs))) → (Passes rs → P a) → P (refusedOr x rs a)
+pub by-tests : (x : Lists) (rs : List Refusal) (a : CallAnswer) (P : CallAnswer → Type 0) → T (numbered rs)
+    → (T (turnsAway (firstOf rs)) → P (refused x (firstOf rs))) → (Passes rs → P a) → P (refusedOr x rs a)
 by-tests x rs a P n f g = by-tests-both x x rs a a (λ a b. P a) n f g
 
 -- ---- the core
--- a cleaned ring that 5 to 7 do not refuse
-pub record Whole (ps : List GridPoint) : Type 0 where
-  pub three : 3 ≤ length ps
-  pub simple : T (polygonSimple ps)
-  pub wide : T (ltZ (pos 0) (polygonArea ps))
-
 pub whole : (ps : List GridPoint) → Passes (ringTests ps) → Whole ps
-whole ps h = record { three = ltb-false (length ps) 3 (h .0); simple = not-false (polygonSimple ps) (h .1 .0); wide = not-false (ltZ (pos 0) (polygonArea ps)) (h .1 .1 .0) }
-
--- what the pieces of a ring come to
-abbrev pub outcomeOf : Limits → Part → Lists → Outcome
-outcomeOf L p x = piecesTo (L .share) (splitBadVertices L p .pieces) (usedIn x) (length (splitBadVertices L p .pieces))
+whole ps h =
+    record {
+      three = ltb-false (length ps) 3 (h .0);
+      simple = not-false (polygonSimple ps) (h .1 .0);
+      wide = not-false (ltZ (pos 0) (polygonArea ps)) (h .1 .1 .0);
+    }
 
 -- the ring can be divided
 pub record Divisible (L : Limits) (r : ℕ) (p : Part) (x : Lists) : Type 0 where
@@ -77,7 +74,8 @@ module _ (L : Limits) (r : ℕ) (p : Part) (x : Lists) where
   unfolding core
   course rs n h =
       by-tests x rs (core L r p x) Course n (λ t. away (firstOf rs) t refl)
-      (λ o. by-tests x (ringTests (p .points)) (answered L r p x (splitBadVertices L p) (outcomeOf L p x)) Course tt (λ t. away (firstOf (ringTests (p .points))) t refl)
+      (λ o. by-tests x (ringTests (p .points)) (answered L r p x (splitBadVertices L p) (outcomeOf L p x)) Course tt
+      (λ t. away (firstOf (ringTests (p .points))) t refl)
       (λ w. ran (record { prepared = h o; whole = whole (p .points) w }) refl))
 
 -- ---- an answer that has a refusal's number is that refusal, all as found
@@ -93,7 +91,8 @@ answered-code L r p x s (failed ns n k) t = t
 pub refused-as : (L : Limits) (r : ℕ) (p : Part) (x : Lists) (a : CallAnswer) (n : ℕ) → a .row .code ≡ n → T (turnsAway n) → Course L r p x a → a ≡ refused x n
 refused-as L r p x a n e t (away m u d) = d ∙ ap (refused x) (sym (ap (λ (a : CallAnswer). a .row .code) d ∙ refused-code x m) ∙ e)
 refused-as L r p x a n e t (ran s d) =
-    absurd (answered-code L r p x (splitBadVertices L p) (outcomeOf L p x) (subst (λ (k : ℕ). T (turnsAway k)) (sym e ∙ ap (λ (a : CallAnswer). a .row .code) d) t))
+    absurd
+    (answered-code L r p x (splitBadVertices L p) (outcomeOf L p x) (subst (λ (k : ℕ). T (turnsAway k)) (sym e ∙ ap (λ (a : CallAnswer). a .row .code) d) t))
 
 -- ---- the divider call
 pub start-points : (c : Call) → startOf c .points ≡ cleanedRing c

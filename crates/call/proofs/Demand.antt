@@ -1,15 +1,14 @@
--- Demand 3, of one call: of any entry that prepares a ring and hands it to the core (`demand3-by`), of the divider call (`demand3`), and of the same over lent lists
--- (`demand3-lent`, `demand3-records`, `demand3-practice`). For every set of limits, every ring, wherever its marks come from, and whatever the lists held before: if it is accepted, then
---   the answer reports the corners n of the cleaned ring, its marked edges c, the cuts s and the pieces; s is at most the set's number of cuts (32) and at most n - 3,
---   and the pieces are s + 1;
---   exactly n + 2s cells are added, those that Cells gives over these pieces in the order they go out, each piece of k corners having the next k, none of which fails;
---   at most 2n + c + 2s + 1 nodes are added, those that Cells gives over these pieces; every old node has its number and its bits, and every used node is finite and
---   within 1,024 mm; the rim marks are those that these pieces leave by what they asked for, and a set mark of an old node stays set;
---   the doubled areas of the pieces sum to the reported area of the cleaned ring plus twice the reported turned area;
---   each cut starts at the worst corner, the last of equals, of a part where that corner is bad, and ends where the best diagonal does;
---   no cut runs over a third corner: no corner of its part is strictly between its ends on their line;
---   a piece has a bad corner only if s is the set's number of cuts or no diagonal from its worst corner meets the rule (one that runs over a corner does not);
---   and the parts and pieces come of the cleaned ring and of these cuts alone.
+-- Demand 3, of one call: of any entry that prepares a ring and hands it to the core (`demand3-by`), of the divider call (`demand3`), and of the same over
+-- lent lists (`demand3-lent`, `demand3-records`, `demand3-practice`). For every set of limits, every ring, wherever its marks come from, and whatever the
+-- lists held before: if it is accepted, then
+--   the answer reports the corners n of the cleaned ring, its marked edges c, the cuts s and the pieces; s is at most the set's number of cuts (32) and at
+--   most n - 3, and the pieces are s + 1; exactly n + 2s cells are added, those that Cells gives over these pieces in the order they go out, each piece of k
+--   corners having the next k, none of which fails; at most 2n + c + 2s + 1 nodes are added, those that Cells gives over these pieces; every old node has its
+--   number and its bits, and every used node is finite and within 1,024 mm; the rim marks are those that these pieces leave by what they asked for, and a set
+--   mark of an old node stays set; the doubled areas of the pieces sum to the reported area of the cleaned ring plus twice the reported turned area; each cut
+--   starts at the worst corner, the last of equals, of a part where that corner is bad, and ends where the best diagonal does; no cut runs over a third
+--   corner: no corner of its part is strictly between its ends on their line; a piece has a bad corner only if s is the set's number of cuts or no diagonal
+--   from its worst corner meets the rule (one that runs over a corner does not); and the parts and pieces come of the cleaned ring and of these cuts alone.
 -- Nothing is asked of the set of limits. The claim is specs/Demand.Demand3; docs/CLAIMS.md has its clauses one by one.
 use Prim.Native.Nat.{ℕ, _+_, _*_, _≤_, _<_}
 use native.Mathlib.Omega.{arith}
@@ -22,9 +21,7 @@ use lib.ListN.{length}
 use lib.Seq.{getD-take, length-take-le}
 use lib.Dec.{T}
 use Rattle.laws.specs.All.{All}
-use Rattle.vector.specs.declared.Point.{Point}
 use Rattle.vector.specs.Grid.{polygonArea}
-use Rattle.vector.specs.Size.{OnSheet}
 use Rattle.vector.proofs.Sheet.{elements}
 use Rattle.marks.specs.Part.{Part, markCount}
 use Rattle.corner.specs.declared.Limits.{Limits}
@@ -55,7 +52,8 @@ use Rattle.call.specs.Call.{Lists, usedIn, Call, listsOf, over24, noTest
 use Rattle.call.specs.Divide.{CallAnswer, put, refusedOr, answered, asked, core, startOf, divide}
 use Rattle.call.specs.Demand.{Ready, Prepared, piecesOf, cellsFrom, AcceptedCall}
 use Rattle.call.specs.LentCalls.{laidOut}
-use Rattle.call.specs.Lent.{LentOf, callBy, testsFor, divideFor, allCells, Lent, callOf, divideLent, dividePractice, LentRecords, callOfRecords, divideRecords}
+use Rattle.call.specs.Lent.{LentOf, callBy, testsFor, divideFor, allCells, Lent, callOf, divideLent, dividePractice, LentRecords}
+use Rattle.call.specs.Lent.{callOfRecords, divideRecords}
 use Rattle.call.proofs.Course.{outcomeOf, Divisible, Course, away, ran, course, refused-code, prepared-by, prepared-if}
 use Rattle.call.proofs.NodeList.{sound, usedAfter, NodesLeft, nodes-left-by}
 use Rattle.call.proofs.RimList.{RimsLeft, set-kept, rims-left-by}
@@ -85,7 +83,8 @@ record Accepted (L : Limits) (p : Part) (x : Lists) (s : Stack) (a : CallAnswer)
   pub node-count : a .row .nodes ≡ length (nodesOver (L .share) (usedIn x) (s .pieces))
   pub nodes : a .nodes ≡ put (x .nodes) 0 (nodesOver (L .share) (usedIn x) (s .pieces))
 
-accepted : (L : Limits) (r : ℕ) (p : Part) (x : Lists) (s : Stack) (o : Outcome) → Over (L .share) (usedIn x) (s .pieces) o → CellsOf (Counts.corners (s .pieces)) o → answered L r p x s o .row .code ≡ 0
+accepted : (L : Limits) (r : ℕ) (p : Part) (x : Lists) (s : Stack) (o : Outcome) → Over (L .share) (usedIn x) (s .pieces) o
+    → CellsOf (Counts.corners (s .pieces)) o → answered L r p x s o .row .code ≡ 0
     → Accepted L p x s (answered L r p x s o)
 unfolding answered
 accepted L r p x s (failed ms n k) h m z = absurd (omega (arith, z))
@@ -116,7 +115,8 @@ not-negative (pos n) h = tt
 not-negative (negsuc n) h = absurd h
 
 -- ---- the claim
-module _ (L : Limits) (r : ℕ) (p : Part) (x : Lists) (a : CallAnswer) (z : a .row .code ≡ 0) (q : Divisible L r p x) (e : a ≡ answered L r p x (splitBadVertices L p) (outcomeOf L p x)) (left : NodesLeft L p x a) (marks : RimsLeft L p x a) where
+module _ (L : Limits) (r : ℕ) (p : Part) (x : Lists) (a : CallAnswer) (z : a .row .code ≡ 0) (q : Divisible L r p x)
+    (e : a ≡ answered L r p x (splitBadVertices L p) (outcomeOf L p x)) (left : NodesLeft L p x a) (marks : RimsLeft L p x a) where
   abbrev s : Stack
   s = splitBadVertices L p
 
@@ -183,12 +183,16 @@ module _ (L : Limits) (r : ℕ) (p : Part) (x : Lists) (a : CallAnswer) (z : a .
         nodes-added = omega (arith, left .adds, t .corners, t .marked, t .cuts);
         nodes-fit = omega (arith, nodes-fit, left .places);
         old-nodes = old;
-        rims = marks .rims ∙ ap (λ (qs : List Ask). rimsBy (x .nodeCount) (a .row .nodes) qs (x .rims)) (ap (λ (n : ℕ). cond (laidOut n) (asked L p (usedIn x)) []) z);
+        rims =
+            marks .rims
+            ∙ ap (λ (qs : List Ask). rimsBy (x .nodeCount) (a .row .nodes) qs (x .rims)) (ap (λ (n : ℕ). cond (laidOut n) (asked L p (usedIn x)) []) z);
         old-rims = λ i u. set-kept L p x a marks i u (omega (arith, u, y .listed, y .rimmed));
         ranged = in-range;
         area = ap pos (t .area) ∙ positive (polygonArea (p .points)) (q .whole .wide);
         turned = t .turned ∙ g .turned;
-        areas = g .sum ∙ ap (λ (z : ℤ). z +ℤ pos (2 * s .turned)) (sym (positive (polygonArea (p .points)) (q .whole .wide))) ∙ ap pos (omega (arith, t .area, t .turned));
+        areas =
+            g .sum ∙ ap (λ (z : ℤ). z +ℤ pos (2 * s .turned)) (sym (positive (polygonArea (p .points)) (q .whole .wide)))
+            ∙ ap pos (omega (arith, t .area, t .turned));
         upright = g .upright (not-negative (polygonArea (p .points)) (q .whole .wide));
         chosen = chosen L p w;
         clear = clear L p w;
@@ -215,7 +219,8 @@ demand3 L c z = demand3-by L (length (c .ring)) (startOf c) (listsOf c) (tests L
 
 demand3-of : {A : Type 0} (own : ℕ → ℕ → Bool) (read : List A → List Cell) (L : Limits) (l : LentOf A) → divideFor own read L l .row .code ≡ 0
     → AcceptedCall L (startOf (callBy read l)) (listsOf (callBy read l)) (divideFor own read L l)
-demand3-of own read L l z = let c = callBy read l in demand3-by L (length (c .ring)) (startOf c) (listsOf c) (testsFor own read L l) tt (λ h. prepared-by own L c (h .1)) z
+demand3-of own read L l z =
+    let c = callBy read l in demand3-by L (length (c .ring)) (startOf c) (listsOf c) (testsFor own read L l) tt (λ h. prepared-by own L c (h .1)) z
 
 pub demand3-lent : (L : Limits) (l : Lent) → divideLent L l .row .code ≡ 0 → AcceptedCall L (startOf (callOf l)) (listsOf (callOf l)) (divideLent L l)
 unfolding divideLent
@@ -226,6 +231,7 @@ pub demand3-practice : (l : Lent) → dividePractice l .row .code ≡ 0 → Acce
 unfolding dividePractice
 demand3-practice l z = demand3-of over24 allCells practiceSet l z
 
-pub demand3-records : (L : Limits) (l : LentRecords) → divideRecords L l .row .code ≡ 0 → AcceptedCall L (startOf (callOfRecords l)) (listsOf (callOfRecords l)) (divideRecords L l)
+pub demand3-records : (L : Limits) (l : LentRecords) → divideRecords L l .row .code ≡ 0
+    → AcceptedCall L (startOf (callOfRecords l)) (listsOf (callOfRecords l)) (divideRecords L l)
 unfolding divideRecords
 demand3-records L l z = demand3-of noTest (λ cs. cs) L l z

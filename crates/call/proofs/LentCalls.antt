@@ -1,12 +1,13 @@
--- Demand 3, of lists of calls (`lent-calls`). Take any list of calls, of all entries in any mixture, each with its own set of limits, ring, chain or marks, sheet size, cell
--- list and cell count, accepted or refused, also with rings or chains of odd length; from a node list of count zero, whatever its doubles and marks are; each gets the nodes,
--- the node count and the marks that the one before left. At the end
+-- Demand 3, of lists of calls (`lent-calls`). Take any list of calls, of all entries in any mixture, each with its own set of limits, ring, chain or marks,
+-- sheet size, cell list and cell count, accepted or refused, also with rings or chains of odd length; from a node list of count zero, whatever its doubles
+-- and marks are; each gets the nodes, the node count and the marks that the one before left. At the end
 --   every node that was listed after any of the calls still has its number and every bit;
 --   no two listed nodes share a key, so that a point with a listed node's key gets that node's number;
 --   every listed node is finite and within 1,024 mm;
 --   the list has its length, the used nodes are in it, and each call has added at most 2n + c + 2s + 1 nodes;
---   Card 12: the mark of a used node is 1 exactly if some call asked for the node as a corner or as the middle of a ring edge, and 0 else, whatever the marks were before the
---   first call; each used node was asked for; a set mark stays set; a call that is refused, other than with 8, changes no mark; the marks past the used count are as found.
+--   Card 12: the mark of a used node is 1 exactly if some call asked for the node as a corner or as the middle of a ring edge, and 0 else, whatever the marks
+--   were before the first call; each used node was asked for; a set mark stays set; a call that is refused, other than with 8, changes no mark; the marks
+--   past the used count are as found.
 -- It is one claim over the list as a whole: specs/LentCalls.LentCalls.
 use Prim.Native.Nat.{ℕ, zero, suc, _+_, _*_, _/_, _≤_, _<_, zero-le}
 use native.Mathlib.Nat.{le-refl, not-suc-le-zero, div-mul-le-self}
@@ -24,7 +25,7 @@ use Rattle.vector.specs.declared.Point.{Point}
 use Rattle.marks.specs.Part.{Part}
 use Rattle.corner.specs.declared.Limits.{Limits}
 use Rattle.nodes.specs.Nodes.{noNode, number}
-use Rattle.nodes.specs.Flat.{nodeIn, nodesIn, over}
+use Rattle.nodes.specs.Flat.{nodeIn, nodesIn}
 use Rattle.nodes.specs.Growth.{_≈_, Grown, Anything, EachNode, InRange, DistinctKeys}
 use Rattle.nodes.proofs.SameKey.{≈-sym, ≈-trans, ≈-of}
 use Rattle.nodes.proofs.Numbers.{number-at, number-least}
@@ -37,9 +38,10 @@ use Rattle.cells.proofs.Rims.{rims-none, rims-then, rims-length, rims-told, rim
 use Rattle.sets.specs.Sets.{practiceSet}
 use Rattle.call.specs.Call.{Lists, Call, listsOf, over24, noTest}
 use Rattle.call.specs.Divide.{CallAnswer, asked, startOf}
-use Rattle.call.specs.Lent.{LentOf, callBy, testsFor, divideFor, divideLent, divideRecords, dividePractice, allCells}
+use Rattle.call.specs.Lent.{callBy, testsFor, divideFor, divideLent, divideRecords, dividePractice, allCells}
 use Rattle.call.specs.Marked.{allPoints, markedLists, markedStart, markedTests, divideMarked}
-use Rattle.call.specs.LentCalls.{Given, GivenMarked, LentCall, numbers, records, marked, practice, Pool, empty, lend, lendMarked, answerOf, leaves, run, startIn, limitsOf, allowance, laidOut, asksOf, asksOver, LentCalls}
+use Rattle.call.specs.LentCalls.{Given, GivenMarked, LentCall, numbers, records, marked, practice, Pool, empty, lend, lendMarked, answerOf}
+use Rattle.call.specs.LentCalls.{leaves, run, startIn, limitsOf, allowance, laidOut, asksOf, asksOver, LentCalls}
 use Rattle.call.proofs.Course.{prepared-by}
 use Rattle.call.proofs.Marked.{marked-prepared-if}
 use Rattle.call.proofs.RimList.{asksBy, RimsLeft, rims-left-by}
@@ -69,7 +71,13 @@ stay : (s : Pool) → Holds s → Onward s s
 stay s h = record { grown = grown-refl (used s); same-length = refl; holds = h; ranged = λ r. r }
 
 after : {s t u : Pool} → Onward s t → Onward t u → Onward s u
-after g h = record { grown = grown-trans (g .grown) (h .grown); same-length = h .same-length ∙ g .same-length; holds = h .holds; ranged = λ k. h .ranged (g .ranged k) }
+after g h =
+    record {
+      grown = grown-trans (g .grown) (h .grown);
+      same-length = h .same-length ∙ g .same-length;
+      holds = h .holds;
+      ranged = λ k. h .ranged (g .ranged k);
+    }
 
 -- the marks, where qs was asked for on the way
 record Marked (s t : Pool) (qs : List Ask) : Type 0 where
@@ -80,7 +88,14 @@ record Marked (s t : Pool) (qs : List Ask) : Type 0 where
   pub beside : s .count ≤ length (s .rims) → t .count ≤ length (t .rims)
 
 marks-stay : (s : Pool) → Marked s s []
-marks-stay s = record { longer = le-refl (s .count); rims = sym (rims-none (s .count) (s .rims)); listed = tt; cover = λ k a b. absurd (omega (arith, a, b)); beside = λ h. h }
+marks-stay s =
+    record {
+      longer = le-refl (s .count);
+      rims = sym (rims-none (s .count) (s .rims));
+      listed = tt;
+      cover = λ k a b. absurd (omega (arith, a, b));
+      beside = λ h. h;
+    }
 
 asked-left : (qs ss : List Ask) (k : ℕ) → AskedFor qs k → AskedFor (qs ++ ss) k
 asked-left qs ss k h = record { ask = h .ask; one = Memᴰ·append-left ss (h .one); for = h .for }
@@ -92,7 +107,9 @@ marks-after : {s t u : Pool} (qs ss : List Ask) → Marked s t qs → Marked t u
 marks-after {s} {t} {u} qs ss g h =
     record {
       longer = omega (arith, g .longer, h .longer);
-      rims = h .rims ∙ ap (rimsBy (t .count) (u .count) ss) (g .rims) ∙ rims-then (s .count) (t .count) (u .count) qs ss (s .rims) (g .longer) (h .longer) (g .listed);
+      rims =
+          h .rims ∙ ap (rimsBy (t .count) (u .count) ss) (g .rims)
+          ∙ rims-then (s .count) (t .count) (u .count) qs ss (s .rims) (g .longer) (h .longer) (g .listed);
       listed =
           all-append (λ (q : Ask). q .node < u .count) qs ss
           (all-weaken (λ (q : Ask). q .node < t .count) (λ (q : Ask). q .node < u .count) (λ q l. omega (arith, l, h .longer)) qs (g .listed)) (h .listed);
@@ -187,21 +204,27 @@ rims-marked s g =
 -- a case an entry
 step : (s : Pool) → Holds s → (g : LentCall) → Onward s (leaves s (answerOf s g))
 unfolding divideLent divideRecords dividePractice
-step s h (numbers g) = called (g .limits) (startIn (numbers g)) s h (allCells (g .cells)) (g .cellCount) (answerOf s (numbers g)) (left-by noTest allCells (g .limits) s g)
-step s h (records g) = called (g .limits) (startIn (records g)) s h (g .cells) (g .cellCount) (answerOf s (records g)) (left-by noTest (λ cs. cs) (g .limits) s g)
+step s h (numbers g) =
+    called (g .limits) (startIn (numbers g)) s h (allCells (g .cells)) (g .cellCount) (answerOf s (numbers g)) (left-by noTest allCells (g .limits) s g)
+step s h (records g) =
+    called (g .limits) (startIn (records g)) s h (g .cells) (g .cellCount) (answerOf s (records g)) (left-by noTest (λ cs. cs) (g .limits) s g)
 step s h (marked g) = called (g .limits) (startIn (marked g)) s h (allCells (g .cells)) (g .cellCount) (answerOf s (marked g)) (left-marked s g)
-step s h (practice g) = called practiceSet (startIn (practice g)) s h (allCells (g .cells)) (g .cellCount) (answerOf s (practice g)) (left-by over24 allCells practiceSet s g)
+step s h (practice g) =
+    called practiceSet (startIn (practice g)) s h (allCells (g .cells)) (g .cellCount) (answerOf s (practice g)) (left-by over24 allCells practiceSet s g)
 
 marks : (s : Pool) → Holds s → (g : LentCall) → Marked s (leaves s (answerOf s g)) (asksOf s g)
 unfolding divideLent divideRecords dividePractice asksOf
 marks s h (numbers g) =
-    called-marks (g .limits) (startIn (numbers g)) s h (allCells (g .cells)) (g .cellCount) (answerOf s (numbers g)) (left-by noTest allCells (g .limits) s g) (rims-by noTest allCells (g .limits) s g)
+    called-marks (g .limits) (startIn (numbers g)) s h (allCells (g .cells)) (g .cellCount) (answerOf s (numbers g)) (left-by noTest allCells (g .limits) s g)
+    (rims-by noTest allCells (g .limits) s g)
 marks s h (records g) =
-    called-marks (g .limits) (startIn (records g)) s h (g .cells) (g .cellCount) (answerOf s (records g)) (left-by noTest (λ cs. cs) (g .limits) s g) (rims-by noTest (λ cs. cs) (g .limits) s g)
+    called-marks (g .limits) (startIn (records g)) s h (g .cells) (g .cellCount) (answerOf s (records g)) (left-by noTest (λ cs. cs) (g .limits) s g)
+    (rims-by noTest (λ cs. cs) (g .limits) s g)
 marks s h (marked g) =
     called-marks (g .limits) (startIn (marked g)) s h (allCells (g .cells)) (g .cellCount) (answerOf s (marked g)) (left-marked s g) (rims-marked s g)
 marks s h (practice g) =
-    called-marks practiceSet (startIn (practice g)) s h (allCells (g .cells)) (g .cellCount) (answerOf s (practice g)) (left-by over24 allCells practiceSet s g) (rims-by over24 allCells practiceSet s g)
+    called-marks practiceSet (startIn (practice g)) s h (allCells (g .cells)) (g .cellCount) (answerOf s (practice g))
+    (left-by over24 allCells practiceSet s g) (rims-by over24 allCells practiceSet s g)
 
 most : (s : Pool) → Holds s → (g : LentCall) → answerOf s g .row .nodes ≤ s .count + allowance (limitsOf g) (startIn g)
 unfolding divideLent divideRecords dividePractice
@@ -240,12 +263,14 @@ rest-marks s h gs zero = all-marks s h gs
 rest-marks s h [] (suc i) = marks-stay s
 rest-marks s h (g ∷ gs) (suc i) = rest-marks (next s g) (step s h g .holds) gs i
 
-refused-keeps : (s : Pool) (gs : List LentCall) (i : ℕ) (d : LentCall) → i < length gs → laidOut (answerOf (run s (take i gs)) (getD gs i d) .row .code) ≡ false → run s (take (suc i) gs) .rims ≡ run s (take i gs) .rims
+refused-keeps : (s : Pool) (gs : List LentCall) (i : ℕ) (d : LentCall) → i < length gs
+    → laidOut (answerOf (run s (take i gs)) (getD gs i d) .row .code) ≡ false → run s (take (suc i) gs) .rims ≡ run s (take i gs) .rims
 refused-keeps s [] i d l e = absurd (not-suc-le-zero l)
 refused-keeps s (g ∷ gs) zero d l e = kept s g e
 refused-keeps s (g ∷ gs) (suc i) d l e = refused-keeps (next s g) gs i d (omega (arith, l)) e
 
-adds : (s : Pool) → Holds s → (gs : List LentCall) (i : ℕ) (d : LentCall) → i < length gs → run s (take (suc i) gs) .count ≤ run s (take i gs) .count + allowance (limitsOf (getD gs i d)) (startIn (getD gs i d))
+adds : (s : Pool) → Holds s → (gs : List LentCall) (i : ℕ) (d : LentCall) → i < length gs
+    → run s (take (suc i) gs) .count ≤ run s (take i gs) .count + allowance (limitsOf (getD gs i d)) (startIn (getD gs i d))
 adds s h [] i d l = absurd (not-suc-le-zero l)
 adds s h (g ∷ gs) zero d l = most s h g
 adds s h (g ∷ gs) (suc i) d l = adds (next s g) (step s h g .holds) gs i d (omega (arith, l))
@@ -268,13 +293,19 @@ lent-calls l rs gs =
           let u = in-use s k h in
           let v = of-use t k (omega (arith, u, o .grown .longer)) in
           (v, sym (node-in (t .doubles) (t .count) k v) ∙ o .grown .same k u ∙ node-in (s .doubles) (s .count) k h);
-      apart = λ j k h i e. distinct j k (in-use t j h) (in-use t k i) (≈-trans (≈-of (node-in (t .doubles) (t .count) j h)) (≈-trans e (≈-of (sym (node-in (t .doubles) (t .count) k i)))));
+      apart =
+          λ j k h i e. distinct j k (in-use t j h) (in-use t k i)
+          (≈-trans (≈-of (node-in (t .doubles) (t .count) j h)) (≈-trans e (≈-of (sym (node-in (t .doubles) (t .count) k i)))));
       numbered = numbered;
-      ranged = λ k h. subst InRange (node-in (t .doubles) (t .count) k h) (all (empty l rs) none gs .ranged (λ i u. absurd (omega (arith, u, length-in l 0))) k (in-use t k h));
+      ranged =
+          λ k h. subst InRange (node-in (t .doubles) (t .count) k h)
+          (all (empty l rs) none gs .ranged (λ i u. absurd (omega (arith, u, length-in l 0))) k (in-use t k h));
       same-length = all (empty l rs) none gs .same-length;
       fits = omega (arith, all (empty l rs) none gs .holds, all (empty l rs) none gs .same-length);
       adds = adds (empty l rs) none gs;
-      told = λ k h. subst (λ (ms : List ℕ). Told (asksOver (empty l rs) gs) k (getD ms k 0)) (sym (m .rims)) (rims-told (t .count) (asksOver (empty l rs) gs) rs k h many);
+      told =
+          λ k h. subst (λ (ms : List ℕ). Told (asksOver (empty l rs) gs) k (getD ms k 0)) (sym (m .rims))
+          (rims-told (t .count) (asksOver (empty l rs) gs) rs k h many);
       asked-for = λ k h. m .cover k zero-le h;
       set-stays = λ i k h e.
           let s = run (empty l rs) (take i gs) in

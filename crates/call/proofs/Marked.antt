@@ -1,5 +1,5 @@
--- A ring with given marks is prepared for the core where none of its tests holds (`marked-prepared`): each snap point that survives is finite and within 1,024 mm, whether it was
--- given or is the outline's. So what is claimed of every entry holds of this one (`demand3-marked`).
+-- A ring with given marks is prepared for the core where none of its tests holds (`marked-prepared`): each snap point that survives is finite and within
+-- 1,024 mm, whether it was given or is the outline's. So what is claimed of every entry holds of this one (`demand3-marked`).
 use Prim.Native.Nat.{ℕ, suc, _*_, _/_, _%_, _≤_, _<_}
 use native.Mathlib.Omega.{arith}
 use native.Mathlib.Decide.{decLt}
@@ -7,19 +7,18 @@ use mathlib.Core.Path.{_≡_, refl, sym, ap, _∙_, subst}
 use mathlib.Core.Bool.{Bool, true, false, _&&_, _||_, not, cond}
 use mathlib.Core.List.{List, []}
 use lib.ListN.{length, getD, List·getD-eq-default}
-use lib.Dec.{T, ltb, eqb}
-use borrow.Author.Tests.{eq-eqb, eqb-true}
+use lib.Dec.{ltb, eqb}
+use borrow.Author.Tests.{eq-eqb, eqb-true, ltb-false}
 use lib.IntN.{ℤ}
 use lib.Ieee.{Float}
 use Rattle.laws.specs.Bounded.{any}
 use Rattle.laws.specs.Table.{tab}
-use Rattle.laws.specs.Within.{Within}
-use Rattle.laws.proofs.Booleans.{is-true, is-false, not-of}
-use Rattle.laws.proofs.Search.{any-none, any-hit}
-use Rattle.laws.proofs.Table.{length-tab, getD-tab}
+use Rattle.laws.proofs.Booleans.{is-true, neither}
+use Rattle.laws.proofs.Search.{any-at, any-hit}
+use Rattle.laws.proofs.Table.{getD-tab}
 use Rattle.vector.specs.declared.GridPoint.{GridPoint}
 use Rattle.vector.specs.declared.Point.{Point}
-use Rattle.vector.specs.Grid.{origin, at}
+use Rattle.vector.specs.Grid.{at}
 use Rattle.vector.specs.Plane.{inMm}
 use Rattle.vector.specs.Size.{OnSheet, AllOnSheet}
 use Rattle.clean.specs.Clean.{cleanPolygon}
@@ -27,14 +26,13 @@ use Rattle.clean.specs.Places.{keptPlaces, survives, surviving}
 use Rattle.clean.proofs.Kept.{clean-length, clean-each}
 use Rattle.clean.proofs.Places.{pick-length, kept-image, kept-rising}
 use Rattle.clean.proofs.Survivors.{surviving-many, surviving-at}
-use Rattle.outline.specs.Outline.{segments, nearestBoundaryPoint}
-use Rattle.outline.specs.Range.{InSheet}
 use Rattle.outline.proofs.Near.{point-in, middle-in, outline-in-range}
 use Rattle.marks.specs.declared.EdgeMark.{EdgeMark}
 use Rattle.marks.specs.declared.EdgeMark.the-variants.{Straight, Snap}
 use Rattle.marks.proofs.SnapRange.{InSheetEdge, straight-in, snap-in}
 use Rattle.nodes.specs.Flat.{nodeIn}
 use Rattle.nodes.specs.Growth.{InRange}
+use Rattle.nodes.proofs.Ranged.{held-within}
 use Rattle.quads.specs.Quads.{middle}
 use Rattle.table.specs.Refusals.{Passes}
 use Rattle.table.proofs.Refusals.{clear}
@@ -43,8 +41,9 @@ use Rattle.corner.specs.declared.Limits.{Limits}
 use Rattle.call.specs.Call.{held, anyOutside, countsOut}
 use Rattle.call.specs.Demand.{Ready, Prepared, AcceptedCall}
 use Rattle.call.specs.Lent.{odd}
-use Rattle.call.specs.Marked.{Marking, allPoints, markOf, leadPoint, leadLine, givenMark, markedBy, markOut, marksOut, calledFor, loopsOut, outlineOut, LentMarked, markedLists, markedStart, markedMade, markedTests, divideMarked}
-use Rattle.call.proofs.Tests.{or-no, and-both, not-false, at-least, points-on-sheet, held-within, counts-in, points-in, ready}
+use Rattle.call.specs.Marked.{Marking, allPoints, markOf, leadPoint, leadLine, givenMark, markedBy, markOut, marksOut, calledFor, loopsOut}
+use Rattle.call.specs.Marked.{outlineOut, LentMarked, markedLists, markedStart, markedMade, markedTests, divideMarked}
+use Rattle.call.proofs.Tests.{and-both, not-false, points-on-sheet, counts-in, points-in, ready}
 use Rattle.call.proofs.Demand.{demand3-by}
 
 -- ---- what 13 and 14 leave
@@ -56,9 +55,9 @@ marks-in kinds snaps n e =
     let p : ℕ → Bool = λ i. markOut (getD kinds i 0) (nodeIn snaps i) in
     let k = eqb (length kinds) n in
     let s = eqb (length snaps) (n * 2) in
-    let a = or-no (not k || not s) (any p n) e in
-    let b = or-no (not k) (not s) (a .0) in
-    (eqb-true (length kinds) n (is-true k (b .0)), eqb-true (length snaps) (n * 2) (is-true s (b .1)), λ i l. is-false (p i) (any-none p n (not-of (any p n) (a .1)) i l))
+    let a = neither (not k || not s) (any p n) e in
+    let b = neither (not k) (not s) (a .0) in
+    (eqb-true (length kinds) n (is-true k (b .0)), eqb-true (length snaps) (n * 2) (is-true s (b .1)), any-at p n (a .1))
 
 -- an outline that is called for has points on the sheet, at most 60, and loops of 3 or more that add up to them
 pub record Outlined (outline : List ℤ) (loops : List ℕ) : Type 0 where
@@ -71,11 +70,12 @@ unfolding outlineOut
 outline-in kinds outline loops e h =
     let n = length outline / 2 in
     let o = odd outline || eqb n 0 in
-    let a : (o || ltb 60 n || loopsOut loops n || anyOutside (allPoints outline)) ≡ false = subst (λ (b : Bool). (b && (o || ltb 60 n || loopsOut loops n || anyOutside (allPoints outline))) ≡ false) h e in
-    let b = or-no (o || ltb 60 n || loopsOut loops n) (anyOutside (allPoints outline)) a in
-    let c = or-no (o || ltb 60 n) (loopsOut loops n) (b .0) in
-    let d = or-no o (ltb 60 n) (c .0) in
-    record { few = at-least 60 n (d .1); sheet = points-on-sheet (allPoints outline) (b .1); whole = c .1 }
+    let a : (o || ltb 60 n || loopsOut loops n || anyOutside (allPoints outline)) ≡ false =
+    subst (λ (b : Bool). (b && (o || ltb 60 n || loopsOut loops n || anyOutside (allPoints outline))) ≡ false) h e in
+    let b = neither (o || ltb 60 n || loopsOut loops n) (anyOutside (allPoints outline)) a in
+    let c = neither (o || ltb 60 n) (loopsOut loops n) (b .0) in
+    let d = neither o (ltb 60 n) (c .0) in
+    record { few = ltb-false 60 n (d .1); sheet = points-on-sheet (allPoints outline) (b .1); whole = c .1 }
 
 -- ---- a mark, whose snap point is in range
 mark-in : (kind : ℕ) (p near : Point) → markOut kind p ≡ false → (kind ≡ 2 → InRange near) → InSheetEdge (markOf kind p near)
@@ -87,7 +87,7 @@ mark-in kind p near e h = go (eqb kind 1) refl (eqb kind 2) refl
 
     given : eqb kind 1 ≡ true → InRange p
     given d =
-        let a = or-no (ltb 2 kind) (eqb kind 1 && not ok) e in
+        let a = neither (ltb 2 kind) (eqb kind 1 && not ok) e in
         let b : not ok ≡ false = subst (λ (b : Bool). (b && not ok) ≡ false) d (a .1) in
         let c = and-both (held (p .x)) (held (p .y)) (not-false ok b) in
         (held-within (p .x) (c .0), held-within (p .y) (c .1))
@@ -98,7 +98,8 @@ mark-in kind p near e h = go (eqb kind 1) refl (eqb kind 2) refl
     go false d false f = straight-in
 
 -- ---- the marks of a ring r on the sheet
-module _ (size : ℕ) (g : Marking) (r : List GridPoint) (sheet : AllOnSheet r) (m : marksOut (g .kinds) (g .snaps) (length r) ≡ false) (o : outlineOut (g .kinds) (g .outline) (g .loops) ≡ false) where
+module _ (size : ℕ) (g : Marking) (r : List GridPoint) (sheet : AllOnSheet r) (m : marksOut (g .kinds) (g .snaps) (length r) ≡ false)
+    (o : outlineOut (g .kinds) (g .outline) (g .loops) ≡ false) where
   lead-in : (i : ℕ) → i < length r → getD (g .kinds) i 0 ≡ 2 → InRange (leadPoint (leadLine g) (at r i) (at r (suc i)))
   unfolding leadPoint middle at calledFor
   lead-in i l e =
@@ -112,7 +113,9 @@ module _ (size : ℕ) (g : Marking) (r : List GridPoint) (sheet : AllOnSheet r) 
 
   given-in : (i : ℕ) → i < length r → InSheetEdge (givenMark g r i)
   unfolding givenMark
-  given-in i l = mark-in (getD (g .kinds) i 0) (nodeIn (g .snaps) i) (leadPoint (leadLine g) (at r i) (at r (suc i))) (marks-in (g .kinds) (g .snaps) (length r) m .2 i l) (lead-in i l)
+  given-in i l =
+      mark-in (getD (g .kinds) i 0) (nodeIn (g .snaps) i) (leadPoint (leadLine g) (at r i) (at r (suc i)))
+      (marks-in (g .kinds) (g .snaps) (length r) m .2 i l) (lead-in i l)
 
   abbrev ks : List ℕ
   ks = keptPlaces size r
@@ -136,7 +139,10 @@ module _ (size : ℕ) (g : Marking) (r : List GridPoint) (sheet : AllOnSheet r) 
           let b = kept-rising size r .below j l in
           subst InSheetEdge (sym (surviving-at Straight (length r) ks ms j l))
           (either (survives (length r) ks k) (subst InSheetEdge (sym (getD-tab (givenMark g r) (length r) k Straight b)) (given-in k b)))
-      go (no l) = subst InSheetEdge (sym (List·getD-eq-default (surviving Straight (length r) ks ms) Straight {n = j} (omega (arith, l, surviving-many Straight (length r) ks ms)))) straight-in
+      go (no l) =
+          subst InSheetEdge
+          (sym (List·getD-eq-default (surviving Straight (length r) ks ms) Straight {n = j} (omega (arith, l, surviving-many Straight (length r) ks ms))))
+          straight-in
 
 -- a mark for each edge of the cleaned ring
 pub marked-edges : (size : ℕ) (g : Marking) (r : List GridPoint) → length (markedBy size g r .edges) ≡ length (markedBy size g r .points)
@@ -163,7 +169,7 @@ pub marked-passed : (L : Limits) (l : LentMarked) → Passes (markedTests L l) �
 marked-passed L l h =
     let n = length (allPoints (l .ring)) in
     let t = clear (markedMade L l) h in
-    let c = counts-in n 0 (or-no (odd (l .ring)) (countsOut n 0) (t .counts) .1) in
+    let c = counts-in n 0 (neither (odd (l .ring)) (countsOut n 0) (t .counts) .1) in
     record {
       cuts = most-cuts L (t .limits);
       from = c .0;

@@ -1,6 +1,7 @@
--- What a ring leaves of the node list, accepted or refused, of every entry, for every set of limits and whatever the list held before (`nodes-left-by`; of the divider call
--- `nodes-left`). Every node that was used has its number and its bits, and after them come nodes none of whose keys is listed before it; the list keeps its places, and the
--- used count stays among them; at most 2n + c + 2s + 1 nodes are added; and the used nodes are finite and within 1,024 mm if they were before.
+-- What a ring leaves of the node list, accepted or refused, of every entry, for every set of limits and whatever the list held before (`nodes-left-by`; of
+-- the divider call `nodes-left`). Every node that was used has its number and its bits, and after them come nodes none of whose keys is listed before it; the
+-- list keeps its places, and the used count stays among them; at most 2n + c + 2s + 1 nodes are added; and the used nodes are finite and within 1,024 mm if
+-- they were before.
 use Prim.Native.Nat.{ℕ, suc, _+_, _≤_, _<_}
 use native.Mathlib.Nat.{le-refl}
 use native.Mathlib.Omega.{arith}
@@ -64,7 +65,8 @@ module _ (L : Limits) (r : ℕ) (p : Part) (x : Lists) (s : Divisible L r p x) w
       f : PieceFrom p (diagonalsOf (logOf L p)) part
       f = cut-from L p sound .from i l
 
-      edge : (k : ℕ) → EdgeFrom p (diagonalsOf (logOf L p)) (at (part .points) k) (at (part .points) (suc k)) (markAt part k) → (q : Point) → markAt part k ≡ Snap q → InRange q
+      edge : (k : ℕ) → EdgeFrom p (diagonalsOf (logOf L p)) (at (part .points) k) (at (part .points) (suc k)) (markAt part k) → (q : Point)
+          → markAt part k ≡ Snap q → InRange q
       edge k (side j b e m) q u = h .snaps j q (sym m ∙ u)
       edge k (across j b e m) q u = absurd (straight≢snap q (sym m ∙ u))
 
@@ -112,7 +114,8 @@ used-put l ns = take-append-seam ns (drop (0 + length ns) l)
 put-length : (l ns : List Point) → length ns ≤ length l → length (put l 0 ns) ≡ length l
 put-length l ns h = omega (arith, length-append ns (drop (0 + length ns) l), length-drop (0 + length ns) l)
 
-answered-nodes : (L : Limits) (r : ℕ) (p : Part) (x : Lists) (s : Stack) (o : Outcome) → (answered L r p x s o .row .nodes ≡ length (nodesOf o)) × (answered L r p x s o .nodes ≡ put (x .nodes) 0 (nodesOf o))
+answered-nodes : (L : Limits) (r : ℕ) (p : Part) (x : Lists) (s : Stack) (o : Outcome)
+    → (answered L r p x s o .row .nodes ≡ length (nodesOf o)) × (answered L r p x s o .nodes ≡ put (x .nodes) 0 (nodesOf o))
 unfolding answered
 answered-nodes L r p x s (done ns cs) = (refl, refl)
 answered-nodes L r p x s (failed ns n k) = (refl, refl)

@@ -1,6 +1,6 @@
--- The pieces of a split come of the ring and of the diagonals of its cuts (`cut-from`): what the bound on new nodes asks for. The corners of each piece are corners of
--- the ring, and each of its edges is, in either sense, an edge of the ring with its mark or the diagonal of a cut, straight. And no piece has more corners than the
--- ring (`piece-corners`).
+-- The pieces of a split come of the ring and of the diagonals of its cuts (`cut-from`): what the bound on new nodes asks for. The corners of each piece are
+-- corners of the ring, and each of its edges is, in either sense, an edge of the ring with its mark or the diagonal of a cut, straight. And no piece has more
+-- corners than the ring (`piece-corners`).
 use Prim.Native.Nat.{ℕ, zero, suc, _+_, _*_, _≤_, _<_}
 use native.Mathlib.Nat.{not-suc-le-zero}
 use native.Mathlib.Omega.{arith}
@@ -19,9 +19,9 @@ use Rattle.split.specs.Split.{Cut, splitBadVertices}
 use Rattle.cuts.specs.Counts as Counts
 use Rattle.cuts.specs.Counts.{Sound}
 use Rattle.cuts.specs.Provenance as Provenance
-use Rattle.cuts.specs.Provenance.{Side, sides, SameSide, same, turned, diagonal, diagonals, Among, Cornered}
+use Rattle.cuts.specs.Provenance.{Side, noSide, sides, SameSide, same, turned, diagonal, diagonals, Among, Cornered}
 use Rattle.cuts.proofs.Counts.{counted, three-each}
-use Rattle.cuts.proofs.Sides.{side-count, side-at}
+use Rattle.cuts.proofs.Sides.{diagonal-straight, side-count, side-at}
 use Rattle.cuts.proofs.Provenance.{traced}
 use Rattle.cells.specs.Stages.{markAt}
 use Rattle.cells.specs.Cover.{Ends, CutLine, noCutLine, EdgeFrom, side, across, CutFrom}
@@ -33,13 +33,6 @@ ends c = record { a = diagonal c .a; b = diagonal c .b }
 abbrev pub diagonalsOf : List Cut → List CutLine
 diagonalsOf l = map ends l
 
-diagonal-straight : (c : Cut) → diagonal c .mark ≡ Straight
-unfolding diagonal
-diagonal-straight c = refl
-
-noSide : Side
-noSide = Provenance.side origin origin Straight
-
 -- a side that is the diagonal of a cut of the log
 record Across (l : List Cut) (s : Side) : Type 0 where
   pub place : ℕ
@@ -49,7 +42,14 @@ record Across (l : List Cut) (s : Side) : Type 0 where
   pub plain : s .mark ≡ Straight
 
 latest : (c : Cut) (l : List Cut) (s : Side) → s ≡ diagonal c → Across (c ∷ l) s
-latest c l s e = record { place = 0; low = omega arith; from = ap (λ (s : Side). s .a) e; to = ap (λ (s : Side). s .b) e; plain = ap (λ (s : Side). s .mark) e ∙ diagonal-straight c }
+latest c l s e =
+    record {
+      place = 0;
+      low = omega arith;
+      from = ap (λ (s : Side). s .a) e;
+      to = ap (λ (s : Side). s .b) e;
+      plain = ap (λ (s : Side). s .mark) e ∙ diagonal-straight c;
+    }
 
 earlier : (c : Cut) (l : List Cut) (s : Side) → Across l s → Across (c ∷ l) s
 earlier c l s h = record { place = suc (h .place); low = omega (arith, h .low); from = h .from; to = h .to; plain = h .plain }
@@ -78,13 +78,16 @@ edge-from ring l s g k = go (source l (sides ring) (k .like) (k .source))
   where
     go : Across l (k .like) ⊎ List·Memᴰ (k .like) (sides ring) → EdgeFrom ring (diagonalsOf l) (s .a) (s .b) (s .mark)
     go (inl a) =
-        let e = alike-ends s (k .like) (getD (diagonalsOf l) (a .place) noCutLine .a) (getD (diagonalsOf l) (a .place) noCutLine .b) (k .alike) (a .from) (a .to) in
+        let e =
+        alike-ends s (k .like) (getD (diagonalsOf l) (a .place) noCutLine .a) (getD (diagonalsOf l) (a .place) noCutLine .b) (k .alike) (a .from) (a .to) in
         across (a .place) (subst (λ (n : ℕ). a .place < n) (sym (length-map l ends)) (a .low)) (e .0) (e .1 ∙ a .plain)
     go (inr h) =
         let p = mem-get noSide h in
         let low : p .place < length (ring .points) = subst (λ (n : ℕ). p .place < n) (side-count ring g) (p .low) in
         let q = p .is ∙ side-at ring g (p .place) noSide low in
-        let e = alike-ends s (k .like) (at (ring .points) (p .place)) (at (ring .points) (suc (p .place))) (k .alike) (ap (λ (s : Side). s .a) q) (ap (λ (s : Side). s .b) q) in
+        let e =
+        alike-ends s (k .like) (at (ring .points) (p .place)) (at (ring .points) (suc (p .place))) (k .alike) (ap (λ (s : Side). s .a) q)
+        (ap (λ (s : Side). s .b) q) in
         side (p .place) low (e .0) (e .1 ∙ ap (λ (s : Side). s .mark) q)
 
 -- edge j of a piece whose sides are known
@@ -110,7 +113,8 @@ cut-from L ring w =
           let k = all-get (λ (q : Part). All (Known ring l) (sides q)) ps i noPart (t .known) u in
           record {
             some = omega (arith, s .three);
-            corner = λ j v. let q = mem-get origin (all-get (λ x. List·Memᴰ x (ring .points)) (getD ps i noPart .points) j origin m v) in (q .place, q .low, q .is);
+            corner =
+                λ j v. let q = mem-get origin (all-get (λ x. List·Memᴰ x (ring .points)) (getD ps i noPart .points) j origin m v) in (q .place, q .low, q .is);
             edge = λ j v. piece-edge ring (getD ps i noPart) l w s k j v;
           };
     }
@@ -120,5 +124,6 @@ one-of [] i h l = absurd (not-suc-le-zero l)
 one-of (p ∷ ps) zero h l = omega (arith, three-each ps (h .1))
 one-of (p ∷ ps) (suc i) h l = omega (arith, h .0 .three, one-of ps i (h .1) (omega (arith, l)))
 
-pub piece-corners : (L : Limits) (ring : Part) → Sound ring → (i : ℕ) → i < length (splitBadVertices L ring .pieces) → length (getD (splitBadVertices L ring .pieces) i noPart .points) ≤ length (ring .points)
+pub piece-corners : (L : Limits) (ring : Part) → Sound ring → (i : ℕ) → i < length (splitBadVertices L ring .pieces)
+    → length (getD (splitBadVertices L ring .pieces) i noPart .points) ≤ length (ring .points)
 piece-corners L ring w i l = let c = counted L ring w in omega (arith, one-of (splitBadVertices L ring .pieces) i (c .sound) l, c .corners, c .pieces)

@@ -1,16 +1,15 @@
--- Card 12: what a ring leaves of the rim marks, accepted or refused, of every entry, for every set of limits and whatever the lists held before (`rims-left-by`; of the
--- divider call `rims-left`). The marks are those that its asks leave, each of them for a node that is then listed; every new node was asked for; a mark that was set
--- stays set; a refusal other than 8 changes none; and there is a mark for each used node if there was before.
+-- Card 12: what a ring leaves of the rim marks, accepted or refused, of every entry, for every set of limits and whatever the lists held before
+-- (`rims-left-by`; of the divider call `rims-left`). The marks are those that its asks leave, each of them for a node that is then listed; every new node was
+-- asked for; a mark that was set stays set; a refusal other than 8 changes none; and there is a mark for each used node if there was before.
 use Prim.Native.Nat.{ℕ, _≤_, _<_}
 use native.Mathlib.Omega.{arith}
 use mathlib.Core.Path.{_≡_, refl, sym, ap, _∙_, subst}
 use mathlib.Core.Bool.{Bool, true, false, not, _&&_, _||_, cond}
 use mathlib.Core.List.{List, []}
-use lib.ListN.{length, getD, take}
+use lib.ListN.{length, getD}
 use lib.Seq.{length-take-le}
 use lib.Dec.{T, eqb}
 use Rattle.laws.specs.All.{All}
-use Rattle.vector.specs.declared.Point.{Point}
 use Rattle.marks.specs.Part.{Part}
 use Rattle.corner.specs.declared.Limits.{Limits}
 use Rattle.split.specs.Split.{Stack, splitBadVertices}
@@ -40,7 +39,8 @@ pub record RimsLeft (L : Limits) (p : Part) (x : Lists) (a : CallAnswer) : Type 
   pub kept : laidOut (a .row .code) ≡ false → a .rims ≡ x .rims
 
 -- a set mark of a used node stays set
-pub set-kept : (L : Limits) (p : Part) (x : Lists) (a : CallAnswer) → RimsLeft L p x a → (k : ℕ) → k < x .nodeCount → k < length (x .rims) → getD (x .rims) k 0 ≡ 1 → getD (a .rims) k 0 ≡ 1
+pub set-kept : (L : Limits) (p : Part) (x : Lists) (a : CallAnswer) → RimsLeft L p x a → (k : ℕ) → k < x .nodeCount → k < length (x .rims)
+    → getD (x .rims) k 0 ≡ 1 → getD (a .rims) k 0 ≡ 1
 set-kept L p x a h k l m e = rw (h .rims) (rims-stay (x .nodeCount) (a .row .nodes) (asksBy L p x a) (x .rims) k l m e)
 
 -- ---- refused
@@ -68,7 +68,8 @@ module _ (L : Limits) (p : Part) (x : Lists) (n : ℕ) (t : T (turnsAway n)) whe
       }
 
 -- ---- laid out
-answered-rims : (L : Limits) (r : ℕ) (p : Part) (x : Lists) (s : Stack) (o : Outcome) → let a = answered L r p x s o in (laidOut (a .row .code) ≡ true) × (a .row .nodes ≡ length (nodesOf o)) × (a .rims ≡ rimsLeft L p x (length (nodesOf o)))
+answered-rims : (L : Limits) (r : ℕ) (p : Part) (x : Lists) (s : Stack) (o : Outcome) → let a =
+    answered L r p x s o in (laidOut (a .row .code) ≡ true) × (a .row .nodes ≡ length (nodesOf o)) × (a .rims ≡ rimsLeft L p x (length (nodesOf o)))
 unfolding answered
 answered-rims L r p x s (done ns cs) = (refl, refl, refl)
 answered-rims L r p x s (failed ns n k) = (refl, refl, refl)
@@ -80,7 +81,15 @@ module _ (L : Limits) (r : ℕ) (p : Part) (x : Lists) where
         rims = e .2 ∙ (λ j. rimsBy (x .nodeCount) (sym (e .1) j) (sym all j) (x .rims));
         listed = rw (all, e .1) (asks-listed (L .share) (piecesOf L p) labels (usedIn x) n);
         cover = λ k u v. rw all (asks-cover (L .share) (piecesOf L p) labels (usedIn x) n k (omega (arith, u, used)) (omega (arith, v, e .1)));
-        beside = λ h. omega (arith, e .1, ap length (e .2), rims-length (x .nodeCount) (length (nodesOf (outcomeOf L p x))) (asked L p (usedIn x)) (x .rims), fits L r p x s, s .prepared .ready .rimmed);
+        beside =
+            λ h. omega (
+              arith,
+              e .1,
+              ap length (e .2),
+              rims-length (x .nodeCount) (length (nodesOf (outcomeOf L p x))) (asked L p (usedIn x)) (x .rims),
+              fits L r p x s,
+              s .prepared .ready .rimmed,
+            );
         kept = λ h. absurd (subst T (sym (e .0) ∙ h) tt);
       }
     where
@@ -93,7 +102,8 @@ module _ (L : Limits) (r : ℕ) (p : Part) (x : Lists) where
       n : ℕ
       n = length (piecesOf L p)
 
-      e : (laidOut (a .row .code) ≡ true) × (a .row .nodes ≡ length (nodesOf (outcomeOf L p x))) × (a .rims ≡ rimsLeft L p x (length (nodesOf (outcomeOf L p x))))
+      e : (laidOut (a .row .code) ≡ true) × (a .row .nodes ≡ length (nodesOf (outcomeOf L p x)))
+          × (a .rims ≡ rimsLeft L p x (length (nodesOf (outcomeOf L p x))))
       e = answered-rims L r p x (splitBadVertices L p) (outcomeOf L p x)
 
       all : asksBy L p x a ≡ asked L p (usedIn x)

@@ -1,6 +1,6 @@
--- What it says that none of the tests of a call holds (`passed`): the counts are within limits, every point of ring and chain is on the sheet, every used node is finite
--- and within 1,024 mm, the used counts fit their lists, each node place has a rim mark, the reserves are free, and the set has at most 32 cuts. Each test by itself:
--- `counts-in`, `points-in`, `counts-fit`, `ready`.
+-- What it says that none of the tests of a call holds (`passed`): the counts are within limits, every point of ring and chain is on the sheet, every used
+-- node is finite and within 1,024 mm, the used counts fit their lists, each node place has a rim mark, the reserves are free, and the set has at most 32
+-- cuts. Each test by itself: `counts-in`, `points-in`, `counts-fit`, `ready`.
 use Prim.Native.Nat.{ℕ, _-_, _≤_, _<_, zero-le}
 use native.Mathlib.Omega.{arith}
 use native.Mathlib.Decide.{decLt}
@@ -10,13 +10,9 @@ use mathlib.Core.List.{List}
 use lib.IntN.{ℤ, pos, negsuc, natAbs}
 use lib.ListN.{length, getD, List·getD-eq-default}
 use lib.Dec.{T, ltb, eqb, nltb→le}
-use lib.Ieee.{Float, fin, ofInt, round, sub}
-use Rattle.laws.specs.Double.{nat, _-f_, _≤f_}
+use borrow.Author.Tests.{ltb-false}
 use Rattle.laws.specs.Bounded.{any}
-use Rattle.laws.specs.Within.{Within}
-use Rattle.laws.proofs.Between.{tested-1024}
-use Rattle.laws.proofs.Booleans.{not-of}
-use Rattle.laws.proofs.Constants.{least-1024, most-1024}
+use Rattle.laws.proofs.Booleans.{not-of, not-not, neither}
 use Rattle.laws.proofs.Search.{any-none}
 use Rattle.vector.specs.declared.GridPoint.{GridPoint}
 use Rattle.vector.specs.declared.Point.{Point}
@@ -26,17 +22,15 @@ use Rattle.corner.specs.declared.Limits.{Limits}
 use Rattle.chain.specs.Range.{ChainOnSheet}
 use Rattle.nodes.specs.Nodes.{nodeAt}
 use Rattle.nodes.specs.Growth.{InRange, EachNode}
+use Rattle.nodes.proofs.Ranged.{held-within}
 use Rattle.table.specs.Refusals.{Passes, inOrder}
 use Rattle.table.proofs.Refusals.{clear}
 use Rattle.sets.proofs.Taken.{most-cuts}
-use Rattle.call.specs.Call.{Lists, usedIn, Call, listsOf, countsOut, beyond, outside, anyOutside, unitsOut, held, usable, rimsOut, listsOver, listsOut, nodeReserve, cellReserve, mostPlaces, roomOut, madeBy, noTest, tests}
+use Rattle.call.specs.Call.{Lists, usedIn, Call, listsOf, countsOut, beyond, outside, anyOutside, unitsOut, held, usable, rimsOut, listsOver}
+use Rattle.call.specs.Call.{listsOut, nodeReserve, cellReserve, mostPlaces, roomOut, madeBy, noTest, tests}
 use Rattle.call.specs.Demand.{Ready}
 
 -- ---- tests that fail, and tests that hold
-pub or-no : (a b : Bool) → a || b ≡ false → (a ≡ false) × (b ≡ false)
-or-no true b e = absurd (subst T e tt)
-or-no false b e = (refl, e)
-
 pub and-both : (a b : Bool) → T (a && b) → T a × T b
 and-both true b t = (tt, t)
 and-both false b t = absurd t
@@ -45,16 +39,13 @@ pub not-false : (b : Bool) → not b ≡ false → T b
 not-false true e = tt
 not-false false e = absurd (subst T e tt)
 
-pub at-least : (a b : ℕ) → ltb a b ≡ false → b ≤ a
-at-least a b e = nltb→le a b (not-of (ltb a b) e)
-
 -- ---- the points
 within-limits : (z : ℤ) → T (not (beyond z)) → natAbs z ≤ 8388608
 within-limits (pos n) h = go (ltb 8388608 n) refl h
   where
     go : (b : Bool) → ltb 8388608 n ≡ b → T (not (b || false)) → n ≤ 8388608
     go true e h = absurd h
-    go false e h = at-least 8388608 n e
+    go false e h = ltb-false 8388608 n e
 within-limits (negsuc n) h = omega (arith, nltb→le 8388607 n h)
 
 on-sheet : (p : GridPoint) → T (not (outside p)) → OnSheet p
@@ -76,21 +67,13 @@ points-on-sheet r h i = go (decLt i (length r))
     go (no l) = subst OnSheet (sym (List·getD-eq-default r origin {n = i} (omega arith))) (record { x = zero-le; y = zero-le })
 
 -- ---- the used nodes
-pub held-within : (x : Float) → T (held x) → Within 1024 x
-unfolding held
-held-within x h =
-    let k = and-both (nat 0 -f nat 1024 ≤f x) (x ≤f nat 1024) h in
-    tested-1024 x (subst (λ (u : Float). T (u ≤f x)) least-1024 (k .0)) (subst (λ (u : Float). T (x ≤f u)) most-1024 (k .1))
-
-not-not : (b : Bool) → T (not (not b)) → T b
-not-not true h = tt
-not-not false h = h
-
 usable-in-range : (ns : List Point) → T (usable ns) → EachNode InRange ns
 unfolding usable
 usable-in-range ns h i l =
     let b = held (nodeAt ns i .x) && held (nodeAt ns i .y) in
-    let k = and-both (held (nodeAt ns i .x)) (held (nodeAt ns i .y)) (not-not b (any-none (λ i. not (held (nodeAt ns i .x) && held (nodeAt ns i .y))) (length ns) h i l)) in
+    let k =
+    and-both (held (nodeAt ns i .x)) (held (nodeAt ns i .y))
+    (not-not b (any-none (λ i. not (held (nodeAt ns i .x) && held (nodeAt ns i .y))) (length ns) h i l)) in
     (held-within (nodeAt ns i .x) (k .0), held-within (nodeAt ns i .y) (k .1))
 
 -- ---- each test by itself
@@ -98,42 +81,58 @@ usable-in-range ns h i l =
 pub counts-in : (r k : ℕ) → countsOut r k ≡ false → (3 ≤ r) × (r ≤ 60) × (k ≤ 60)
 unfolding countsOut
 counts-in r k e =
-    let a = or-no (ltb r 3 || ltb 60 r) (ltb 60 k) e in
-    let b = or-no (ltb r 3) (ltb 60 r) (a .0) in
-    (at-least r 3 (b .0), at-least 60 r (b .1), at-least 60 k (a .1))
+    let a = neither (ltb r 3 || ltb 60 r) (ltb 60 k) e in
+    let b = neither (ltb r 3) (ltb 60 r) (a .0) in
+    (ltb-false r 3 (b .0), ltb-false 60 r (b .1), ltb-false 60 k (a .1))
 
 -- 2
 pub points-in : (ring chain : List GridPoint) (size : ℕ) → unitsOut ring chain size ≡ false → AllOnSheet ring × AllOnSheet chain
 unfolding unitsOut
 points-in ring chain size e =
-    let a = or-no (anyOutside ring || anyOutside chain || eqb size 0) (ltb 2048 size) e in
-    let b = or-no (anyOutside ring || anyOutside chain) (eqb size 0) (a .0) in
-    let c = or-no (anyOutside ring) (anyOutside chain) (b .0) in
+    let a = neither (anyOutside ring || anyOutside chain || eqb size 0) (ltb 2048 size) e in
+    let b = neither (anyOutside ring || anyOutside chain) (eqb size 0) (a .0) in
+    let c = neither (anyOutside ring) (anyOutside chain) (b .0) in
     (points-on-sheet ring (c .0), points-on-sheet chain (c .1))
 
 -- 3: the counts fit their lists, of which the node list has no more places than may be, the used nodes are in range, and each node place has a rim mark
-pub counts-fit : (x : Lists) → listsOut x ≡ false → (x .nodeCount ≤ length (x .nodes)) × (x .cellCount ≤ length (x .cells)) × (length (x .nodes) ≤ mostPlaces) × EachNode InRange (usedIn x) × (length (x .nodes) ≤ length (x .rims))
+pub counts-fit : (x : Lists) → listsOut x ≡ false
+    → (x .nodeCount ≤ length (x .nodes)) × (x .cellCount ≤ length (x .cells)) × (length (x .nodes) ≤ mostPlaces) × EachNode InRange (usedIn x)
+    × (length (x .nodes) ≤ length (x .rims))
 unfolding listsOver rimsOut
 counts-fit x e =
     let ns = length (x .nodes) in
     let cs = length (x .cells) in
     let m = length (x .rims) in
-    let f = or-no (ltb ns (x .nodeCount) || ltb cs (x .cellCount) || ltb mostPlaces ns || not (usable (usedIn x))) (rimsOut x) e in
-    let g = or-no (ltb ns (x .nodeCount) || ltb cs (x .cellCount) || ltb mostPlaces ns) (not (usable (usedIn x))) (f .0) in
-    let w = or-no (ltb m ns) (any (λ i. ltb 1 (getD (x .rims) i 0)) (x .nodeCount)) (f .1) in
-    let h = or-no (ltb ns (x .nodeCount) || ltb cs (x .cellCount)) (ltb mostPlaces ns) (g .0) in
-    let i = or-no (ltb ns (x .nodeCount)) (ltb cs (x .cellCount)) (h .0) in
-    (at-least ns (x .nodeCount) (i .0), at-least cs (x .cellCount) (i .1), at-least mostPlaces ns (h .1), usable-in-range (usedIn x) (not-false (usable (usedIn x)) (g .1)), at-least m ns (w .0))
+    let f = neither (ltb ns (x .nodeCount) || ltb cs (x .cellCount) || ltb mostPlaces ns || not (usable (usedIn x))) (rimsOut x) e in
+    let g = neither (ltb ns (x .nodeCount) || ltb cs (x .cellCount) || ltb mostPlaces ns) (not (usable (usedIn x))) (f .0) in
+    let w = neither (ltb m ns) (any (λ i. ltb 1 (getD (x .rims) i 0)) (x .nodeCount)) (f .1) in
+    let h = neither (ltb ns (x .nodeCount) || ltb cs (x .cellCount)) (ltb mostPlaces ns) (g .0) in
+    let i = neither (ltb ns (x .nodeCount)) (ltb cs (x .cellCount)) (h .0) in (
+      ltb-false ns (x .nodeCount) (i .0),
+      ltb-false cs (x .cellCount) (i .1),
+      ltb-false mostPlaces ns (h .1),
+      usable-in-range (usedIn x) (not-false (usable (usedIn x)) (g .1)),
+      ltb-false m ns (w .0),
+    )
 
 -- 3 and 4, of a ring of r points
-pub ready : (L : Limits) (r : ℕ) (x : Lists) → listsOut x ≡ false → roomOut L r (length (x .nodes) - x .nodeCount) (length (x .cells) - x .cellCount) ≡ false → Ready L r x
+pub ready : (L : Limits) (r : ℕ) (x : Lists) → listsOut x ≡ false → roomOut L r (length (x .nodes) - x .nodeCount) (length (x .cells) - x .cellCount) ≡ false
+    → Ready L r x
 unfolding roomOut
 ready L r x e f =
     let h = counts-fit x e in
     let n = length (x .nodes) - x .nodeCount in
     let k = length (x .cells) - x .cellCount in
-    let j = or-no (ltb n (nodeReserve L r)) (ltb k (cellReserve L r)) f in
-    record { listed = h .0; stored = h .1; places = h .2; used = h .3; rimmed = h .4; nodes-free = at-least n (nodeReserve L r) (j .0); cells-free = at-least k (cellReserve L r) (j .1) }
+    let j = neither (ltb n (nodeReserve L r)) (ltb k (cellReserve L r)) f in
+    record {
+      listed = h .0;
+      stored = h .1;
+      places = h .2;
+      used = h .3;
+      rimmed = h .4;
+      nodes-free = ltb-false n (nodeReserve L r) (j .0);
+      cells-free = ltb-false k (cellReserve L r) (j .1);
+    }
 
 -- ---- all of them
 pub record Passed (L : Limits) (c : Call) : Type 0 where

@@ -1,5 +1,5 @@
--- 02, Card 7: "The set on delivery gives every old answer." The calls as they were before a set could be handed over: 32 cuts and the limits of 01 throughout, and the refusals
--- tested one after the other, with no test of a set.
+-- 02, Card 7: "The set on delivery gives every old answer." The calls as they were before a set could be handed over: 32 cuts and the limits of 01
+-- throughout, and the refusals tested one after the other, with no test of a set.
 use Prim.Native.Nat.{_-_}
 use mathlib.Core.Bool.{_||_}
 use mathlib.Core.List.{List, [], _∷_}

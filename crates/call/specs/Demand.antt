@@ -37,7 +37,8 @@ pub record Ready (L : Limits) (r : ℕ) (x : Lists) : Type 0 where
   pub nodes-free : nodeReserve L r ≤ length (x .nodes) - x .nodeCount
   pub cells-free : cellReserve L r ≤ length (x .cells) - x .cellCount
 
--- p is what cleaning left of a ring of r points, at most 60, on the sheet; each of its edges has a mark, whatever that came from, and each snap point is in range
+-- p is what cleaning left of a ring of r points, at most 60, on the sheet; each of its edges has a mark, whatever that came from, and each snap point is in
+-- range
 pub record Prepared (L : Limits) (r : ℕ) (p : Part) (x : Lists) : Type 0 where
   pub few : r ≤ 60
   pub fewer : length (p .points) ≤ r
@@ -94,7 +95,8 @@ pub record AcceptedCall (L : Limits) (p : Part) (x : Lists) (a : CallAnswer) : T
   pub nodes-added : a .row .nodes ≤ x .nodeCount + (2 * a .row .corners + a .row .marked + 2 * a .row .cuts + 1)
   pub nodes-fit : a .row .nodes ≤ length (x .nodes)
   pub old-nodes : (i : ℕ) → i < x .nodeCount → (i < a .row .nodes) × (nodeAt (a .nodes) i ≡ nodeAt (x .nodes) i)
-  -- 02, Card 12: the marks are those that its pieces leave by what they asked for. "The promise on old nodes covers their coordinates bit for bit, and a set mark stays set"
+  -- 02, Card 12: the marks are those that its pieces leave by what they asked for. "The promise on old nodes covers their coordinates bit for bit, and a set
+  -- mark stays set"
   pub rims : a .rims ≡ rimsLeft L p x (a .row .nodes)
   pub old-rims : (i : ℕ) → i < x .nodeCount → getD (x .rims) i 0 ≡ 1 → getD (a .rims) i 0 ≡ 1
   -- "no listed node is NaN": each is finite and within 1,024 mm either way

@@ -1,10 +1,10 @@
--- 01, What is returned: the whole call, accepted or refused, with every value of the table and every place of the lists. An entry tests, prepares a ring with its marks,
--- and hands it to the core, which is one for all of them.
-use Prim.Native.Nat.{ℕ, _+_}
+-- 01, What is returned: the whole call, accepted or refused, with every value of the table and every place of the lists. An entry tests, prepares a ring with
+-- its marks, and hands it to the core, which is one for all of them.
+use Prim.Native.Nat.{ℕ, _+_, _≤_}
 use mathlib.Core.Bool.{Bool, not, cond}
 use mathlib.Core.List.{List, [], _∷_, _++_}
 use lib.ListN.{length, take, drop, replicate}
-use lib.Dec.{ltb, eqb}
+use lib.Dec.{T, ltb, eqb}
 use lib.IntN.{pos, natAbs}
 use lib.Signed.{ltZ}
 use Rattle.vector.specs.declared.GridPoint.{GridPoint}
@@ -60,6 +60,18 @@ noArea ps = not (ltZ (pos 0) (polygonArea ps))
 abbrev pub ringTests : List GridPoint → List Refusal
 ringTests ps = 5 when underThree ps ∷ 6 when notSimple ps ∷ 7 when noArea ps ∷ []
 
+-- a cleaned ring that none of them refuses
+pub record Whole (ps : List GridPoint) : Type 0 where
+  pub three : 3 ≤ length ps
+  pub simple : T (polygonSimple ps)
+  pub wide : T (ltZ (pos 0) (polygonArea ps))
+
+-- what the pieces of a ring come to, over the nodes that are listed
+abbrev pub outcomeOf : Limits → Part → Lists → Outcome
+outcomeOf L p x =
+    let ps = splitBadVertices L p .pieces in
+    piecesTo (L .share) ps (usedIn x) (length ps)
+
 -- 02, Card 12: what its pieces ask for, laid out over the nodes ns, all of them or up to one that fails
 abbrev pub asked : Limits → Part → List Point → List Ask
 asked L p ns =
@@ -75,7 +87,9 @@ rimsLeft L p x v = rimsBy (x .nodeCount) v (asked L p (usedIn x)) (x .rims)
 unfoldable pub answered : Limits → ℕ → Part → Lists → Stack → Outcome → CallAnswer
 answered L r p x s (done ns cs) =
     record {
-      row = dividedRow (length (p .points)) (markCount (p .edges)) (s .cuts) (length (s .pieces)) (s .turned) (natAbs (polygonArea (p .points))) (length ns) (x .cellCount + length cs);
+      row =
+          dividedRow (length (p .points)) (markCount (p .edges)) (s .cuts) (length (s .pieces)) (s .turned) (natAbs (polygonArea (p .points))) (length ns)
+          (x .cellCount + length cs);
       nodes = put (x .nodes) 0 ns;
       rims = rimsLeft L p x (length ns);
       cells = put (x .cells) (x .cellCount) cs;

@@ -1,5 +1,6 @@
--- 01, Units and What must be recast: a call over the lists that a caller lends. A ring and a chain are numbers, x and y in turn, and so are the nodes; a cell is four numbers,
--- or a record of four; a rim mark is a byte. An odd length of a ring or a chain is a count out of limits, 1. What is left over at the end of a node or cell list is no place, and stays as found.
+-- 01, Units and What must be recast: a call over the lists that a caller lends. A ring and a chain are numbers, x and y in turn, and so are the nodes; a cell
+-- is four numbers, or a record of four; a rim mark is a byte. An odd length of a ring or a chain is a count out of limits, 1. What is left over at the end of
+-- a node or cell list is no place, and stays as found.
 use Prim.Native.Nat.{ℕ, _+_, _*_, _/_, _%_}
 use mathlib.Core.Bool.{Bool, _||_, not}
 use mathlib.Core.List.{List, _∷_}
@@ -44,6 +45,11 @@ pub record LentOf (A : Type 0) : Type 0 where
   pub rims : List ℕ
   pub cells : List A
   pub cellCount : ℕ
+
+-- the same of its parts, in the order in which every entry takes them
+abbrev pub lent : {A : Type 0} → List ℤ → List ℤ → ℕ → List Float → ℕ → List ℕ → List A → ℕ → LentOf A
+lent ring chain size nodes nodeCount rims cells cellCount =
+    record { ring = ring; chain = chain; size = size; nodes = nodes; nodeCount = nodeCount; rims = rims; cells = cells; cellCount = cellCount }
 
 -- the call that the lists stand for, `read` giving the cells
 abbrev pub callBy : {A : Type 0} → (List A → List Cell) → LentOf A → Call

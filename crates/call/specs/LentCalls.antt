@@ -1,6 +1,6 @@
--- Demand 3, of lists of calls: "For every list of divider calls from an empty node list, refused calls included, where each gets the nodes and node count that the one before left:
--- at the end every node that was listed after any of the calls still has its number and every bit, and no two listed nodes share a key."
--- The calls are those of all entries, in any mixture, over one lent list of doubles, x and y in turn.
+-- Demand 3, of lists of calls: "For every list of divider calls from an empty node list, refused calls included, where each gets the nodes and node count
+-- that the one before left: at the end every node that was listed after any of the calls still has its number and every bit, and no two listed nodes share a
+-- key." The calls are those of all entries, in any mixture, over one lent list of doubles, x and y in turn.
 use Prim.Native.Nat.{ℕ, suc, _+_, _*_, _≤_, _<_}
 use mathlib.Core.Path.{_≡_}
 use mathlib.Core.Bool.{Bool, false, _||_, cond}
@@ -147,11 +147,13 @@ pub record LentCalls (l : List Float) (rs : List ℕ) (gs : List LentCall) : Typ
   -- each call adds at most 2n + c + 2s + 1 nodes
   pub adds : (i : ℕ) (g : LentCall) → i < length gs
       → run (empty l rs) (take (suc i) gs) .count ≤ run (empty l rs) (take i gs) .count + allowance (limitsOf (getD gs i g)) (startIn (getD gs i g))
-  -- 02, Card 12: "it is set (1) exactly if the node was ever a corner or the middle of a ring edge, clear (0) if only a centre or the middle of a cut": by what the calls asked for
+  -- 02, Card 12: "it is set (1) exactly if the node was ever a corner or the middle of a ring edge, clear (0) if only a centre or the middle of a cut": by
+  -- what the calls asked for
   pub told : (k : ℕ) → k < run (empty l rs) gs .count → Told (asksOver (empty l rs) gs) k (getD (run (empty l rs) gs .rims) k 0)
   pub asked-for : (k : ℕ) → k < run (empty l rs) gs .count → AskedFor (asksOver (empty l rs) gs) k
   -- "a set mark stays set": one that was set after the first i calls
-  pub set-stays : (i k : ℕ) → k < run (empty l rs) (take i gs) .count → getD (run (empty l rs) (take i gs) .rims) k 0 ≡ 1 → getD (run (empty l rs) gs .rims) k 0 ≡ 1
+  pub set-stays : (i k : ℕ) → k < run (empty l rs) (take i gs) .count → getD (run (empty l rs) (take i gs) .rims) k 0 ≡ 1
+      → getD (run (empty l rs) gs .rims) k 0 ≡ 1
   -- "A refusal before 8 changes no mark": nor does one with a higher number
   pub refused-keeps : (i : ℕ) (g : LentCall) → i < length gs → laidOut (answerOf (run (empty l rs) (take i gs)) (getD gs i g) .row .code) ≡ false
       → run (empty l rs) (take (suc i) gs) .rims ≡ run (empty l rs) (take i gs) .rims

@@ -1,5 +1,5 @@
--- Card 5, Snap to the lead line: "A new entry takes edge marks directly: straight, snapped to a given point, or snapped to the nearest point of an outline with holes." What a caller
--- lends for it, the ring with its marks, tests 13 and 14, and the whole call, over the core of all entries.
+-- Card 5, Snap to the lead line: "A new entry takes edge marks directly: straight, snapped to a given point, or snapped to the nearest point of an outline
+-- with holes." What a caller lends for it, the ring with its marks, tests 13 and 14, and the whole call, over the core of all entries.
 use Prim.Native.Nat.{ℕ, suc, _*_, _-_, _/_}
 use mathlib.Core.Bool.{Bool, false, _&&_, _||_, not, cond}
 use mathlib.Core.List.{List, []}
@@ -28,8 +28,8 @@ use Rattle.call.specs.Call.{Lists, held, anyOutside, countsOut, unitsOut
 use Rattle.call.specs.Divide.{CallAnswer, refusedOr, core}
 use Rattle.call.specs.Lent.{pointsIn, allCells, odd}
 
--- the marks as they are lent: mark i has kind i, 0 straight, 1 snapped to point i of the snaps, in mm, 2 snapped to the outline; the points of all loops of the outline one
--- after the other, the rim first, and how many points each loop has
+-- the marks as they are lent: mark i has kind i, 0 straight, 1 snapped to point i of the snaps, in mm, 2 snapped to the outline; the points of all loops of
+-- the outline one after the other, the rim first, and how many points each loop has
 pub record Marking : Type 0 where
   pub kinds : List ℕ
   pub snaps : List Float
@@ -68,8 +68,8 @@ markOut kind p = ltb 2 kind || eqb kind 1 && not (held (p .x) && held (p .y))
 unfoldable pub marksOut : List ℕ → List Float → ℕ → Bool
 marksOut kinds snaps n = not (eqb (length kinds) n) || not (eqb (length snaps) (n * 2)) || any (λ i. markOut (getD kinds i 0) (nodeIn snaps i)) n
 
--- ---- 14, "if an outline is called for and is empty, over 60 points, has a loop (rim or hole) of under 3 points or has a coordinate out of limits". An odd number of
--- coordinates is no outline, nor are loops that do not add up to its points
+-- ---- 14, "if an outline is called for and is empty, over 60 points, has a loop (rim or hole) of under 3 points or has a coordinate out of limits". An odd
+-- number of coordinates is no outline, nor are loops that do not add up to its points
 unfoldable pub calledFor : List ℕ → Bool
 calledFor kinds = any (λ i. eqb (getD kinds i 0) 2) (length kinds)
 
@@ -93,7 +93,14 @@ pub record LentMarked : Type 0 where
   pub cellCount : ℕ
 
 abbrev pub markedLists : LentMarked → Lists
-markedLists l = record { nodes = nodesIn (l .nodes) (length (l .nodes) / 2); nodeCount = l .nodeCount; rims = l .rims; cells = allCells (l .cells); cellCount = l .cellCount }
+markedLists l =
+    record {
+      nodes = nodesIn (l .nodes) (length (l .nodes) / 2);
+      nodeCount = l .nodeCount;
+      rims = l .rims;
+      cells = allCells (l .cells);
+      cellCount = l .cellCount;
+    }
 
 -- the ring that the core gets
 abbrev pub markedStart : LentMarked → Part

@@ -1,5 +1,5 @@
--- A call that has the same ring, chain, size, nodes and rim marks over another cell list, none of whose places is used: it answers the same row but for the count of
--- cells, leaves the same nodes and rim marks, and has the same new cells (`moved`), which are in its numbers.
+-- A call that has the same ring, chain, size, nodes and rim marks over another cell list, none of whose places is used: it answers the same row but for the
+-- count of cells, leaves the same nodes and rim marks, and has the same new cells (`moved`), which are in its numbers.
 use Prim.Native.Nat.{ℕ, _+_, _≤_, _<_}
 use native.Mathlib.Nat.{add-zero, zero-add}
 use native.Mathlib.Omega.{arith}
@@ -87,7 +87,12 @@ module _ (L : Limits) (r : ℕ) (p : Part) (x : Lists) (xs : List Cell) where
           within = λ k. omega (arith, h .0, room);
           count = zero-add (length cs);
           most = omega (arith, zero-add (length cs));
-          values = ap (λ (n : ℕ). dividedRow (length (p .points)) (markCount (p .edges)) (stack .cuts) (length (stack .pieces)) (stack .turned) (natAbs (polygonArea (p .points))) (length ns) (x .cellCount + n)) (sym (zero-add (length cs)));
+          values =
+              ap
+              (λ (n : ℕ).
+              dividedRow (length (p .points)) (markCount (p .edges)) (stack .cuts) (length (stack .pieces)) (stack .turned) (natAbs (polygonArea (p .points)))
+              (length ns) (x .cellCount + n))
+              (sym (zero-add (length cs)));
           nodes = refl;
           rims = refl;
           cells = refl;
@@ -108,11 +113,14 @@ module _ (L : Limits) (r : ℕ) (p : Part) (x : Lists) (xs : List Cell) where
         }
 
   -- of any entry: its tests, and the core for the ring that it prepares where none of them holds
-  pub moved : L .cuts ≤ 32 → (rs : List Refusal) → T (numbered rs) → (Passes rs → Prepared L r p x) → Moved (refusedOr x rs (core L r p x)) (refusedOr other rs (core L r p other))
+  pub moved : L .cuts ≤ 32 → (rs : List Refusal) → T (numbered rs) → (Passes rs → Prepared L r p x)
+      → Moved (refusedOr x rs (core L r p x)) (refusedOr other rs (core L r p other))
   unfolding core
   moved few rs n h =
       by-tests-both x other rs (core L r p x) (core L r p other) Moved n (refused-moved (firstOf rs))
-      (λ o. by-tests-both x other (ringTests (p .points)) (answered L r p x (splitBadVertices L p) (outcomeOf L p x)) (answered L r p other (splitBadVertices L p) (outcomeOf L p x)) Moved tt (refused-moved (firstOf (ringTests (p .points))))
+      (λ o. by-tests-both x other (ringTests (p .points)) (answered L r p x (splitBadVertices L p) (outcomeOf L p x))
+      (answered L r p other (splitBadVertices L p) (outcomeOf L p x)) Moved tt (refused-moved (firstOf (ringTests (p .points))))
       (λ w.
       let s : Divisible L r p x = record { prepared = h o; whole = whole (p .points) w } in
-      answered-moved few s (cornersTo (piecesOf L p) (length (piecesOf L p))) (corners-fit L r p x s) (outcomeOf L p x) (pieces-cells (L .share) (piecesOf L p) (usedIn x) (length (piecesOf L p)))))
+      answered-moved few s (cornersTo (piecesOf L p) (length (piecesOf L p))) (corners-fit L r p x s) (outcomeOf L p x)
+      (pieces-cells (L .share) (piecesOf L p) (usedIn x) (length (piecesOf L p)))))

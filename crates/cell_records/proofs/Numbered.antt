@@ -1,26 +1,24 @@
 -- The call with its cells as numbers of its own, none of them used before: what it comes to is what the call over the list of records does.
-use Prim.Native.Nat.{ℕ, _+_, _*_, _/_, _^_, _≤_, _<_}
+use Prim.Native.Nat.{ℕ, _+_, _/_, _^_, _≤_, _<_}
 use native.Mathlib.Omega.{arith}
 use native.Mathlib.Decide.{decLt}
-use mathlib.Core.Path.{_≡_, refl, sym, ap, _∙_, subst}
+use mathlib.Core.Path.{_≡_, sym, ap, _∙_, subst}
 use mathlib.Core.List.{List}
 use lib.ListN.{length}
-use lib.Dec.{T}
 use lib.Ieee.{Float}
 use Rattle.laws.proofs.Table.{length-tab}
 use Rattle.corner.specs.declared.Limits.{Limits}
 use Rattle.nodes.specs.Flat.{over}
-use Rattle.quads.specs.declared.Cell.{Cell}
 use Rattle.quads.specs.Flat.{overCells}
 use Rattle.table.specs.declared.Row.{Row}
 use Rattle.table.specs.Answers.{withCells}
-use Rattle.table.specs.Refusals.{Passes, firstOf}
+use Rattle.table.specs.Refusals.{firstOf}
 use Rattle.table.proofs.Refusals.{not-8}
 use Rattle.call.specs.Call.{Lists, Call, listsOf, cellReserve}
-use Rattle.call.specs.Divide.{CallAnswer, put, core, startOf}
-use Rattle.call.specs.Lent.{pointIn, cellIn, cellsIn, allCells, LentRecords, callOfRecords, testsBy, divideBy, divideRecords}
+use Rattle.call.specs.Divide.{put, core, startOf}
+use Rattle.call.specs.Lent.{pointIn, cellsIn, allCells, LentRecords, callOfRecords, testsBy, divideBy, divideRecords}
 use Rattle.call.proofs.Course.{by-tests, refused-code, prepared-if}
-use Rattle.call.proofs.Tests.{Passed, passed}
+use Rattle.call.proofs.Tests.{passed}
 use Rattle.divider.specs.declared.CellRoom.{CellRoom}
 use Rattle.divider.specs.Promise.{Leaves}
 use Rattle.divider.specs.Steps.{listsIn, divideInto, HasRoom}
@@ -57,7 +55,8 @@ module _ (L : Limits) (few : L .cuts ≤ 32) (q : List ℕ) (long : length q ≡
     -- only a ring that passed its tests can fail
     counts : divideInto L l q 0 .row .code ≡ 8 → (3 ≤ length (c .ring)) × (length (c .ring) ≤ 60)
     counts =
-        by-tests y (testsBy (λ cs. cs) L l) (core L (length (c .ring)) (startOf c) y) (λ a. a .row .code ≡ 8 → (3 ≤ length (c .ring)) × (length (c .ring) ≤ 60)) tt
+        by-tests y (testsBy (λ cs. cs) L l) (core L (length (c .ring)) (startOf c) y)
+        (λ a. a .row .code ≡ 8 → (3 ≤ length (c .ring)) × (length (c .ring) ≤ 60)) tt
         (λ t e. absurd (not-8 (firstOf (testsBy (λ cs. cs) L l)) t (sym (refused-code y (firstOf (testsBy (λ cs. cs) L l))) ∙ e)))
         (λ h e. let p = passed L c (h .1) in (p .from, p .to))
 

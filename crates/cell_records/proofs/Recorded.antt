@@ -1,5 +1,5 @@
--- Cells written one after the other are cells put over the list (`written-is`); and the promise of a call from the numbers of its cells. As a call of a list of calls it
--- leaves what call's specs/LentCalls says (`as-called`).
+-- Cells written one after the other are cells put over the list (`written-is`); and the promise of a call from the numbers of its cells. As a call of a list
+-- of calls it leaves what call's specs/LentCalls says (`as-called`).
 use Prim.Native.Nat.{ℕ, zero, suc, _+_, _*_, _≤_, _<_}
 use native.Mathlib.Nat.{add-zero, not-suc-le-zero}
 use native.Mathlib.Omega.{arith}
@@ -53,10 +53,12 @@ cell-at (c ∷ cs) r (suc i) h =
 
 pub cells-read : (q : List ℕ) (cs : List Cell) → cellsIn (overCells q cs) (length cs) ≡ cs
 unfolding overCells
-cells-read q cs = sym (is-tab cs (cellIn (flatCells cs ++ drop (length cs * 4) q)) (length cs) noCell refl (λ i h. sym (cell-at cs (drop (length cs * 4) q) i h)))
+cells-read q cs =
+    sym (is-tab cs (cellIn (flatCells cs ++ drop (length cs * 4) q)) (length cs) noCell refl (λ i h. sym (cell-at cs (drop (length cs * 4) q) i h)))
 
 -- ---- the promise
-pub promised : (L : Limits) (l : LentRecords) (r : Laid) (us : List Cell) (zs : List Float) (ts : List ℕ) → Numbers L l r zs ts → (0 < r .count → r .at + r .count ≤ length (l .cells)) → us ≡ written (l .cells) (r .at) (r .numbers) (r .count)
+pub promised : (L : Limits) (l : LentRecords) (r : Laid) (us : List Cell) (zs : List Float) (ts : List ℕ) → Numbers L l r zs ts
+    → (0 < r .count → r .at + r .count ≤ length (l .cells)) → us ≡ written (l .cells) (r .at) (r .numbers) (r .count)
     → RecordsPromise L l (r .values) zs ts us
 promised L l r us zs ts n h e =
     record {
@@ -68,5 +70,6 @@ promised L l r us zs ts n h e =
     }
 
 -- the node list and the rim marks that it leaves are those of a list of calls
-pub as-called : (s : Pool) (g : Given Cell) (v : Row) (m : List Float) (t : List ℕ) (p : List Cell) → RecordsPromise (g .limits) (lend s g) v m t p → _≡_ {A = Pool} (record { doubles = m; count = v .nodes; rims = t }) (leaves s (answerOf s (records g)))
+pub as-called : (s : Pool) (g : Given Cell) (v : Row) (m : List Float) (t : List ℕ) (p : List Cell) → RecordsPromise (g .limits) (lend s g) v m t p
+    → _≡_ {A = Pool} (record { doubles = m; count = v .nodes; rims = t }) (leaves s (answerOf s (records g)))
 as-called s g v m t p h = λ j. record { doubles = h .nodes j; count = h .values j .nodes; rims = h .rims j }

@@ -11,7 +11,7 @@ ghost use Rattle.corner.specs.Limits.{delivered};
 ghost use Rattle.quads.specs.declared.Cell.{Cell};
 ghost use Rattle.table.specs.Answers as Answers;
 ghost use Rattle.call.specs.Call.{cellReserve};
-ghost use Rattle.call.specs.Lent.{cellIn};
+ghost use Rattle.call.specs.Lent.{lent, cellIn};
 ghost use Rattle.cell_records.specs.Records.{Numbers, RecordsPromise, written, laidOf};
 use corner::Limits;
 use divider::CellRoom;
@@ -87,7 +87,8 @@ fn flat_divide(
     cell_count: usize,
 ) -> Laid
     ensures { λ r. ⌜ ((cells : List Cell) → length cells ≡ «cell_places»
-        → Numbers delivered (record { ring = now (ring .entry); chain = now (chain .entry); size = size; nodes = now (nodes .entry); nodeCount = «node_count»; rims = now (rims .entry); cells = cells; cellCount = «cell_count» }) r (now (nodes .exit)) (now (rims .exit)))
+        → Numbers delivered (lent (now (ring .entry)) (now (chain .entry)) size (now (nodes .entry)) «node_count» (now (rims .entry)) cells «cell_count»)
+        r (now (nodes .exit)) (now (rims .exit)))
         × (r .count ≤ 124) × (0 < r .count → r .at + r .count ≤ «cell_places») ⌝ }
 {
     let limits = Limits::on_delivery();
@@ -123,8 +124,8 @@ pub extern "C" fn ring_divide_cells<'a, 'b, 'c, 'd, 'e>(
     cells: &'e mut [Cell],
     cell_count: usize,
 ) -> Row
-    ensures { λ v. ⌜ RecordsPromise delivered (record { ring = now (ring .entry); chain = now (chain .entry); size = size; nodes = now (nodes .entry); nodeCount = «node_count»; rims = now (rims .entry); cells = now (cells .entry); cellCount = «cell_count» })
-        v (now (nodes .exit)) (now (rims .exit)) (now (cells .exit)) ⌝ }
+    ensures { λ v. ⌜ RecordsPromise delivered (lent (now (ring .entry)) (now (chain .entry)) size (now (nodes .entry)) «node_count» (now (rims .entry))
+        (now (cells .entry)) «cell_count») v (now (nodes .exit)) (now (rims .exit)) (now (cells .exit)) ⌝ }
 {
     let laid = flat_divide(
         ring,

@@ -56,7 +56,7 @@ has-snap (Straight ∷ es) (suc j) q e = has-snap es j q e
 has-snap (Snap p ∷ es) (suc j) q e = has-right (p ∷ []) (snaps es) q (has-snap es j q e)
 
 -- ---- the straight middle of an edge, from its ends as they are listed in ms
-abbrev middleIn : List Point → GridPoint → GridPoint → Point
+abbrev pub middleIn : List Point → GridPoint → GridPoint → Point
 middleIn ms a b = middle (nodeFor ms (inMm a)) (nodeFor ms (inMm b))
 
 middle-ends : (ms : List Point) (a b c d : GridPoint) → Ends a b c d → middleIn ms a b ≡ middleIn ms c d

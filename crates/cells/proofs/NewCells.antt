@@ -21,6 +21,7 @@ use Rattle.nodes.specs.Growth.{Grown, Anything}
 use Rattle.nodes.proofs.Growth.{addNodes-grown, addNodes-length, addNodes-number}
 use Rattle.quads.specs.declared.Cell.{Cell}
 use Rattle.quads.specs.Quads.{edgeMiddle, mean, cellsTo}
+use Rattle.quads.proofs.CellList.{cells-length}
 use Rattle.cells.specs.Cells.{Attempt, attempt, subdivide}
 use Rattle.cells.specs.Pieces.{Outcome, done, failed, onward, piecesTo}
 use Rattle.cells.specs.Stages.{corners, end, middles, centre, markAt, straight, nodesOf}
@@ -36,11 +37,6 @@ listed-later m n h l a =
 module _ (m c : ℕ) (ms vs : List ℕ) where
   abbrev cell : ℕ → Cell
   cell k = record { a = c; b = getD ms k 0; c = getD vs (suc k % length vs) 0; d = getD ms (suc k % length ms) 0 }
-
-  cells-length : (k : ℕ) → length (cellsTo c ms vs k) ≡ k
-  unfolding cellsTo
-  cells-length zero = refl
-  cells-length (suc k) = omega (arith, length-append (cellsTo c ms vs k) (cell k ∷ []), cells-length k)
 
   cells-listed : (n k : ℕ) → c < m → ((i : ℕ) → i < n → getD ms i 0 < m) → ((i : ℕ) → i < n → getD vs i 0 < m) → length ms ≡ n → length vs ≡ n → k ≤ n → All (Listed m) (cellsTo c ms vs k)
   unfolding cellsTo
@@ -58,7 +54,7 @@ module _ (share : Float) where
   unfolding attempt
   attempt-cells ns ps e =
       record {
-        many = cells-length (length all) c (middles share ns ps e .numbers) (corners ns ps .numbers) (length ps);
+        many = cells-length c (middles share ns ps e .numbers) (corners ns ps .numbers) (length ps);
         listed =
             cells-listed (length all) c (middles share ns ps e .numbers) (corners ns ps .numbers) (length ps) (length ps)
             (addNodes-number (middles share ns ps e .nodes) (λ i. mean (end ns ps) (length ps)) 1 0 (omega arith) .low)

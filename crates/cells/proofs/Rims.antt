@@ -14,6 +14,7 @@ use lib.Dec.{T, eqb, ltb}
 use Rattle.laws.specs.All.{All}
 use Rattle.laws.specs.Bounded.{any}
 use Rattle.laws.specs.Table.{tab}
+use Rattle.laws.proofs.Booleans.{or-true}
 use Rattle.laws.proofs.Table.{length-tab, getD-tab}
 use Rattle.cells.specs.Asks.{Ask, onRim}
 use Rattle.cells.specs.Rims.{onRimAt, rimAt, rimsBy, AskedOnRim, Told, rim, inside}
@@ -26,10 +27,6 @@ or-assoc false b c = refl
 or-false : (a : Bool) → (a || false) ≡ a
 or-false true = refl
 or-false false = refl
-
-or-true : (a : Bool) → (a || true) ≡ true
-or-true true = refl
-or-true false = refl
 
 pub on-append : (a b : List Ask) (k : ℕ) → onRimAt (a ++ b) k ≡ (onRimAt a k || onRimAt b k)
 unfolding onRimAt

@@ -12,6 +12,7 @@ use lib.IntN.{ℤ, pos, negsuc, negℤ, natAbs, _+ℤ_, +ℤ-assoc, +ℤ-comm, +
 use lib.Signed.{nonNeg}
 use lib.Dec.{T}
 use Rattle.laws.specs.All.{All}
+use Rattle.laws.proofs.Integers.{+ℤ-left}
 use Rattle.laws.proofs.Lists.{all-snoc}
 use Rattle.vector.specs.declared.GridPoint.{GridPoint}
 use Rattle.vector.specs.Grid.{polygonArea}
@@ -27,9 +28,6 @@ use Rattle.parts.proofs.Rotation.{length-rotate}
 use Rattle.cuts.proofs.Parts.{keep}
 use Rattle.cuts.proofs.RingArea.{area-rotate, area-reverse, area-cut}
 
-+ℤ-left : (a b c : ℤ) → a +ℤ (b +ℤ c) ≡ b +ℤ (a +ℤ c)
-+ℤ-left a b c = sym (+ℤ-assoc a b c) ∙ ap (λ x. x +ℤ c) (+ℤ-comm a b) ∙ +ℤ-assoc b a c
-
 -- ---- what make_sub_polygon turns round gains twice its turned area, and is then not negative
 gains : (n : ℕ) → pos (suc n) ≡ negsuc n +ℤ pos (2 * suc n)
 gains n =
@@ -39,7 +37,8 @@ gains n =
     twice : (n : ℕ) → suc n + suc n ≡ 2 * suc n
     twice n = omega arith
 
-oriented-area : (r : List GridPoint) (es : List EdgeMark) (z : ℤ) → polygonArea r ≡ z → polygonArea (oriented (nonNeg z) r es .points) ≡ z +ℤ pos (2 * cond (nonNeg z) 0 (natAbs z))
+oriented-area : (r : List GridPoint) (es : List EdgeMark) (z : ℤ) → polygonArea r ≡ z
+    → polygonArea (oriented (nonNeg z) r es .points) ≡ z +ℤ pos (2 * cond (nonNeg z) 0 (natAbs z))
 unfolding oriented
 oriented-area r es (pos n) e = e ∙ sym (+ℤ-idr (pos n))
 oriented-area r es (negsuc n) e = area-reverse r ∙ ap negℤ e ∙ gains n
@@ -69,7 +68,8 @@ second-upright p v k = sub-upright (secondPoints (rotate v (p .points)) k) (drop
 regroup : (a b x y l o : ℤ) → ((b +ℤ y) +ℤ ((a +ℤ x) +ℤ l)) +ℤ o ≡ (((a +ℤ b) +ℤ l) +ℤ o) +ℤ (x +ℤ y)
 regroup a b x y l o = simp (+ℤ-assoc, +ℤ-comm, +ℤ-left)
 
-part-cut : (p : Part) (v k : ℕ) → 0 < k → k < length (p .points) → polygonArea (p .points) ≡ polygonArea (firstPoints (rotate v (p .points)) k) +ℤ polygonArea (secondPoints (rotate v (p .points)) k)
+part-cut : (p : Part) (v k : ℕ) → 0 < k → k < length (p .points)
+    → polygonArea (p .points) ≡ polygonArea (firstPoints (rotate v (p .points)) k) +ℤ polygonArea (secondPoints (rotate v (p .points)) k)
 part-cut p v k g h = sym (area-rotate v (p .points)) ∙ area-cut (rotate v (p .points)) k g (subst (λ n. k < n) (sym (length-rotate v (p .points))) h)
 
 gained : (m : ℤ) (t x y : ℕ) → (m +ℤ pos (2 * t)) +ℤ (pos (2 * x) +ℤ pos (2 * y)) ≡ m +ℤ pos (2 * (t + (x + y)))
@@ -134,7 +134,9 @@ pub weighed : (L : Limits) (ring : Part) → Sound ring → AreasBalance ring (s
 weighed L ring s =
     let i = weighing L ring s in
     record {
-      sum = sym (+ℤ-idl (areas (splitBadVertices L ring .pieces))) ∙ ap (λ l. areas l +ℤ areas (splitBadVertices L ring .pieces)) (sym (emptied L ring)) ∙ i .sum;
+      sum =
+          sym (+ℤ-idl (areas (splitBadVertices L ring .pieces))) ∙ ap (λ l. areas l +ℤ areas (splitBadVertices L ring .pieces)) (sym (emptied L ring))
+          ∙ i .sum;
       turned = i .turned;
       upright = i .gone;
     }

@@ -1,6 +1,7 @@
--- THEOREM `chosen`. For every set of limits, of a ring of 3 corners or more that is split: each cut of the log starts at the worst corner of its part, the last of equal ones; this corner is bad; and the cut ends where the best diagonal from it does.
--- THEOREM `excused`. If the ring's corners are on the sheet, so that no measure is a NaN: a piece has a bad corner only if the cuts are spent or no diagonal from its worst corner meets the rule.
--- (A ring on the sheet has one worst corner: `worst-only` of crate corner.)
+-- THEOREM `chosen`. For every set of limits, of a ring of 3 corners or more that is split: each cut of the log starts at the worst corner of its part, the
+-- last of equal ones; this corner is bad; and the cut ends where the best diagonal from it does.
+-- THEOREM `excused`. If the ring's corners are on the sheet, so that no measure is a NaN: a piece has a bad corner only if the cuts are spent or no diagonal
+-- from its worst corner meets the rule. (A ring on the sheet has one worst corner: `worst-only` of crate corner.)
 use Prim.Native.Nat.{ℕ, suc, _≤_, _<_}
 use native.Mathlib.Omega.{arith}
 use mathlib.Core.Path.{_≡_}
@@ -61,7 +62,9 @@ choosing L p s =
     record {
       most = i .most;
       cuts = i .cuts;
-      pieces = all-snoc (Reasoned L c) o p (i .pieces) (record { worst = worst-is (p .points) (omega (arith, s .three)); why = λ b. reason L p c (i .most) (g .why b) });
+      pieces =
+          all-snoc (Reasoned L c) o p (i .pieces)
+          (record { worst = worst-is (p .points) (omega (arith, s .three)); why = λ b. reason L p c (i .most) (g .why b) });
     })
     (λ p ps o c t l k f h i.
     record {
@@ -78,14 +81,17 @@ worst-bad L r v j w a h t = lt-not-lt-f (L .corner) (measureAt r j) (measureAt r
 
 excuses : (L : Limits) (c : ℕ) (ps : List Part) → All (Reasoned L c) ps → All (Cornered OnSheet) ps → All (WhyUncut L c) ps
 excuses L c [] d a = tt
-excuses L c (p ∷ ps) d a =
-    (record { v = worstOf p; worst = d .0 .worst; why = λ j h t. d .0 .why (worst-bad L (p .points) (worstOf p) j (d .0 .worst) (a .0) h t) }, excuses L c ps (d .1) (a .1))
+excuses L c (p ∷ ps) d a = (
+  record { v = worstOf p; worst = d .0 .worst; why = λ j h t. d .0 .why (worst-bad L (p .points) (worstOf p) j (d .0 .worst) (a .0) h t) },
+  excuses L c ps (d .1) (a .1),
+)
 
 -- ---- the theorems
 pub chosen : (L : Limits) (ring : Part) → Sound ring → All (CutAtWorst L) (splitBadVertices L ring .log)
 chosen L ring s = choosing L ring s .cuts
 
-pub excused : (L : Limits) (ring : Part) → Sound ring → All OnSheet (ring .points) → All (WhyUncut L (splitBadVertices L ring .cuts)) (splitBadVertices L ring .pieces)
+pub excused : (L : Limits) (ring : Part) → Sound ring → All OnSheet (ring .points)
+    → All (WhyUncut L (splitBadVertices L ring .cuts)) (splitBadVertices L ring .pieces)
 excused L ring s a =
     let t = splitBadVertices L ring in
     excuses L (t .cuts) (t .pieces) (choosing L ring s .pieces) (corners-hold L OnSheet ring s a .pieces)

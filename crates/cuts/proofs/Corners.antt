@@ -29,7 +29,8 @@ module _ (P : GridPoint → Type 0) where
   unfolding firstPart makeSubPolygon
   first-holds p v k h =
       let r = rotate v (p .points) in
-      oriented-holds (nonNeg (polygonArea (firstPoints r k))) (firstPoints r k) (take k (rotate v (p .edges))) (all-take P (suc k) r (all-rotate P v (p .points) h))
+      oriented-holds (nonNeg (polygonArea (firstPoints r k))) (firstPoints r k) (take k (rotate v (p .edges)))
+      (all-take P (suc k) r (all-rotate P v (p .points) h))
 
   second-holds : (p : Part) (v k : ℕ) → Cornered P p → Cornered P (secondPart p v k)
   unfolding secondPart makeSubPolygon

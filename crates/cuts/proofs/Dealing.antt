@@ -59,16 +59,20 @@ oriented-sides false a r z es h =
     (M.before SameSide alike-self (along a (r ++ (z ∷ [])) es) (each turned empty)))
 
 -- ---- a ring that is cut from a to z
-redeal : {n n′ f f′ w w′ : List Side} {d : Side} → Match SameSide n n′ → Match SameSide f f′ → Match SameSide w′ w → SidesShared n′ f′ w′ d → SidesShared n f w d
+redeal : {n n′ f f′ w w′ : List Side} {d : Side} → Match SameSide n n′ → Match SameSide f f′ → Match SameSide w′ w → SidesShared n′ f′ w′ d
+    → SidesShared n f w d
 redeal g h k e = record { one = e .one; two = e .two; first-has = chain g (e .first-has); second-has = chain h (e .second-has); both = chain (e .both) k }
 
 pub dealt-both : {n f w : List Side} {d : Side} → SidesShared n f w d → Match SameSide (f ++ n) (d ∷ d ∷ w)
 dealt-both {n} {f} {w} {d} e =
     chain (M.after SameSide alike-self n (e .second-has))
-    (chain (M.before SameSide alike-self (d ∷ e .two) (e .first-has)) (each same (chain (M.commute SameSide alike-self (e .two) (d ∷ e .one)) (each same (e .both)))))
+    (chain (M.before SameSide alike-self (d ∷ e .two) (e .first-has))
+    (each same (chain (M.commute SameSide alike-self (e .two) (d ∷ e .one)) (each same (e .both)))))
 
-two-parts : (w u : Bool) (a : GridPoint) (x : List GridPoint) (z : GridPoint) (y : List GridPoint) (es fs : List EdgeMark) → length es ≡ suc (length x) → length fs ≡ suc (length y)
-    → SidesShared (sides (oriented u (a ∷ (x ++ (z ∷ []))) es)) (sides (oriented w (z ∷ (y ++ (a ∷ []))) fs)) (around (a ∷ (x ++ (z ∷ y))) (es ++ fs)) (side a z Straight)
+two-parts : (w u : Bool) (a : GridPoint) (x : List GridPoint) (z : GridPoint) (y : List GridPoint) (es fs : List EdgeMark) → length es ≡ suc (length x)
+    → length fs ≡ suc (length y)
+    → SidesShared (sides (oriented u (a ∷ (x ++ (z ∷ []))) es)) (sides (oriented w (z ∷ (y ++ (a ∷ []))) fs)) (around (a ∷ (x ++ (z ∷ y))) (es ++ fs))
+    (side a z Straight)
 unfolding around
 two-parts w u a x z y es fs h k =
     let one = along a (x ++ (z ∷ [])) es in
@@ -76,13 +80,16 @@ two-parts w u a x z y es fs h k =
     record {
       one = one;
       two = two;
-      first-has = chain (oriented-sides u a x z es h) (chain (M.commute SameSide alike-self one (side z a Straight ∷ [])) (each turned (M.whole SameSide alike-self one)));
+      first-has =
+          chain (oriented-sides u a x z es h)
+          (chain (M.commute SameSide alike-self one (side z a Straight ∷ [])) (each turned (M.whole SameSide alike-self one)));
       second-has = chain (oriented-sides w z y a fs k) (M.commute SameSide alike-self two (side a z Straight ∷ []));
       both = equal (sym (ap (λ l. along a l (es ++ fs)) (append-assoc x (z ∷ y) (a ∷ [])) ∙ along-join a x z (y ++ (a ∷ [])) es fs h));
     }
 
 cut-sides : (w u : Bool) (r : List GridPoint) (es : List EdgeMark) (k : ℕ) → 0 < k → k < length r → length es ≡ length r
-    → SidesShared (sides (oriented u (firstPoints r k) (take k es))) (sides (oriented w (secondPoints r k) (drop k es))) (around r es) (side (getD r 0 origin) (getD r k origin) Straight)
+    → SidesShared (sides (oriented u (firstPoints r k) (take k es))) (sides (oriented w (secondPoints r k) (drop k es))) (around r es)
+    (side (getD r 0 origin) (getD r k origin) Straight)
 cut-sides w u [] es k g h e = absurd (omega (arith, h))
 cut-sides w u (a ∷ r) es zero g h e = absurd (omega (arith, g))
 cut-sides w u (a ∷ r) es (suc j) g h e =
@@ -97,7 +104,8 @@ cut-sides w u (a ∷ r) es (suc j) g h e =
     (omega (arith, length-take (suc j) es, length-take j r, e)) (omega (arith, length-drop (suc j) es, length-drop (suc j) r, e)))
 
 -- ---- the law, of a cut from the corner v of p to the place k after v
-pub deals : (p : Part) (v k : ℕ) → v < length (p .points) → 0 < k → k < length (p .points) → length (p .edges) ≡ length (p .points) → Deals (record { part = p; v = v; k = k })
+pub deals : (p : Part) (v k : ℕ) → v < length (p .points) → 0 < k → k < length (p .points) → length (p .edges) ≡ length (p .points)
+    → Deals (record { part = p; v = v; k = k })
 unfolding secondPart firstPart makeSubPolygon diagonal
 deals p v k b g h e =
     let r = rotate v (p .points) in
@@ -105,7 +113,8 @@ deals p v k b g h e =
     subst (λ d. SidesShared (sides (firstPart p v k)) (sides (secondPart p v k)) (sides p) d)
     (ap (λ a. side a (getD r k origin) Straight) (rotate-at v (p .points) 0 b (omega arith) ∙ ap (at (p .points)) (none-more v))
     ∙ ap (λ z. side (at (p .points) v) z Straight) (rotate-at v (p .points) k b h))
-    (redeal (M.whole SameSide alike-self (sides (firstPart p v k))) (M.whole SameSide alike-self (sides (secondPart p v k))) (sides-rotate v (p .points) (p .edges) e)
+    (redeal (M.whole SameSide alike-self (sides (firstPart p v k))) (M.whole SameSide alike-self (sides (secondPart p v k)))
+    (sides-rotate v (p .points) (p .edges) e)
     (cut-sides (nonNeg (polygonArea (secondPoints r k))) (nonNeg (polygonArea (firstPoints r k))) r es k g
     (subst (λ n. k < n) (sym (length-rotate v (p .points))) h) (length-rotate v (p .edges) ∙ e ∙ sym (length-rotate v (p .points)))))
   where

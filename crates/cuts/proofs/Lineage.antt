@@ -1,4 +1,5 @@
--- The diagonal of a cut through all later cuts: at any time, of the parts that stand and the pieces, two have it as a side, in two places: one that comes of either part beside it.
+-- The diagonal of a cut through all later cuts: at any time, of the parts that stand and the pieces, two have it as a side, in two places: one that comes of
+-- either part beside it.
 use Prim.Native.Nat.{ℕ, zero, suc, _≤_, _<_}
 use native.Mathlib.Decide.{decLt}
 use native.Mathlib.Omega.{arith}
@@ -13,7 +14,8 @@ use Rattle.marks.specs.Part.{Part, noPart}
 use Rattle.corner.specs.declared.Limits.{Limits}
 use Rattle.split.specs.Split.{Cut, Stack, splitBadVertices}
 use Rattle.cuts.specs.Counts.{Sound}
-use Rattle.cuts.specs.Provenance.{firstPartOf, secondPartOf, Side, sides, diagonal, SameSide, SidesShared, Deals, Among, Under, itself, by-first, by-second, Carries, Beside}
+use Rattle.cuts.specs.Provenance.{firstPartOf, secondPartOf, Side, sides, diagonal, SameSide, SidesShared, Deals, Among, Under, itself}
+use Rattle.cuts.specs.Provenance.{by-first, by-second, Carries, Beside}
 use Rattle.cuts.proofs.Machine.{cut}
 use Rattle.cuts.proofs.Parts.{keep}
 use Rattle.cuts.proofs.Match.{all-match, match-back, alike-back, among-alike, among-match}
@@ -48,7 +50,8 @@ shared a b w d e s k =
     (k .like) (k .source))
 
 -- ---- the same part in another place
-placed : (l : List Cut) (qs rs : List Part) (d : Side) (p : Part) (i j : ℕ) → j < length rs → getD qs i noPart ≡ getD rs j noPart → Carries l qs d p i → Carries l rs d p j
+placed : (l : List Cut) (qs rs : List Part) (d : Side) (p : Part) (i j : ℕ) → j < length rs → getD qs i noPart ≡ getD rs j noPart → Carries l qs d p i
+    → Carries l rs d p j
 placed l qs rs d p i j h e k = record { low = h; under = subst (Under l p) e (k .under); has = subst (λ (q : Part). Among (sides q) d) e (k .has) }
 
 -- ---- the part p goes out, from the first place to the last
@@ -108,7 +111,8 @@ child l c w d r u (inr k) =
       carries = record { low = omega arith; under = by-second c (List·Memᴰ·head refl) (under-more c l r (c .part) u) refl; has = k };
     }
 
-passed-on : (l : List Cut) (c : Cut) (w : List Part) → Deals c → (d : Side) (r : Part) (i : ℕ) → Carries l (c .part ∷ w) d r i → Passed (c ∷ l) (secondPartOf c ∷ firstPartOf c ∷ w) d r i
+passed-on : (l : List Cut) (c : Cut) (w : List Part) → Deals c → (d : Side) (r : Part) (i : ℕ) → Carries l (c .part ∷ w) d r i
+    → Passed (c ∷ l) (secondPartOf c ∷ firstPartOf c ∷ w) d r i
 passed-on l c w e d r zero k = child l c w d r (k .under) (shared (sides (firstPartOf c)) (sides (secondPartOf c)) (sides (c .part)) (diagonal c) e d (k .has))
 passed-on l c w e d r (suc i) k =
     record {
@@ -118,7 +122,8 @@ passed-on l c w e d r (suc i) k =
       carries = record { low = omega (arith, k .low); under = under-more c l r (getD w i noPart) (k .under); has = k .has };
     }
 
-passed-apart : {l : List Cut} {qs : List Part} {d e : Side} {p q : Part} {i j : ℕ} (a : Passed l qs d p i) (b : Passed l qs e q j) → ¬ (i ≡ j) → ¬ (a .place ≡ b .place)
+passed-apart : {l : List Cut} {qs : List Part} {d e : Side} {p q : Part} {i j : ℕ} (a : Passed l qs d p i) (b : Passed l qs e q j) → ¬ (i ≡ j)
+    → ¬ (a .place ≡ b .place)
 passed-apart {i = i} {j = j} a b n e = go (decLt (a .place) 2)
   where
     go : Dec (a .place < 2) → ⊥

@@ -1,4 +1,5 @@
--- The stack of the split has two steps: a part goes out, or is cut. What holds at the start and is kept by both holds at the end, and at the end no part is left.
+-- The stack of the split has two steps: a part goes out, or is cut. What holds at the start and is kept by both holds at the end, and at the end no part is
+-- left.
 use Prim.Native.Nat.{ℕ, zero, suc, _+_, _-_, _*_, _≤_, _<_}
 use native.Mathlib.Omega.{arith}
 use mathlib.Core.Path.{_≡_, refl}

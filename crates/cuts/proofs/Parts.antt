@@ -57,7 +57,15 @@ halves p v k s h =
     record {
       first-corners = omega (arith, sub-corners (firstPoints r k) (take k e), length-take (suc k) r, length-rotate v (p .points));
       first-edges = omega (arith, sub-edges (firstPoints r k) (take k e), length-take k e, length-rotate v (p .edges), s .edged);
-      second-corners = omega (arith, sub-corners (secondPoints r k) (drop k e), length-append (drop k r) (take 1 r), length-drop k r, length-take 1 r, length-rotate v (p .points));
+      second-corners =
+          omega (
+            arith,
+            sub-corners (secondPoints r k) (drop k e),
+            length-append (drop k r) (take 1 r),
+            length-drop k r,
+            length-take 1 r,
+            length-rotate v (p .points),
+          );
       second-edges = omega (arith, sub-edges (secondPoints r k) (drop k e), length-drop k e, length-rotate v (p .edges), s .edged);
     }
 
@@ -90,7 +98,9 @@ keep L I go part p s i =
     (λ p ps o c t l k h j.
     let f = sound-cut L p c k (j .0 .0) h in
     let u = f .halves in
-    let a : Sound (firstPart p (worstOf p) k) = record { three = omega (arith, u .first-corners, f .low); edged = omega (arith, u .first-corners, u .first-edges) } in
-    let b : Sound (secondPart p (worstOf p) k) = record { three = omega (arith, u .second-corners, f .high); edged = omega (arith, u .second-corners, u .second-edges) } in
+    let a : Sound (firstPart p (worstOf p) k) =
+    record { three = omega (arith, u .first-corners, f .low); edged = omega (arith, u .first-corners, u .first-edges) } in
+    let b : Sound (secondPart p (worstOf p) k) =
+    record { three = omega (arith, u .second-corners, f .high); edged = omega (arith, u .second-corners, u .second-edges) } in
     ((b, (a, j .0 .1)), part p ps o c t l k f h (j .1)))
     p ((s, tt), i) .1

@@ -4,7 +4,8 @@
 --   the sides of all pieces are, each once and in one sense or the other, the sides of the ring with their marks and the diagonal of each cut twice, straight;
 --   so was each side of a part that was cut, of the cuts before it;
 --   a cut deals the sides of its part to the two parts that it makes, and each gets the diagonal besides.
--- THEOREM `followed`. The diagonal of each cut, through all later cuts of the two parts beside it, ends as a side of two pieces, one that comes of either; they stand in two places.
+-- THEOREM `followed`. The diagonal of each cut, through all later cuts of the two parts beside it, ends as a side of two pieces, one that comes of either;
+-- they stand in two places.
 use mathlib.Core.Path.{_≡_, subst}
 use mathlib.Core.List.{List, [], _∷_, _++_, List·Memᴰ}
 use Rattle.laws.specs.All.{All}
@@ -33,7 +34,8 @@ traced L ring s =
     let o = splitBadVertices L ring .pieces in
     let l = splitBadVertices L ring .log in
     let c = corners-hold L (λ x. List·Memᴰ x (ring .points)) ring s (all-own (ring .points)) in
-    let m : Match SameSide (allSides o) (diagonals l ++ sides ring) = subst (λ ps. Match SameSide (allSides ps ++ allSides o) (diagonals l ++ sides ring)) e (i .sides) in
+    let m : Match SameSide (allSides o) (diagonals l ++ sides ring) =
+    subst (λ ps. Match SameSide (allSides ps ++ allSides o) (diagonals l ++ sides ring)) e (i .sides) in
     record {
       parts = subst (λ ps. Match _≡_ (spentParts l ++ (ps ++ o)) (ring ∷ made l)) e (i .parts);
       corners = c .pieces;

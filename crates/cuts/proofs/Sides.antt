@@ -13,11 +13,17 @@ use Rattle.marks.specs.declared.EdgeMark.{EdgeMark}
 use Rattle.marks.specs.declared.EdgeMark.the-variants.{Straight}
 use Rattle.marks.specs.Part.{Part}
 use Rattle.parts.specs.Cut.{rotate}
+use Rattle.split.specs.Split.{Cut}
 use Rattle.cuts.specs.Counts.{Sound}
-use Rattle.cuts.specs.Provenance.{Side, side, along, around, sides, SameSide, Match, chain}
+use Rattle.cuts.specs.Provenance.{Side, side, along, around, sides, diagonal, SameSide, Match, chain}
 use Rattle.parts.proofs.Rotation.{at-place, at-end}
 use Rattle.cuts.proofs.Match as M
 use Rattle.cuts.proofs.Match.{alike-self}
+
+-- ---- a diagonal is straight
+pub diagonal-straight : (c : Cut) → diagonal c .mark ≡ Straight
+unfolding diagonal
+diagonal-straight c = refl
 
 -- ---- by place
 along-at : (a : GridPoint) (r : List GridPoint) (es : List EdgeMark) (i : ℕ) (d : Side) → i < length r → i < length es
@@ -64,7 +70,8 @@ around-length (a ∷ r) es e = along-length a (r ++ (a ∷ [])) es (e ∙ sym cl
 pub side-count : (p : Part) → Sound p → length (sides p) ≡ length (p .points)
 side-count p s = around-length (p .points) (p .edges) (s .edged)
 
-pub side-at : (p : Part) → Sound p → (i : ℕ) (d : Side) → i < length (p .points) → getD (sides p) i d ≡ side (at (p .points) i) (at (p .points) (suc i)) (getD (p .edges) i Straight)
+pub side-at : (p : Part) → Sound p → (i : ℕ) (d : Side) → i < length (p .points)
+    → getD (sides p) i d ≡ side (at (p .points) i) (at (p .points) (suc i)) (getD (p .edges) i Straight)
 side-at p s i d h = around-at (p .points) (p .edges) i d (s .edged) h
 
 -- ---- a path from a by r to b, and on by s
@@ -92,5 +99,7 @@ turn-on (a ∷ xs) (b ∷ ys) es fs h k =
 
 pub sides-rotate : (v : ℕ) (r : List GridPoint) (es : List EdgeMark) → length es ≡ length r → Match SameSide (around (rotate v r) (rotate v es)) (around r es)
 sides-rotate v r es h =
-    chain (turn-on (drop v r) (take v r) (drop v es) (take v es) (omega (arith, h, length-drop v r, length-drop v es)) (omega (arith, h, length-take v r, length-take v es)))
+    chain
+    (turn-on (drop v r) (take v r) (drop v es) (take v es) (omega (arith, h, length-drop v r, length-drop v es))
+    (omega (arith, h, length-take v r, length-take v es)))
     (M.equal SameSide alike-self (ap (λ l. around l (take v es ++ drop v es)) (take-append-drop v r) ∙ ap (around r) (take-append-drop v es)))

@@ -10,7 +10,8 @@ use Rattle.corner.specs.declared.Limits.{Limits}
 use Rattle.parts.specs.Cut.{firstPart, secondPart}
 use Rattle.split.specs.Split.{Stack, splitBadVertices}
 use Rattle.cuts.specs.Counts.{Sound}
-use Rattle.cuts.specs.Provenance.{Side, sides, allSides, diagonal, diagonals, made, spentParts, SameSide, same, Match, each, swap, chain, SidesShared, Deals, Among, FromEarlierCuts}
+use Rattle.cuts.specs.Provenance.{Side, sides, allSides, diagonal, diagonals, made, spentParts, SameSide, same, Match, each, swap, chain}
+use Rattle.cuts.specs.Provenance.{SidesShared, Deals, Among, FromEarlierCuts}
 use Rattle.cuts.proofs.Machine.{worstOf, cut}
 use Rattle.cuts.proofs.Parts.{SoundCut, keep}
 use Rattle.cuts.proofs.Match as M
@@ -31,14 +32,16 @@ sides-snoc [] p = M.whole SameSide alike-self (sides p ++ [])
 sides-snoc (q ∷ l) p =
     chain (M.before SameSide alike-self (sides q) (sides-snoc l p))
     (chain (M.equal SameSide alike-self (sym (append-assoc (sides q) (sides p) (allSides l))))
-    (chain (M.after SameSide alike-self (allSides l) (M.commute SameSide alike-self (sides q) (sides p))) (M.equal SameSide alike-self (append-assoc (sides p) (sides q) (allSides l)))))
+    (chain (M.after SameSide alike-self (allSides l) (M.commute SameSide alike-self (sides q) (sides p)))
+    (M.equal SameSide alike-self (append-assoc (sides p) (sides q) (allSides l)))))
 
 -- ---- a part goes out
 out-parts : (S : List Part) (p : Part) (ps o R : List Part) → Match _≡_ (S ++ ((p ∷ ps) ++ o)) R → Match _≡_ (S ++ (ps ++ (o ++ (p ∷ [])))) R
 out-parts S p ps o R h =
     chain (M.before _≡_ itself S (chain (M.equal _≡_ itself (sym (append-assoc ps o (p ∷ [])))) (M.commute _≡_ itself (ps ++ o) (p ∷ [])))) h
 
-out-sides : (p : Part) (ps o : List Part) (D : List Side) → Match SameSide (allSides (p ∷ ps) ++ allSides o) D → Match SameSide (allSides ps ++ allSides (o ++ (p ∷ []))) D
+out-sides : (p : Part) (ps o : List Part) (D : List Side) → Match SameSide (allSides (p ∷ ps) ++ allSides o) D
+    → Match SameSide (allSides ps ++ allSides (o ++ (p ∷ []))) D
 out-sides p ps o D h =
     chain (M.before SameSide alike-self (allSides ps) (sides-snoc o p))
     (chain (M.equal SameSide alike-self (sym (append-assoc (allSides ps) (sides p) (allSides o))))
@@ -52,10 +55,13 @@ cut-parts S p b a ps o ring R h =
     (chain (each refl (each refl (chain (M.commute _≡_ itself (ps ++ o) (p ∷ S)) (chain (M.sink _≡_ itself p S (ps ++ o)) h))))
     (chain (each refl swap) swap))
 
-cut-sides : (p b a : Part) (ps o : List Part) (d : Side) (D : List Side) → SidesShared (sides a) (sides b) (sides p) d → Match SameSide (allSides (p ∷ ps) ++ allSides o) D
+cut-sides : (p b a : Part) (ps o : List Part) (d : Side) (D : List Side) → SidesShared (sides a) (sides b) (sides p) d
+    → Match SameSide (allSides (p ∷ ps) ++ allSides o) D
     → Match SameSide (allSides (b ∷ a ∷ ps) ++ allSides o) (d ∷ d ∷ D)
 cut-sides p b a ps o d D e h =
-    chain (M.after SameSide alike-self (allSides o) (chain (M.equal SameSide alike-self (sym (append-assoc (sides b) (sides a) (allSides ps)))) (M.after SameSide alike-self (allSides ps) (dealt-both e))))
+    chain
+    (M.after SameSide alike-self (allSides o)
+    (chain (M.equal SameSide alike-self (sym (append-assoc (sides b) (sides a) (allSides ps)))) (M.after SameSide alike-self (allSides ps) (dealt-both e))))
     (each same (each same h))
 
 pub cut-deals : {L : Limits} {p : Part} {k : ℕ} → SoundCut L p k → Deals (cut p k)
@@ -82,4 +88,10 @@ tracing L ring s =
       grown = (all-left K (sides p) (allSides ps) (all-left K (sides p ++ allSides ps) (allSides o) (among-match (i .sides))), i .grown);
       deals = (d, i .deals);
     })
-    ring s (record { parts = M.whole _≡_ itself (ring ∷ []); sides = M.equal SameSide alike-self (append-nil (sides ring ++ []) ∙ append-nil (sides ring)); grown = tt; deals = tt })
+    ring s
+    (record {
+      parts = M.whole _≡_ itself (ring ∷ []);
+      sides = M.equal SameSide alike-self (append-nil (sides ring ++ []) ∙ append-nil (sides ring));
+      grown = tt;
+      deals = tt;
+    })

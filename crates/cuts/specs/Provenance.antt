@@ -5,7 +5,7 @@ use mathlib.Core.List.{List, [], _∷_, _++_, List·Memᴰ}
 use lib.ListN.{length, getD}
 use Rattle.laws.specs.All.{All}
 use Rattle.vector.specs.declared.GridPoint.{GridPoint}
-use Rattle.vector.specs.Grid.{at}
+use Rattle.vector.specs.Grid.{origin, at}
 use Rattle.marks.specs.declared.EdgeMark.{EdgeMark}
 use Rattle.marks.specs.declared.EdgeMark.the-variants.{Straight}
 use Rattle.marks.specs.Part.{Part, noPart}
@@ -27,6 +27,10 @@ pub record Side : Type 0 where
 
 abbrev pub side : GridPoint → GridPoint → EdgeMark → Side
 side a b e = record { a = a; b = b; mark = e }
+
+-- what a list of sides reads as past its end
+abbrev pub noSide : Side
+noSide = side origin origin Straight
 
 abbrev pub back : Side → Side
 back s = side (s .b) (s .a) (s .mark)

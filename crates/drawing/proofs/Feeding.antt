@@ -1,6 +1,6 @@
 -- One byte of a text, test by test, and its end.
-use Prim.Native.Nat.{ℕ, suc, _+_, _-_, _*_, _≤_, _<_}
-use mathlib.Core.Path.{_≡_, refl, sym, ap, _∙_}
+use Prim.Native.Nat.{ℕ, _+_, _-_, _*_, _≤_, _<_}
+use mathlib.Core.Path.{_≡_, refl, ap, _∙_}
 use mathlib.Core.Bool.{Bool, true, false, _||_, cond}
 use mathlib.Core.List.{List, [], _∷_, _++_}
 use native.Mathlib.Omega.{arith}
@@ -14,7 +14,7 @@ use Rattle.lines.specs.declared.Heard.{Heard}
 use Rattle.lines.specs.Line.{heard}
 use Rattle.drawing.specs.declared.Draft.{Draft}
 use Rattle.drawing.specs.declared.State.{State}
-use Rattle.drawing.specs.Drawing.{Drawn, shows, before, failed, still, closes, takes, Fine, Does}
+use Rattle.drawing.specs.Drawing.{shows, failed, still, closes, takes, Fine, Does}
 use Rattle.drawing.specs.Page.{Page, page, drawnOf, goneOn, stopped, stops, lineAfter, nextLine, lineEnds, fed, ends, Kept, Moves}
 use Rattle.drawing.proofs.Closing.{quiet-fine}
 
@@ -35,9 +35,17 @@ module _ (s : State) (text : List ℕ) (ring chain : List ℤ) (out : List ℕ) 
       → Moves lineEnds s text ring chain (record { left = s .left - 1; line = n; length = 0; comment = false; draft = d }) text ring' chain' out'
   unfolding lineEnds
   line-ends h d n ring' chain' out' p e t q =
-      let g : shows d ring' chain' out' ≡ takes (s .line) (heard (take (s .length) text)) (drawnOf P) = t .same ∙ ap (λ (x : Heard). takes (s .line) x (drawnOf P)) e in
+      let g : shows d ring' chain' out' ≡ takes (s .line) (heard (take (s .length) text)) (drawnOf P) =
+      t .same ∙ ap (λ (x : Heard). takes (s .line) x (drawnOf P)) e in
       record {
-        same = (λ j. record { state = record { left = s .left - 1; line = q j; length = 0; comment = false; draft = d }; text = []; ring = take (d .corners * 2) ring'; chain = take (d .run * 2) chain'; out = cond (d .wrote) out' [] })
+        same =
+            (λ j. record {
+              state = record { left = s .left - 1; line = q j; length = 0; comment = false; draft = d };
+              text = [];
+              ring = take (d .corners * 2) ring';
+              chain = take (d .run * 2) chain';
+              out = cond (d .wrote) out' [];
+            })
             ∙ (λ j. record { state = nextLine s (g j .draft); text = []; ring = g j .ring; chain = g j .chain; out = g j .out });
         kept = record { short = omega arith; lines = rw q (line-bound (s .line) (s .left) d (k .lines) p); text-long = k .text-long; fine = t .fine };
       }
@@ -51,7 +59,13 @@ module _ (s : State) (text : List ℕ) (ring chain : List ℤ) (out : List ℕ) 
   stopped-so r code e =
       record {
         same = ap (λ (x : State). page x text ring chain out) e;
-        kept = record { short = rw e (k .short); lines = rw e (k .lines); text-long = k .text-long; fine = rw e (quiet-fine (failed (s .draft) code) refl refl refl (k .fine)) };
+        kept =
+            record {
+              short = rw e (k .short);
+              lines = rw e (k .lines);
+              text-long = k .text-long;
+              fine = rw e (quiet-fine (failed (s .draft) code) refl refl refl (k .fine));
+            };
       }
 
   module _ (b : ℕ) where
@@ -60,7 +74,8 @@ module _ (s : State) (text : List ℕ) (ring chain : List ℤ) (out : List ℕ) 
     fed-too-long r a e = let m = stopped-so r 29 e in record { same = m .same ∙ rw (eq-eqb (s .left) 0 a); kept = m .kept }
 
     module _ (a : s .left ≡ 0 → ⊥) where
-      pub fed-line : (r : State) (ring' chain' : List ℤ) (out' : List ℕ) → b ≡ 10 → Moves lineEnds s text ring chain r text ring' chain' out' → Moves (fed b) s text ring chain r text ring' chain' out'
+      pub fed-line : (r : State) (ring' chain' : List ℤ) (out' : List ℕ) → b ≡ 10 → Moves lineEnds s text ring chain r text ring' chain' out'
+          → Moves (fed b) s text ring chain r text ring' chain' out'
       unfolding fed
       fed-line r ring' chain' out' c m = record { same = m .same ∙ rw (ne-eqb (s .left) 0 a, eq-eqb b 10 c); kept = m .kept }
 
@@ -85,17 +100,33 @@ module _ (s : State) (text : List ℕ) (ring chain : List ℤ) (out : List ℕ) 
 
           pub fed-full : (r : State) → s .length ≡ 80 → r ≡ stopped s 28 → Moves (fed b) s text ring chain r text ring chain out
           unfolding fed
-          fed-full r z e = let m = stopped-so r 28 e in record { same = m .same ∙ rw (ne-eqb (s .left) 0 a, ne-eqb b 10 c, none, eq-eqb (s .length) 80 z); kept = m .kept }
+          fed-full r z e =
+              let m = stopped-so r 28 e in record { same = m .same ∙ rw (ne-eqb (s .left) 0 a, ne-eqb b 10 c, none, eq-eqb (s .length) 80 z); kept = m .kept }
 
-          pub fed-byte : (r : State) → (s .length ≡ 80 → ⊥) → r ≡ goneOn s (s .length + 1) false → Moves (fed b) s text ring chain r (set text (s .length) b) ring chain out
+          pub fed-byte : (r : State) → (s .length ≡ 80 → ⊥) → r ≡ goneOn s (s .length + 1) false
+              → Moves (fed b) s text ring chain r (set text (s .length) b) ring chain out
           unfolding fed
           fed-byte r z e =
-              let l : take (s .length + 1) (set text (s .length) b) ≡ take (s .length) text ++ (b ∷ []) = rw (add-one (s .length)) (take-suc-set text (s .length) b (omega (arith, k .short, k .text-long))) in
+              let l : take (s .length + 1) (set text (s .length) b) ≡ take (s .length) text ++ (b ∷ []) =
+              rw (add-one (s .length)) (take-suc-set text (s .length) b (omega (arith, k .short, k .text-long))) in
               record {
                 same = ap (λ (x : State). page x (set text (s .length) b) ring chain out) e
-                    ∙ (λ j. record { state = goneOn s (s .length + 1) false; text = l j; ring = take (s .draft .corners * 2) ring; chain = take (s .draft .run * 2) chain; out = [] })
+                    ∙ (λ j. record {
+                      state = goneOn s (s .length + 1) false;
+                      text = l j;
+                      ring = take (s .draft .corners * 2) ring;
+                      chain = take (s .draft .run * 2) chain;
+                      out = [];
+                    })
                     ∙ rw (ne-eqb (s .left) 0 a, ne-eqb b 10 c, none, ne-eqb (s .length) 80 z);
-                kept = rw e (record { short = omega (arith, k .short); lines = omega (arith, k .lines); text-long = simp length-set (k .text-long); fine = draft-kept (still (s .draft)) refl });
+                kept =
+                    rw e
+                    (record {
+                      short = omega (arith, k .short);
+                      lines = omega (arith, k .lines);
+                      text-long = simp length-set (k .text-long);
+                      fine = draft-kept (still (s .draft)) refl;
+                    });
               }
 
   -- the end
@@ -104,6 +135,13 @@ module _ (s : State) (text : List ℕ) (ring chain : List ℤ) (out : List ℕ) 
   unfolding ends
   text-ends d out' t =
       record {
-        same = λ j. record { state = record { left = s .left; line = s .line; length = s .length; comment = s .comment; draft = t .same j .draft }; text = take (s .length) text; ring = t .same j .ring; chain = t .same j .chain; out = t .same j .out };
+        same =
+            λ j. record {
+              state = record { left = s .left; line = s .line; length = s .length; comment = s .comment; draft = t .same j .draft };
+              text = take (s .length) text;
+              ring = t .same j .ring;
+              chain = t .same j .chain;
+              out = t .same j .out;
+            };
         kept = record { short = k .short; lines = k .lines; text-long = k .text-long; fine = t .fine };
       }

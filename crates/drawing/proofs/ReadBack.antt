@@ -1,16 +1,14 @@
--- Claim: reading back what is written of a complete ring gives the points that the text says. The pair of blocks of a ring that the writer does not refuse reads, at its number
--- and the next, as the ring's points with the sheet size and the chain's points; and the points of a ring are those of its lines, one after the other, each coordinate the
--- nearest 1/8192 mm (numeral's NearestUnit).
-use Prim.Native.Nat.{ℕ, suc, _+_, _*_, _/_, _≤_, _<_}
+-- Claim: reading back what is written of a complete ring gives the points that the text says. The pair of blocks of a ring that the writer does not refuse
+-- reads, at its number and the next, as the ring's points with the sheet size and the chain's points; and the points of a ring are those of its lines, one
+-- after the other, each coordinate the nearest 1/8192 mm (numeral's NearestUnit).
+use Prim.Native.Nat.{ℕ, _+_, _*_, _/_, _≤_, _<_}
 use mathlib.Core.Path.{_≡_, refl, sym, ap, _∙_}
-use mathlib.Core.Bool.{Bool, true, false, cond}
 use mathlib.Core.List.{List, [], _∷_, _++_, append-assoc, append-nil}
 use native.Mathlib.Omega.{arith}
 use lib.ListN.{length, take, drop, replicate, length-replicate}
 use lib.Seq.{drop-length}
-use lib.Dec.{ltb, eqb}
 use lib.IntN.{ℤ}
-use borrow.Author.Tests.{eq-eqb, ne-eqb, le-ltb}
+use borrow.Author.Tests.{ne-eqb, le-ltb}
 use Rattle.laws.specs.All.{All}
 use Rattle.blocks.specs.declared.Block.the-variants.{Ring, Chain}
 use Rattle.blocks.specs.Blocks.{readBlock}
@@ -84,7 +82,8 @@ unfolding cornerOf
 corner-phase o c = let l = ne-eqb (o .corners) 60 (λ z. omega arith) in rw l (refl, refl)
 
 -- a ring's points are those of its lines
-pub points-said : (n : ℕ) (hs : List Heard) (d : Drawn) → All Point hs → d .draft .phase ≡ 1 → d .draft .corners + length hs ≤ 60 → takesAll n hs d .ring ≡ d .ring ++ saidBy hs
+pub points-said : (n : ℕ) (hs : List Heard) (d : Drawn) → All Point hs → d .draft .phase ≡ 1 → d .draft .corners + length hs ≤ 60
+    → takesAll n hs d .ring ≡ d .ring ++ saidBy hs
 points-said n [] d a p c = sym (append-nil (d .ring))
 points-said n (h ∷ hs) d a p c =
     let k : d .draft .corners < 60 = omega arith in

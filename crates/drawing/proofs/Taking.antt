@@ -1,17 +1,18 @@
 -- What was heard of a line, test by test.
-use Prim.Native.Nat.{ℕ, _+_, _*_, _≤_, _<_}
-use mathlib.Core.Path.{_≡_, refl, sym, ap, _∙_}
+use Prim.Native.Nat.{ℕ, _*_, _≤_, _<_}
+use mathlib.Core.Path.{_≡_, refl, ap, _∙_}
 use mathlib.Core.Bool.{Bool, true, false, cond}
 use mathlib.Core.List.{List, []}
 use native.Mathlib.Omega.{arith}
 use lib.ListN.{length, take}
-use lib.Dec.{ltb, eqb}
+use lib.Dec.{eqb}
 use lib.IntN.{ℤ}
 use borrow.Author.Tests.{eq-eqb, ne-eqb, lt-ltb, le-ltb}
 use Rattle.lines.specs.declared.Heard.{Heard}
 use Rattle.drawing.specs.declared.Draft.{Draft}
-use Rattle.drawing.specs.Drawing.{Drawn, shows, before, failed, fails, stays, begins, chainOf, chains, cornerOf, runOf, joined, points, takes, Fine, Does, AddsRing, AddsChain}
-use Rattle.drawing.proofs.Points.{Keeps, corner-keeps, run-keeps}
+use Rattle.drawing.specs.Drawing.{Drawn, before, failed, fails, stays, begins, chainOf, chains, points, takes}
+use Rattle.drawing.specs.Drawing.{Fine, Does, AddsRing, AddsChain}
+use Rattle.drawing.proofs.Points.{corner-keeps, run-keeps}
 
 abbrev pub Added : Draft → List ℤ → List ℤ → List ℕ → Drawn
 Added o ring chain out = record { draft = o; ring = ring; chain = chain; out = out }
@@ -29,7 +30,15 @@ module _ (h : Heard) (o : Draft) (ring chain : List ℤ) (out : List ℕ) (f : F
       let b : r .block ≡ o .block = ap (λ (x : Draft). x .block) e ∙ q .0 .block in
       record {
         same = (λ j. Added (e j) (a .points j) (take (n j * 2) chain) (cond (w j) out [])) ∙ rw (ne-eqb (o .phase) 2 k);
-        fine = record { corners = c; run = omega (arith, n, f .run); block = omega (arith, b, f .block); ring-long = l; chain-long = f .chain-long; out-long = f .out-long };
+        fine =
+            record {
+              corners = c;
+              run = omega (arith, n, f .run);
+              block = omega (arith, b, f .block);
+              ring-long = l;
+              chain-long = f .chain-long;
+              out-long = f .out-long;
+            };
       }
 
   pub chain-taken : (chain' : List ℤ) → o .phase ≡ 2 → length chain' ≡ 120 → AddsChain o h chain r chain' → Does (points h) o ring chain r ring chain' out
@@ -43,7 +52,15 @@ module _ (h : Heard) (o : Draft) (ring chain : List ℤ) (out : List ℕ) (f : F
       let b : r .block ≡ o .block = ap (λ (x : Draft). x .block) e ∙ q .0 .block in
       record {
         same = (λ j. Added (e j) (take (n j * 2) ring) (a .points j) (cond (w j) out [])) ∙ rw (eq-eqb (o .phase) 2 k);
-        fine = record { corners = omega (arith, n, f .corners); run = c; block = omega (arith, b, f .block); ring-long = f .ring-long; chain-long = l; out-long = f .out-long };
+        fine =
+            record {
+              corners = omega (arith, n, f .corners);
+              run = c;
+              block = omega (arith, b, f .block);
+              ring-long = f .ring-long;
+              chain-long = l;
+              out-long = f .out-long;
+            };
       }
 
 -- ---- a chain
@@ -54,11 +71,14 @@ chain-keeps o = go (eqb (o .phase) 2)
     x : Draft
     x = record { began = o .began; phase = 2; size = o .size; corners = o .corners; run = o .run; block = o .block; wrong = o .wrong; wrote = false }
 
-    go : (t : Bool) → (cond t (failed o 27) x .corners ≡ o .corners) × (cond t (failed o 27) x .run ≡ o .run) × (cond t (failed o 27) x .block ≡ o .block) × (cond t (failed o 27) x .wrote ≡ false)
+    go : (t : Bool)
+        → (cond t (failed o 27) x .corners ≡ o .corners) × (cond t (failed o 27) x .run ≡ o .run) × (cond t (failed o 27) x .block ≡ o .block)
+        × (cond t (failed o 27) x .wrote ≡ false)
     go true = (refl, refl, refl, refl)
     go false = (refl, refl, refl, refl)
 
-pub chain-so : (o : Draft) (ring chain : List ℤ) (out : List ℕ) → Fine o ring chain out → (r : Draft) → r ≡ chainOf o → Does chains o ring chain r ring chain out
+pub chain-so : (o : Draft) (ring chain : List ℤ) (out : List ℕ) → Fine o ring chain out → (r : Draft) → r ≡ chainOf o
+    → Does chains o ring chain r ring chain out
 unfolding chains
 chain-so o ring chain out f r e =
     let q = chain-keeps o in
@@ -68,7 +88,15 @@ chain-so o ring chain out f r e =
     let w : r .wrote ≡ false = ap (λ (x : Draft). x .wrote) e ∙ q .3 in
     record {
       same = λ j. Added (e j) (take (a j * 2) ring) (take (b j * 2) chain) (cond (w j) out []);
-      fine = record { corners = omega (arith, a, f .corners); run = omega (arith, b, f .run); block = omega (arith, c, f .block); ring-long = f .ring-long; chain-long = f .chain-long; out-long = f .out-long };
+      fine =
+          record {
+            corners = omega (arith, a, f .corners);
+            run = omega (arith, b, f .run);
+            block = omega (arith, c, f .block);
+            ring-long = f .ring-long;
+            chain-long = f .chain-long;
+            out-long = f .out-long;
+          };
     }
 
 -- ---- the tests, in their order
@@ -101,8 +129,11 @@ module _ (n : ℕ) (h : Heard) (o : Draft) (ring chain : List ℤ) (r : Draft) (
         module _ (d : o .phase ≡ 0 → ⊥) where
           pub takes-chain : h .kind ≡ 2 → Done chains → Done (takes n h)
           unfolding takes
-          takes-chain e = alike chains (takes n h) (rw (ne-eqb (h .kind) 0 a, le-ltb 3 (h .kind) b, ne-eqb (h .kind) 1 c, ne-eqb (o .phase) 0 d, eq-eqb (h .kind) 2 e))
+          takes-chain e =
+              alike chains (takes n h) (rw (ne-eqb (h .kind) 0 a, le-ltb 3 (h .kind) b, ne-eqb (h .kind) 1 c, ne-eqb (o .phase) 0 d, eq-eqb (h .kind) 2 e))
 
           pub takes-point : (h .kind ≡ 2 → ⊥) → Done (points h) → Done (takes n h)
           unfolding takes
-          takes-point e = alike (points h) (takes n h) (rw (ne-eqb (h .kind) 0 a, le-ltb 3 (h .kind) b, ne-eqb (h .kind) 1 c, ne-eqb (o .phase) 0 d, ne-eqb (h .kind) 2 e))
+          takes-point e =
+              alike (points h) (takes n h)
+              (rw (ne-eqb (h .kind) 0 a, le-ltb 3 (h .kind) b, ne-eqb (h .kind) 1 c, ne-eqb (o .phase) 0 d, ne-eqb (h .kind) 2 e))

@@ -4,14 +4,15 @@ use mathlib.Core.Path.{_≡_}
 use mathlib.Core.Bool.{Bool, true, false, _||_, cond}
 use mathlib.Core.List.{List, [], _∷_, _++_}
 use lib.ListN.{length, take}
-use lib.Dec.{ltb, eqb}
+use lib.Dec.{eqb}
 use lib.IntN.{ℤ}
 use Rattle.lines.specs.Line.{heard}
 use Rattle.drawing.specs.declared.Draft.{Draft}
 use Rattle.drawing.specs.declared.State.{State}
-use Rattle.drawing.specs.Drawing.{Drawn, shows, failed, still, closes, takes, Fine}
+use Rattle.drawing.specs.Drawing.{Drawn, failed, still, closes, takes, Fine}
 
--- what stands between two bytes: the numbers, the bytes of the line so far, the points of the open ring and of its chain, and the blocks that the last byte wrote
+-- what stands between two bytes: the numbers, the bytes of the line so far, the points of the open ring and of its chain, and the blocks that the last byte
+-- wrote
 pub record Page : Type 0 where
   pub state : State
   pub text : List ℕ
@@ -21,7 +22,13 @@ pub record Page : Type 0 where
 
 abbrev pub page : State → List ℕ → List ℤ → List ℤ → List ℕ → Page
 page s text ring chain out =
-    record { state = s; text = take (s .length) text; ring = take (s .draft .corners * 2) ring; chain = take (s .draft .run * 2) chain; out = cond (s .draft .wrote) out [] }
+    record {
+      state = s;
+      text = take (s .length) text;
+      ring = take (s .draft .corners * 2) ring;
+      chain = take (s .draft .run * 2) chain;
+      out = cond (s .draft .wrote) out [];
+    }
 
 abbrev pub drawnOf : Page → Drawn
 drawnOf p = record { draft = p .state .draft; ring = p .ring; chain = p .chain; out = [] }
@@ -65,11 +72,24 @@ unfoldable pub ends : Page → Page
 ends p =
     let s = p .state in
     let d = closes (drawnOf p) in
-    record { state = record { left = s .left; line = s .line; length = s .length; comment = s .comment; draft = d .draft }; text = p .text; ring = d .ring; chain = d .chain; out = d .out }
+    record {
+      state = record { left = s .left; line = s .line; length = s .length; comment = s .comment; draft = d .draft };
+      text = p .text;
+      ring = d .ring;
+      chain = d .chain;
+      out = d .out;
+    }
 
 -- before the first byte
 abbrev pub begun : State
-begun = record { left = 16777216; line = 1; length = 0; comment = false; draft = record { began = 0; phase = 0; size = 0; corners = 0; run = 0; block = 0; wrong = 0; wrote = false } }
+begun =
+    record {
+      left = 16777216;
+      line = 1;
+      length = 0;
+      comment = false;
+      draft = record { began = 0; phase = 0; size = 0; corners = 0; run = 0; block = 0; wrong = 0; wrote = false };
+    }
 
 abbrev pub blankPage : Page
 blankPage = record { state = begun; text = []; ring = []; chain = []; out = [] }
@@ -117,6 +137,7 @@ pub record Kept (s : State) (text : List ℕ) (ring chain : List ℤ) (out : Lis
   pub fine : Fine (s .draft) ring chain out
 
 -- a step of the code did f
-pub record Moves (f : Page → Page) (s : State) (text : List ℕ) (ring chain : List ℤ) (r : State) (text' : List ℕ) (ring' chain' : List ℤ) (out' : List ℕ) : Type 0 where
+pub record Moves (f : Page → Page) (s : State) (text : List ℕ) (ring chain : List ℤ) (r : State) (text' : List ℕ) (ring' chain' : List ℤ) (out' : List ℕ) :
+    Type 0 where
   pub same : page r text' ring' chain' out' ≡ f (page s text ring chain [])
   pub kept : Kept r text' ring' chain' out'

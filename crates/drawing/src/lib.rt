@@ -10,7 +10,7 @@ ghost use mathlib.Core.List.{[], _∷_, _++_};
 ghost use Prim.Native.Nat.{_+_, _*_, _≤_, _<_};
 ghost use lib.ListN.{length, take};
 ghost use Rattle.numeral.specs.Numeral.{signed};
-ghost use Rattle.lines.specs.Line.{Held};
+ghost use Rattle.lines.specs.Line.{HeardOnSheet};
 ghost use Rattle.drawing.specs.Drawing as Drawing;
 ghost use Rattle.drawing.specs.Page as Page;
 use lines::Coordinate;
@@ -122,7 +122,8 @@ fn close(o: Draft, ring: &[i32], chain: &[i32], out: &mut [u8]) -> Draft
 // A ring begins: the one before it is complete.
 fn begin(o: Draft, line: u32, size: u32, ring: &[i32], chain: &[i32], out: &mut [u8]) -> Draft
     requires { ⌜ Drawing.Fine o (now ring) (now chain) (now out) ⌝ }
-    ensures { λ r. ⌜ Drawing.Does (Drawing.begins line size) o (now (ring .entry)) (now (chain .entry)) r (now (ring .entry)) (now (chain .entry)) (now (out .exit)) ⌝ }
+    ensures { λ r. ⌜ Drawing.Does (Drawing.begins line size) o (now (ring .entry)) (now (chain .entry)) r (now (ring .entry)) (now (chain .entry))
+        (now (out .exit)) ⌝ }
 {
     let c = close(o, ring, chain, out);
     if c.wrong > 0 {
@@ -161,7 +162,7 @@ fn chain_line(o: Draft) -> Draft
 
 // A point of the open ring.
 fn ring_point(o: Draft, h: Heard, ring: &mut [i32]) -> Draft
-    requires { ⌜ (o .corners ≤ 60) × (length (now ring) ≡ 120) × Held h ⌝ }
+    requires { ⌜ (o .corners ≤ 60) × (length (now ring) ≡ 120) × HeardOnSheet h ⌝ }
     ensures { λ r. ⌜ Drawing.AddsRing o h (now (ring .entry)) r (now (ring .exit)) ⌝ }
 {
     if o.corners == 60 {
@@ -185,7 +186,7 @@ fn ring_point(o: Draft, h: Heard, ring: &mut [i32]) -> Draft
 
 // A point of its chain.
 fn chain_point(o: Draft, h: Heard, chain: &mut [i32]) -> Draft
-    requires { ⌜ (o .run ≤ 60) × (length (now chain) ≡ 120) × Held h ⌝ }
+    requires { ⌜ (o .run ≤ 60) × (length (now chain) ≡ 120) × HeardOnSheet h ⌝ }
     ensures { λ r. ⌜ Drawing.AddsChain o h (now (chain .entry)) r (now (chain .exit)) ⌝ }
 {
     if o.run == 60 {
@@ -208,7 +209,7 @@ fn chain_point(o: Draft, h: Heard, chain: &mut [i32]) -> Draft
 }
 
 fn point(o: Draft, h: Heard, ring: &mut [i32], chain: &mut [i32], out: &[u8]) -> Draft
-    requires { ⌜ Drawing.Fine o (now ring) (now chain) (now out) × Held h ⌝ }
+    requires { ⌜ Drawing.Fine o (now ring) (now chain) (now out) × HeardOnSheet h ⌝ }
     ensures { λ r. ⌜ Drawing.Does (Drawing.points h) o (now (ring .entry)) (now (chain .entry)) r (now (ring .exit)) (now (chain .exit)) (now (out .entry)) ⌝ }
 {
     if o.phase == 2 {
@@ -226,8 +227,9 @@ fn take_heard(
     chain: &mut [i32],
     out: &mut [u8],
 ) -> Draft
-    requires { ⌜ Drawing.Fine o (now ring) (now chain) (now out) × Held h ⌝ }
-    ensures { λ r. ⌜ Drawing.Does (Drawing.takes number h) o (now (ring .entry)) (now (chain .entry)) r (now (ring .exit)) (now (chain .exit)) (now (out .exit)) ⌝ }
+    requires { ⌜ Drawing.Fine o (now ring) (now chain) (now out) × HeardOnSheet h ⌝ }
+    ensures { λ r. ⌜ Drawing.Does (Drawing.takes number h) o (now (ring .entry)) (now (chain .entry)) r (now (ring .exit)) (now (chain .exit))
+        (now (out .exit)) ⌝ }
 {
     let kind = h.kind;
     if kind == lines::NOTHING {
@@ -324,7 +326,8 @@ fn next_line(line: u32, o: Draft) -> u32
 // The end of a line.
 fn end_line(s: State, text: &[u8], ring: &mut [i32], chain: &mut [i32], out: &mut [u8]) -> State
     requires { ⌜ Page.Kept s (now text) (now ring) (now chain) (now out) × (0 < s .left) ⌝ }
-    ensures { λ r. ⌜ Page.Moves Page.lineEnds s (now (text .entry)) (now (ring .entry)) (now (chain .entry)) r (now (text .entry)) (now (ring .exit)) (now (chain .exit)) (now (out .exit)) ⌝ }
+    ensures { λ r. ⌜ Page.Moves Page.lineEnds s (now (text .entry)) (now (ring .entry)) (now (chain .entry)) r (now (text .entry)) (now (ring .exit))
+        (now (chain .exit)) (now (out .exit)) ⌝ }
 {
     let n = s.length;
     let h = lines::hear(&text[..n]);
@@ -348,7 +351,8 @@ pub fn feed(
     out: &mut [u8],
 ) -> State
     requires { ⌜ Page.Kept s (now text) (now ring) (now chain) (now out) ⌝ }
-    ensures { λ r. ⌜ Page.Moves (Page.fed b) s (now (text .entry)) (now (ring .entry)) (now (chain .entry)) r (now (text .exit)) (now (ring .exit)) (now (chain .exit)) (now (out .exit)) ⌝ }
+    ensures { λ r. ⌜ Page.Moves (Page.fed b) s (now (text .entry)) (now (ring .entry)) (now (chain .entry)) r (now (text .exit)) (now (ring .exit))
+        (now (chain .exit)) (now (out .exit)) ⌝ }
 {
     if s.left == 0 {
         return s.stops(LONG_TEXT);
@@ -373,7 +377,8 @@ pub fn feed(
 // The end of the text, after its last line.
 pub fn finish(s: State, text: &[u8], ring: &[i32], chain: &[i32], out: &mut [u8]) -> State
     requires { ⌜ Page.Kept s (now text) (now ring) (now chain) (now out) ⌝ }
-    ensures { λ r. ⌜ Page.Moves Page.ends s (now (text .entry)) (now (ring .entry)) (now (chain .entry)) r (now (text .entry)) (now (ring .entry)) (now (chain .entry)) (now (out .exit)) ⌝ }
+    ensures { λ r. ⌜ Page.Moves Page.ends s (now (text .entry)) (now (ring .entry)) (now (chain .entry)) r (now (text .entry)) (now (ring .entry))
+        (now (chain .entry)) (now (out .exit)) ⌝ }
 {
     let draft = close(s.draft, ring, chain, out);
     State {

@@ -7,6 +7,7 @@ ghost use mathlib.Core.Path.{_≡_};
 ghost use lib.ListN.{length};
 ghost use Rattle.root.specs.Root.{rootBits};
 ghost use Rattle.corner.specs.Limits.{delivered};
+ghost use Rattle.call.specs.Lent.{lent};
 ghost use Rattle.divider.specs.Promise.{Promise};
 ghost use Rattle.marked.specs.Promise.{MarkedPromise};
 ghost use Rattle.practice.specs.Practice as Practice;
@@ -32,8 +33,8 @@ pub extern "C" fn ring_divide(
     cells: &mut [NodeNumber],
     cell_count: usize,
 ) -> Row
-    ensures { λ v. ⌜ Promise delivered (record { ring = now (ring .entry); chain = now (chain .entry); size = size; nodes = now (nodes .entry); nodeCount = «node_count»; rims = now (rims .entry); cells = now (cells .entry); cellCount = «cell_count» })
-        v (now (nodes .exit)) (now (rims .exit)) (now (cells .exit)) ⌝ }
+    ensures { λ v. ⌜ Promise delivered (lent (now (ring .entry)) (now (chain .entry)) size (now (nodes .entry)) «node_count» (now (rims .entry))
+        (now (cells .entry)) «cell_count») v (now (nodes .exit)) (now (rims .exit)) (now (cells .exit)) ⌝ }
 {
     let a = divider::divide(
         ring,
@@ -80,7 +81,7 @@ pub extern "C" fn ring_divide_set(
     cell_count: usize,
 ) -> Row
     ensures { λ v. ⌜ Promise (record { cuts = cuts; corner = corner; least = least; greatest = greatest; share = share })
-        (record { ring = now (ring .entry); chain = now (chain .entry); size = size; nodes = now (nodes .entry); nodeCount = «node_count»; rims = now (rims .entry); cells = now (cells .entry); cellCount = «cell_count» })
+        (lent (now (ring .entry)) (now (chain .entry)) size (now (nodes .entry)) «node_count» (now (rims .entry)) (now (cells .entry)) «cell_count»)
         v (now (nodes .exit)) (now (rims .exit)) (now (cells .exit)) ⌝ }
 {
     let limits = set_of(corner, least, greatest, cuts, share);
@@ -113,7 +114,16 @@ pub extern "C" fn ring_divide_marked(
     cells: &mut [NodeNumber],
     cell_count: usize,
 ) -> Row
-    ensures { λ v. ⌜ MarkedPromise delivered (record { ring = now (ring .entry); marking = record { kinds = now (kinds .entry); snaps = now (snaps .entry); outline = now (outline .entry); loops = now (loops .entry) }; size = size; nodes = now (nodes .entry); nodeCount = «node_count»; rims = now (rims .entry); cells = now (cells .entry); cellCount = «cell_count» })
+    ensures { λ v. ⌜ MarkedPromise delivered (record {
+      ring = now (ring .entry);
+      marking = record { kinds = now (kinds .entry); snaps = now (snaps .entry); outline = now (outline .entry); loops = now (loops .entry) };
+      size = size;
+      nodes = now (nodes .entry);
+      nodeCount = «node_count»;
+      rims = now (rims .entry);
+      cells = now (cells .entry);
+      cellCount = «cell_count»;
+    })
         v (now (nodes .exit)) (now (rims .exit)) (now (cells .exit)) ⌝ }
 {
     let a = marked::divide_marked(
@@ -153,7 +163,16 @@ pub extern "C" fn ring_divide_marked_set(
     cell_count: usize,
 ) -> Row
     ensures { λ v. ⌜ MarkedPromise (record { cuts = cuts; corner = corner; least = least; greatest = greatest; share = share })
-        (record { ring = now (ring .entry); marking = record { kinds = now (kinds .entry); snaps = now (snaps .entry); outline = now (outline .entry); loops = now (loops .entry) }; size = size; nodes = now (nodes .entry); nodeCount = «node_count»; rims = now (rims .entry); cells = now (cells .entry); cellCount = «cell_count» })
+        (record {
+          ring = now (ring .entry);
+          marking = record { kinds = now (kinds .entry); snaps = now (snaps .entry); outline = now (outline .entry); loops = now (loops .entry) };
+          size = size;
+          nodes = now (nodes .entry);
+          nodeCount = «node_count»;
+          rims = now (rims .entry);
+          cells = now (cells .entry);
+          cellCount = «cell_count»;
+        })
         v (now (nodes .exit)) (now (rims .exit)) (now (cells .exit)) ⌝ }
 {
     let limits = set_of(corner, least, greatest, cuts, share);
@@ -186,8 +205,8 @@ pub extern "C" fn ring_divide_practice(
     cells: &mut [NodeNumber],
     cell_count: usize,
 ) -> Row
-    ensures { λ v. ⌜ Practice.PracticePromise (record { ring = now (ring .entry); chain = now (chain .entry); size = size; nodes = now (nodes .entry); nodeCount = «node_count»; rims = now (rims .entry); cells = now (cells .entry); cellCount = «cell_count» })
-        v (now (nodes .exit)) (now (rims .exit)) (now (cells .exit)) ⌝ }
+    ensures { λ v. ⌜ Practice.PracticePromise (lent (now (ring .entry)) (now (chain .entry)) size (now (nodes .entry)) «node_count» (now (rims .entry))
+        (now (cells .entry)) «cell_count») v (now (nodes .exit)) (now (rims .exit)) (now (cells .exit)) ⌝ }
 {
     let a = practice::divide_practice(
         ring,
@@ -219,7 +238,8 @@ pub extern "C" fn blocks_write(
     number: u32,
     out: &mut [u8],
 ) -> u64
-    ensures { λ r. ⌜ (r ≡ Write.refusal (now (ring .entry)) (now (chain .entry)) size number (length (now (out .entry)))) × (now (out .exit) ≡ Write.written (now (ring .entry)) (now (chain .entry)) size number (now (out .entry))) ⌝ }
+    ensures { λ r. ⌜ (r ≡ Write.refusal (now (ring .entry)) (now (chain .entry)) size number (length (now (out .entry))))
+        × (now (out .exit) ≡ Write.written (now (ring .entry)) (now (chain .entry)) size number (now (out .entry))) ⌝ }
 {
     writer::blocks_write(ring, chain, size, number, out)
 }
@@ -227,7 +247,8 @@ pub extern "C" fn blocks_write(
 // The cell sheet of the first `node_count` nodes: 0, or the refusal 3 or 17.
 #[no_mangle]
 pub extern "C" fn node_sheet(nodes: &[f64], node_count: usize, out: &mut [u8]) -> u64
-    ensures { λ r. ⌜ (r ≡ Sheet.answer (now (nodes .entry)) «node_count» (now (out .entry))) × (now (out .exit) ≡ Sheet.left (now (nodes .entry)) «node_count» (now (out .entry))) ⌝ }
+    ensures { λ r. ⌜ (r ≡ Sheet.answer (now (nodes .entry)) «node_count» (now (out .entry)))
+        × (now (out .exit) ≡ Sheet.left (now (nodes .entry)) «node_count» (now (out .entry))) ⌝ }
 {
     listing::node_sheet(nodes, node_count, out)
 }

@@ -1,7 +1,7 @@
 -- The scans of refusals 13 and 14, place by place: kinds, given points and loops. The sum of the loops stops past 60, where the outline has too few points for it.
 use Prim.Native.Nat.{ℕ, _+_, _*_, _-_, _/_, _≤_, _<_}
 use native.Mathlib.Omega.{arith}
-use mathlib.Core.Path.{_≡_, refl, sym, ap, _∙_, subst}
+use mathlib.Core.Path.{_≡_, sym, ap, _∙_, subst}
 use mathlib.Core.Bool.{Bool, true, false, not, _||_}
 use mathlib.Core.List.{List, [], _++_}
 use lib.IntN.{ℤ}
@@ -11,7 +11,7 @@ use lib.Dec.{T, ltb, eqb}
 use lib.Ieee.{Float}
 use borrow.Author.Tests.{lt-ltb, ltb-false, ne-eqb, eqb-true}
 use Rattle.laws.specs.Bounded.{any}
-use Rattle.laws.proofs.Booleans.{is-true, is-false, not-of}
+use Rattle.laws.proofs.Booleans.{is-true, is-false, not-of, neither, or-true}
 use Rattle.laws.proofs.Search.{any-hit, any-none}
 use Rattle.laws.proofs.Table.{length-tab}
 use Rattle.vector.specs.declared.GridPoint.{GridPoint}
@@ -22,14 +22,9 @@ use Rattle.outline.proofs.Scan.{total-up, sum-more, segments-front, loops-few}
 use Rattle.nodes.specs.Flat.{nodeIn}
 use Rattle.call.specs.Lent.{pointIn, pointsIn}
 use Rattle.call.specs.Marked.{markOut, calledFor, loopsOut, outlineOut}
-use Rattle.call.proofs.Tests.{or-no}
 use Rattle.call.proofs.Marked.{Outlined, outline-in}
 use Rattle.given.specs.declared.LeadLine.{LeadLine}
 use Rattle.given.specs.Steps.{OutlineRead}
-
-pub any-zero : (p : ℕ → Bool) → any p 0 ≡ false
-unfolding any
-any-zero p = refl
 
 abbrev pub calls : List ℕ → ℕ → Bool
 calls kinds i = eqb (getD kinds i 0) 2
@@ -40,10 +35,6 @@ outAt kinds snaps i = markOut (getD kinds i 0) (nodeIn snaps i)
 -- ---- loops
 abbrev pub short : List ℕ → ℕ → Bool
 short ms i = ltb (getD ms i 0) 3
-
-or-true : (a : Bool) → (a || true) ≡ true
-or-true true = refl
-or-true false = refl
 
 module _ (ms : List ℕ) (n : ℕ) where
   pub loop-short : (i : ℕ) → i < length ms → getD ms i 0 < 3 → true ≡ loopsOut ms n
@@ -70,7 +61,7 @@ module _ (ms : List ℕ) (n : ℕ) where
   pub loops-whole : loopsOut ms n ≡ false → (total ms ≡ n) × (3 * length ms ≤ n)
   unfolding loopsOut
   loops-whole e =
-      let a = or-no (any (short ms) (length ms)) (not (eqb (total ms) n)) e in
+      let a = neither (any (short ms) (length ms)) (not (eqb (total ms) n)) e in
       let s = eqb-true (total ms) n (is-true (eqb (total ms) n) (a .1)) in
       let f = loops-few ms (λ i l. ltb-false (getD ms i 0) 3 (is-false (short ms i) (any-none (short ms) (length ms) (not-of (any (short ms) (length ms)) (a .0)) i l))) in
       (s, omega (arith, s, f))

@@ -12,10 +12,9 @@ use Rattle.nodes.specs.Flat.{over}
 use Rattle.quads.specs.Flat.{overCells}
 use Rattle.call.specs.Lent.{Lent, divideLent}
 use Rattle.call.specs.Divide.{CallAnswer}
-use Rattle.blocks.proofs.Counts.{points}
 use Rattle.blocks.specs.declared.Block.{Block}
 use Rattle.blocks.specs.declared.Block.the-variants.{Ring, Chain, Refused}
-use Rattle.blocks.specs.Blocks.{readBlock}
+use Rattle.blocks.specs.Blocks.{points, readBlock}
 use Rattle.told.specs.declared.Told.{Told}
 use Rattle.told.specs.declared.Told.the-variants as Told
 use Rattle.told.specs.Text.{toldText, CanTell}

@@ -1,16 +1,15 @@
 -- Tests of a line in the order in which the code makes them, and where a search for a word's ends stands.
-use Prim.Native.Nat.{ℕ, _+_, _-_, _*_, _^_, _≤_, _<_}
-use mathlib.Core.Path.{_≡_, refl, sym, ap, _∙_}
-use mathlib.Core.Bool.{Bool, true, false, _&&_, _||_, not, cond}
+use Prim.Native.Nat.{ℕ, _≤_, _<_}
+use mathlib.Core.Path.{_≡_, refl, ap, _∙_}
+use mathlib.Core.Bool.{Bool, true, false, _&&_, not, cond}
 use mathlib.Core.List.{List}
 use native.Mathlib.Omega.{arith}
-use lib.ListN.{length, getD, take, drop}
+use lib.ListN.{length}
 use lib.Dec.{ltb, leb, eqb}
 use borrow.Author.Tests.{leb-true, lt-ltb, le-ltb, eq-eqb, ne-eqb}
 use Rattle.text.specs.Text.{bytes}
 use Rattle.numeral.specs.Numeral.{read}
 use Rattle.lines.specs.declared.Heard.{Heard}
-use Rattle.laws.specs.Bounded.{any, first}
 use Rattle.numeral.specs.declared.Said.{Said}
 use Rattle.lines.specs.Line as Line
 
@@ -28,36 +27,38 @@ small-size n e = last (n .number) (not (n .minus)) (not (ltb 1 (n .scale))) (not
     last false b c d x e g = absurd (let z : _≡_ {A = ℕ} 0 1 = cc in omega arith)
 
 -- no numbers are held
-pub plain-held : (kind size : ℕ) → Line.Held (Line.plain kind size)
-plain-held kind size = record { x = omega arith; y = omega arith }
+pub plain-on-sheet : (kind size : ℕ) → Line.HeardOnSheet (Line.plain kind size)
+plain-on-sheet kind size = record { x = omega arith; y = omega arith }
 
-ring-held : (n : Said) → Line.Held (Line.ringLine n)
+ring-on-sheet : (n : Said) → Line.HeardOnSheet (Line.ringLine n)
 unfolding Line.ringLine
-ring-held n = go (Line.sizeGood n)
+ring-on-sheet n = go (Line.sizeGood n)
   where
-    go : (t : Bool) → Line.Held (cond t (Line.plain 1 (n .value)) (Line.plain 22 0))
-    go true = plain-held 1 (n .value)
-    go false = plain-held 22 0
+    go : (t : Bool) → Line.HeardOnSheet (cond t (Line.plain 1 (n .value)) (Line.plain 22 0))
+    go true = plain-on-sheet 1 (n .value)
+    go false = plain-on-sheet 22 0
 
-chain-held : (n : ℕ) → Line.Held (Line.chainLine n)
+chain-on-sheet : (n : ℕ) → Line.HeardOnSheet (Line.chainLine n)
 unfolding Line.chainLine
-chain-held n = go (eqb n 0)
+chain-on-sheet n = go (eqb n 0)
   where
-    go : (t : Bool) → Line.Held (cond t (Line.plain 2 0) (Line.plain 21 0))
-    go true = plain-held 2 0
-    go false = plain-held 21 0
+    go : (t : Bool) → Line.HeardOnSheet (cond t (Line.plain 2 0) (Line.plain 21 0))
+    go true = plain-on-sheet 2 0
+    go false = plain-on-sheet 21 0
 
 -- ---- the words v and w
 module _ (v w : List ℕ) (r : Heard) where
-  pub ring-words : (n : Said) → Line.same v (bytes "ring") ≡ true → n ≡ read w → r ≡ Line.ringLine n → (r ≡ Line.words v w) × Line.Held r
+  pub ring-words : (n : Said) → Line.same v (bytes "ring") ≡ true → n ≡ read w → r ≡ Line.ringLine n → (r ≡ Line.words v w) × Line.HeardOnSheet r
   unfolding Line.words
-  ring-words n t e d = (d ∙ ap Line.ringLine e ∙ rw t, rw d (ring-held n))
+  ring-words n t e d = (d ∙ ap Line.ringLine e ∙ rw t, rw d (ring-on-sheet n))
 
-  pub chain-words : Line.same v (bytes "ring") ≡ false → Line.same v (bytes "chain") ≡ true → r ≡ Line.chainLine (length w) → (r ≡ Line.words v w) × Line.Held r
+  pub chain-words : Line.same v (bytes "ring") ≡ false → Line.same v (bytes "chain") ≡ true → r ≡ Line.chainLine (length w)
+      → (r ≡ Line.words v w) × Line.HeardOnSheet r
   unfolding Line.words
-  chain-words t u d = (d ∙ rw (t, u), rw d (chain-held (length w)))
+  chain-words t u d = (d ∙ rw (t, u), rw d (chain-on-sheet (length w)))
 
-  pub point-words : (x y : Said) → Line.same v (bytes "ring") ≡ false → Line.same v (bytes "chain") ≡ false → x ≡ read v → y ≡ read w → r ≡ Line.pointLine x y → r ≡ Line.words v w
+  pub point-words : (x y : Said) → Line.same v (bytes "ring") ≡ false → Line.same v (bytes "chain") ≡ false → x ≡ read v → y ≡ read w → r ≡ Line.pointLine x y
+      → r ≡ Line.words v w
   unfolding Line.words
   point-words x y t u a b d = d ∙ (λ j. Line.pointLine (a j) (b j)) ∙ rw (t, u)
 

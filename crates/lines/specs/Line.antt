@@ -1,5 +1,5 @@
--- A line of a drawing: "A ring is `ring SIZE`, then a line `x y` for each point in mm, .. then, if it has one, `chain` and its points; blank lines .. are skipped".
--- A line is the list of its bytes, its comment taken off. Definitions only.
+-- A line of a drawing: "A ring is `ring SIZE`, then a line `x y` for each point in mm, .. then, if it has one, `chain` and its points; blank lines .. are
+-- skipped". A line is the list of its bytes, its comment taken off. Definitions only.
 use Prim.Native.Nat.{ℕ, _-_, _≤_}
 use mathlib.Core.Bool.{Bool, false, _&&_, _||_, not, cond}
 use mathlib.Core.List.{List}
@@ -8,7 +8,7 @@ use lib.Dec.{ltb, leb, eqb}
 use Rattle.laws.specs.Bounded.{any, first}
 use Rattle.text.specs.Text.{bytes}
 use Rattle.numeral.specs.declared.Said.{Said}
-use Rattle.numeral.specs.Numeral.{read, held}
+use Rattle.numeral.specs.Numeral.{read, capped}
 use Rattle.lines.specs.declared.Heard.{Heard}
 
 -- a space, a tab or a carriage return parts words
@@ -52,7 +52,7 @@ pointOf xm xn ym yn =
     (record { kind = 3; size = 0; x = record { minus = xm; units = xn }; y = record { minus = ym; units = yn } })
 
 unfoldable pub pointLine : Said → Said → Heard
-pointLine x y = cond (x .number && y .number) (pointOf (x .minus) (held (x .value) (x .scale)) (y .minus) (held (y .value) (y .scale))) (plain 21 0)
+pointLine x y = cond (x .number && y .number) (pointOf (x .minus) (capped (x .value) (x .scale)) (y .minus) (capped (y .value) (y .scale))) (plain 21 0)
 
 -- a line of the words v and w, of which the second may be empty
 unfoldable pub words : List ℕ → List ℕ → Heard
@@ -73,6 +73,6 @@ heard w =
     (words (word w a b) (word w c d)))
 
 -- what was heard are coordinates on the sheet, or none
-pub record Held (h : Heard) : Type 0 where
+pub record HeardOnSheet (h : Heard) : Type 0 where
   pub x : h .x .units ≤ 8388608
   pub y : h .y .units ≤ 8388608

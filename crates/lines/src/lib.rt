@@ -153,7 +153,7 @@ fn hear_chain(more: usize) -> Heard
 
 // The point of two counts of units.
 fn point_of(xm: bool, xn: u64, ym: bool, yn: u64) -> Heard
-    ensures { λ r. ⌜ (r ≡ Line.pointOf xm xn ym yn) × Line.Held r ⌝ }
+    ensures { λ r. ⌜ (r ≡ Line.pointOf xm xn ym yn) × Line.HeardOnSheet r ⌝ }
 {
     if 8388608 < xn {
         return Heard::plain(BEYOND, 0);
@@ -179,7 +179,7 @@ fn point_of(xm: bool, xn: u64, ym: bool, yn: u64) -> Heard
 
 fn hear_point(x: Said, y: Said) -> Heard
     requires { ⌜ Scaled x × Scaled y ⌝ }
-    ensures { λ r. ⌜ (r ≡ Line.pointLine x y) × Line.Held r ⌝ }
+    ensures { λ r. ⌜ (r ≡ Line.pointLine x y) × Line.HeardOnSheet r ⌝ }
 {
     if !x.number {
         return Heard::plain(UNKNOWN, 0);
@@ -194,7 +194,7 @@ fn hear_point(x: Said, y: Said) -> Heard
 
 // A line of one word, or of two.
 fn hear_words(first: &[u8], second: &[u8]) -> Heard
-    ensures { λ r. ⌜ (r ≡ Line.words (now (first .entry)) (now (second .entry))) × Line.Held r ⌝ }
+    ensures { λ r. ⌜ (r ≡ Line.words (now (first .entry)) (now (second .entry))) × Line.HeardOnSheet r ⌝ }
 {
     if same(first, b"ring") {
         return hear_size(numeral::read(second));
@@ -209,7 +209,7 @@ fn hear_words(first: &[u8], second: &[u8]) -> Heard
 
 // What the line says.
 pub fn hear(line: &[u8]) -> Heard
-    ensures { λ r. ⌜ (r ≡ Line.heard (now (line .entry))) × Line.Held r ⌝ }
+    ensures { λ r. ⌜ (r ≡ Line.heard (now (line .entry))) × Line.HeardOnSheet r ⌝ }
 {
     let a = start_of(line, 0);
     if a == line.len() {

@@ -1,29 +1,21 @@
 -- The tests of the sheet as the code makes them.
 use Prim.Native.Nat.{ℕ, _+_, _*_, _/_, _≤_, _<_}
 use native.Mathlib.Omega.{arith}
-use mathlib.Core.Path.{_≡_, sym, ap, _∙_, subst}
-use mathlib.Core.Bool.{true, false, not, _&&_, _||_}
+use mathlib.Core.Path.{_≡_, sym, _∙_, subst}
+use mathlib.Core.Bool.{true, false, not, _||_}
 use mathlib.Core.List.{List}
-use lib.IntN.{pos}
 use lib.Dec.{T, ltb}
 use borrow.Author.Tests.{ltb-false, lt-ltb, le-ltb}
 use lib.ListN.{length, getD}
-use lib.Ieee.{Float, nan, fin, le}
-use lib.Ieee.Fits.{and-l, and-r}
+use lib.Ieee.{Float, nan}
 use Rattle.laws.specs.Within.{Within}
-use Rattle.laws.proofs.Between.{tested-1024}
 use Rattle.laws.proofs.Booleans.{neither, not-not, is-true}
 use Rattle.laws.proofs.Search.{any-none}
 use Rattle.text.specs.Text.{Written}
 use Rattle.nodes.specs.Nodes.{mostPlaces}
 use Rattle.nodes.specs.Flat.{Usable, held, allHeld}
-use Rattle.nodes.proofs.Ranged.{held-is}
+use Rattle.nodes.proofs.Ranged.{held-within}
 use Rattle.listing.specs.Sheet.{nodesOut, answer, left, lines}
-
-held-within : (x : Float) → T (held x) → Within 1024 x
-held-within x h =
-    let k = subst T (sym (held-is x)) h in
-    tested-1024 x (and-l (le (fin true 1 (pos 10)) x) (le x (fin false 1 (pos 10))) k) (and-r (le (fin true 1 (pos 10)) x) (le x (fin false 1 (pos 10))) k)
 
 each : (l : List Float) (n : ℕ) → T (allHeld l n) → (k : ℕ) → k < n → Within 1024 (getD l k nan)
 unfolding allHeld

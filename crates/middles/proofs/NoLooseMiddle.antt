@@ -1,13 +1,13 @@
--- THEOREM `no-loose-middle-by`, Card 10: of any entry, whatever tests it makes; of the divider call (`no-loose-middle`), and of the same over lent lists (`no-loose-middle-lent`,
--- `no-loose-middle-records`, `no-loose-middle-practice`) and with given marks (`no-loose-middle-marked`). For every set of limits, every ring, wherever its marks come from, and whatever the lists held before: if the ring is
--- accepted, each cut of its log has one middle, a listed node's number m, and one number for each of its two ends.
---   Two pieces in different places lie beside the cut: one has come of the first part that it made, by later cuts of that part or by none, and the other of the second. The cut
---   is a straight edge of both, in one sense or the other.
---   In the cells of both, as the answer's own list has them, the two cells along that edge have m for its middle and the same two numbers for its ends. So it is in every piece
---   that has a straight edge between these ends.
---   m is the number of the straight middle, 0.5 × (a + b) in each coordinate, of the nodes that the two ends have: the first listed node with its key.
--- Why: a listed corner keeps its node, the half sum is the same from either end bit for bit, and a point that was listed keeps its number, also through an attempt that was
--- abandoned. The claim is specs/Middles.OneMiddle.
+-- THEOREM `no-loose-middle-by`, Card 10: of any entry, whatever tests it makes; of the divider call (`no-loose-middle`), and of the same over lent lists
+-- (`no-loose-middle-lent`, `no-loose-middle-records`, `no-loose-middle-practice`) and with given marks (`no-loose-middle-marked`). For every set of limits,
+-- every ring, wherever its marks come from, and whatever the lists held before: if the ring is accepted, each cut of its log has one middle, a listed node's
+-- number m, and one number for each of its two ends.
+--   Two pieces in different places lie beside the cut: one has come of the first part that it made, by later cuts of that part or by none, and the other of
+--   the second. The cut is a straight edge of both, in one sense or the other. In the cells of both, as the answer's own list has them, the two cells along
+--   that edge have m for its middle and the same two numbers for its ends. So it is in every piece that has a straight edge between these ends. m is the
+--   number of the straight middle, 0.5 × (a + b) in each coordinate, of the nodes that the two ends have: the first listed node with its key.
+-- Why: a listed corner keeps its node, the half sum is the same from either end bit for bit, and a point that was listed keeps its number, also through an
+-- attempt that was abandoned. The claim is specs/Middles.OneMiddle.
 use Prim.Native.Nat.{ℕ, suc, _+_, _≤_, _<_}
 use native.Mathlib.Omega.{arith}
 use mathlib.Core.Path.{_≡_, refl, sym, ap, ap₂, _∙_, subst}
@@ -21,7 +21,7 @@ use Rattle.laws.specs.All.{All}
 use Rattle.laws.proofs.Lists.{all-weaken, all-get, mem-get}
 use Rattle.vector.specs.declared.GridPoint.{GridPoint}
 use Rattle.vector.specs.declared.Point.{Point}
-use Rattle.vector.specs.Grid.{origin, at}
+use Rattle.vector.specs.Grid.{at}
 use Rattle.vector.specs.Plane.{inMm}
 use Rattle.marks.specs.declared.EdgeMark.the-variants.{Straight}
 use Rattle.marks.specs.Part.{Part, noPart}
@@ -29,9 +29,9 @@ use Rattle.corner.specs.declared.Limits.{Limits}
 use Rattle.split.specs.Split.{Cut}
 use Rattle.cuts.specs.Counts.{Sound}
 use Rattle.cuts.specs.Provenance as Provenance
-use Rattle.cuts.specs.Provenance.{Side, sides, SameSide, same, turned, firstPartOf, secondPartOf, diagonal, Among, Beside, Carries}
+use Rattle.cuts.specs.Provenance.{Side, noSide, sides, SameSide, same, turned, firstPartOf, secondPartOf, diagonal, Among, Beside, Carries}
 use Rattle.cuts.proofs.Counts.{counted}
-use Rattle.cuts.proofs.Sides.{side-count, side-at}
+use Rattle.cuts.proofs.Sides.{diagonal-straight, side-count, side-at}
 use Rattle.cuts.proofs.Provenance.{followed}
 use Rattle.nodes.specs.Nodes.{noNode, nodeAt, number}
 use Rattle.nodes.specs.Growth.{_≈_, Numbered, nodeFor}
@@ -41,6 +41,7 @@ use Rattle.quads.specs.Quads.{middle, noCell}
 use Rattle.cells.specs.Stages.{markAt}
 use Rattle.cells.specs.Claims.{cornersTo}
 use Rattle.cells.specs.Cover.{Ends}
+use Rattle.cells.proofs.Bound.{middleIn}
 use Rattle.cells.proofs.Middles.{middle-comm}
 use Rattle.table.specs.Refusals.{Refusal, Passes, numbered}
 use Rattle.table.proofs.Refusals.{not-0}
@@ -55,7 +56,7 @@ use Rattle.call.proofs.Demand.{demand3-by}
 use Rattle.call.specs.Marked.{LentMarked, allPoints, markedLists, markedStart, markedTests, divideMarked}
 use Rattle.call.proofs.Marked.{marked-prepared-if}
 use Rattle.middles.specs.Middles.{before, Joins, Along, Meets, onward, backward, listedIn, piece, cellOf, OneMiddle, NoLooseMiddle}
-use Rattle.middles.proofs.Numbers.{middleIn, Shown, AlongBy, along-by, pieces-shown, cells-room}
+use Rattle.middles.proofs.Numbers.{Shown, AlongBy, along-by, pieces-shown, cells-room}
 
 -- ---- lists with values put over their places
 at-put : (l : List Point) (vs : List Point) (i : ℕ) → i < length vs → nodeAt (put l 0 vs) i ≡ nodeAt vs i
@@ -69,13 +70,6 @@ cell-put l n vs i h k =
     ∙ getD-append-add (take n l) vs i noCell
 
 -- ---- the side that a cut became, as an edge of a piece
-noSide : Side
-noSide = Provenance.side origin origin Straight
-
-diagonal-straight : (t : Cut) → diagonal t .mark ≡ Straight
-unfolding diagonal
-diagonal-straight t = refl
-
 alike-ends : (s t : Side) (a b : GridPoint) → SameSide s t → t .a ≡ a → t .b ≡ b → Ends a b (s .a) (s .b) × (t .mark ≡ s .mark)
 alike-ends s t a b same e f = (inl (sym e, sym f), refl)
 alike-ends s t a b turned e f = (inr (sym e, sym f), refl)
@@ -89,7 +83,8 @@ edge-of q d z s k =
     let m = mem-get noSide (k .source) in
     let low : m .place < length (q .points) = subst (λ (n : ℕ). m .place < n) (side-count q s) (m .low) in
     let w = m .is ∙ side-at q s (m .place) noSide low in
-    let h = alike-ends d (k .like) (at (q .points) (m .place)) (at (q .points) (suc (m .place))) (k .alike) (ap (λ (s : Side). s .a) w) (ap (λ (s : Side). s .b) w) in
+    let h =
+    alike-ends d (k .like) (at (q .points) (m .place)) (at (q .points) (suc (m .place))) (k .alike) (ap (λ (s : Side). s .a) w) (ap (λ (s : Side). s .b) w) in
     record { e = m .place; joins = record { of-piece = low; straight = sym (ap (λ (s : Side). s .mark) w) ∙ h .1 ∙ z; ends = h .0 } }
 
 -- ---- a piece whose cells have the numbers of the list ms: the three numbers of a side, and that the cells along each edge between its ends have them
@@ -144,7 +139,12 @@ module _ (ms : List Point) (q : Part) (cell : ℕ → Cell) (shown : Shown ms (q
     three = go (j .ends)
       where
         go : Ends (at (q .points) e) (at (q .points) (suc e)) (s .a) (s .b) → Three
-        go (inl h) = record { u-low = low (by .end-before) (ap inMm (h .0)); m-low = low (by .middle-after) (ap₂ (middleIn ms) (h .0) (h .1)); v-low = low (by .end-after) (ap inMm (h .1)) }
+        go (inl h) =
+            record {
+              u-low = low (by .end-before) (ap inMm (h .0));
+              m-low = low (by .middle-after) (ap₂ (middleIn ms) (h .0) (h .1));
+              v-low = low (by .end-after) (ap inMm (h .1));
+            }
         go (inr h) =
             record {
               u-low = low (by .end-after) (ap inMm (h .1));
@@ -162,7 +162,8 @@ along-as h k a =
       end-after = ap (λ (z : Cell). z .c) (sym k) ∙ a .end-after;
     }
 
-meets-as : {q : Part} {f g : ℕ → Cell} {s : Side} {u m v e : ℕ} → f (before (length (q .points)) e) ≡ g (before (length (q .points)) e) → f e ≡ g e → Meets q f s u m v e → Meets q g s u m v e
+meets-as : {q : Part} {f g : ℕ → Cell} {s : Side} {u m v e : ℕ} → f (before (length (q .points)) e) ≡ g (before (length (q .points)) e) → f e ≡ g e
+    → Meets q f s u m v e → Meets q g s u m v e
 meets-as h k (onward c d a) = onward c d (along-as h k a)
 meets-as h k (backward c d a) = backward c d (along-as h k a)
 
@@ -193,7 +194,8 @@ module _ (L : Limits) (p : Part) (x : Lists) (a : CallAnswer) (sound : Sound p) 
   cell-is : (i k : ℕ) → i < length ps → k < length (piece L p i .points) → newCell i k ≡ cellOf L p x a i k
   cell-is i k h l =
       sym (ap (λ (q : List Cell). getD q (x .cellCount + (cornersTo ps i + k)) noCell) (d .cells)
-      ∙ cell-put (x .cells) (x .cellCount) qs (cornersTo ps i + k) (omega (arith, d .cell-count, d .cells-fit)) (omega (arith, cells-room (L .share) ps (usedIn x) i h)))
+      ∙ cell-put (x .cells) (x .cellCount) qs (cornersTo ps i + k) (omega (arith, d .cell-count, d .cells-fit))
+      (omega (arith, cells-room (L .share) ps (usedIn x) i h)))
 
   shown : (i : ℕ) → i < length ps → Shown ms (piece L p i .points) (markAt (piece L p i)) (newCell i)
   shown i h = pieces-shown (L .share) ps (usedIn x) i h (all-weaken Sound (λ (p : Part). 0 < length (p .points)) (λ p s. omega (arith, s .three)) ps sounds)
@@ -217,7 +219,8 @@ module _ (L : Limits) (p : Part) (x : Lists) (a : CallAnswer) (sound : Sound p) 
       let m = number ms (middleIn ms (s .a) (s .b)) in
       let v = number ms (inMm (s .b)) in
       let w = three ms (piece L p (b .i)) (newCell (b .i)) (shown (b .i) (b .first .low)) s (g .e) (g .joins) in
-      let ends : middleIn ms (s .a) (s .b) ≡ middle (nodeAt (a .nodes) u) (nodeAt (a .nodes) v) = ap₂ middle (sym (node-is u (w .u-low))) (sym (node-is v (w .v-low))) in
+      let ends : middleIn ms (s .a) (s .b) ≡ middle (nodeAt (a .nodes) u) (nodeAt (a .nodes) v) =
+      ap₂ middle (sym (node-is u (w .u-low))) (sym (node-is v (w .v-low))) in
       record {
         u = u;
         m = m;
@@ -277,15 +280,19 @@ pub no-loose-middle-lent : (L : Limits) (l : Lent) → divideLent L l .row .code
 unfolding divideLent
 no-loose-middle-lent L l z = no-loose-middle-of noTest allCells L l z
 
-pub no-loose-middle-records : (L : Limits) (l : LentRecords) → divideRecords L l .row .code ≡ 0 → NoLooseMiddle L (startOf (callOfRecords l)) (listsOf (callOfRecords l)) (divideRecords L l)
+pub no-loose-middle-records : (L : Limits) (l : LentRecords) → divideRecords L l .row .code ≡ 0
+    → NoLooseMiddle L (startOf (callOfRecords l)) (listsOf (callOfRecords l)) (divideRecords L l)
 unfolding divideRecords
 no-loose-middle-records L l z = no-loose-middle-of noTest (λ cs. cs) L l z
 
-pub no-loose-middle-practice : (l : Lent) → dividePractice l .row .code ≡ 0 → NoLooseMiddle practiceSet (startOf (callOf l)) (listsOf (callOf l)) (dividePractice l)
+pub no-loose-middle-practice : (l : Lent) → dividePractice l .row .code ≡ 0
+    → NoLooseMiddle practiceSet (startOf (callOf l)) (listsOf (callOf l)) (dividePractice l)
 unfolding dividePractice
 no-loose-middle-practice l z = no-loose-middle-of over24 allCells practiceSet l z
 
 -- with given marks
-pub no-loose-middle-marked : (L : Limits) (l : LentMarked) → divideMarked L l .row .code ≡ 0 → NoLooseMiddle L (markedStart l) (markedLists l) (divideMarked L l)
+pub no-loose-middle-marked : (L : Limits) (l : LentMarked) → divideMarked L l .row .code ≡ 0
+    → NoLooseMiddle L (markedStart l) (markedLists l) (divideMarked L l)
 unfolding divideMarked
-no-loose-middle-marked L l z = no-loose-middle-by L (length (allPoints (l .ring))) (markedStart l) (markedLists l) (markedTests L l) tt (marked-prepared-if L l) z
+no-loose-middle-marked L l z =
+    no-loose-middle-by L (length (allPoints (l .ring))) (markedStart l) (markedLists l) (markedTests L l) tt (marked-prepared-if L l) z

@@ -1,5 +1,5 @@
--- 02, Card 10, No loose middle: "Cells on either side of a cut must meet along it, or the score wanders. For every accepted ring and every cut made in it, show one node number
--- that is the middle of that cut in the cells of both parts beside it, through all later cuts of those parts." Definitions only.
+-- 02, Card 10, No loose middle: "Cells on either side of a cut must meet along it, or the score wanders. For every accepted ring and every cut made in it,
+-- show one node number that is the middle of that cut in the cells of both parts beside it, through all later cuts of those parts." Definitions only.
 use Prim.Native.Nat.{ℕ, suc, _+_, _-_, _%_, _<_}
 use mathlib.Core.Path.{_≡_}
 use mathlib.Core.List.{List}
@@ -35,8 +35,8 @@ pub record Joins (q : Part) (s : Side) (e : ℕ) : Type 0 where
   pub straight : markAt q e ≡ Straight
   pub ends : Ends (at (q .points) e) (at (q .points) (suc e)) (s .a) (s .b)
 
--- "Cell k is centre, middle k, corner k + 1, middle k + 1": so two cells of a piece of n corners lie along its edge e, the cell before and cell e. In these two the edge's
--- first end has the number u, its middle m and its other end v
+-- "Cell k is centre, middle k, corner k + 1, middle k + 1": so two cells of a piece of n corners lie along its edge e, the cell before and cell e. In these
+-- two the edge's first end has the number u, its middle m and its other end v
 pub record Along (cell : ℕ → Cell) (n e u m v : ℕ) : Type 0 where
   pub end-before : cell (before n e) .c ≡ u
   pub middle-before : cell (before n e) .d ≡ m
@@ -76,7 +76,8 @@ pub record OneMiddle (L : Limits) (p : Part) (x : Lists) (a : CallAnswer) (t : C
   pub u-listed : u < a .row .nodes
   pub m-listed : m < a .row .nodes
   pub v-listed : v < a .row .nodes
-  -- "both parts beside it, through all later cuts of those parts": piece i has come of the first part that the cut made, piece j of the second, and they are two
+  -- "both parts beside it, through all later cuts of those parts": piece i has come of the first part that the cut made, piece j of the second, and they are
+  -- two
   pub i : ℕ
   pub j : ℕ
   pub i-low : i < length (piecesOf L p)

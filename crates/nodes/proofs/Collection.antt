@@ -27,7 +27,8 @@ use Rattle.nodes.proofs.Flat.{length-in, node-in, at-over}
 use Rattle.nodes.specs.declared.nearby.Span.{Span}
 use Rattle.nodes.specs.declared.nearby.Window.{Window}
 use Rattle.nodes.specs.declared.nearby.Nearby.{Nearby}
-use Rattle.nodes.specs.Nearby.{mostNearby, Spans, Framed, insideAt, inside, xsOf, surrounds, Collected, ValidNearby, NearbyLists, hasListed, strictly, inSpan, wellIn}
+use Rattle.nodes.specs.Nearby.{mostNearby, Spans, Framed, insideAt, inside, xsOf, surrounds, Collected, ValidNearby, NearbyLists, hasListed}
+use Rattle.nodes.specs.Nearby.{strictly, inSpan, wellIn}
 use Rattle.nodes.specs.Nearby.{wellInside}
 use Rattle.nodes.proofs.Scan.{has-is, not-near, fewer, found-is}
 use Rattle.keys.proofs.Rounding.{wider}
@@ -115,13 +116,15 @@ listed-is l n count numbers xs kx ky j c h =
     let k = getD numbers j 0 in
     has-is l kx ky k ∙ ap (λ (x : Float). eqZ kx (key x) && eqZ ky (key (getD l (k * 2 + 1) nan))) (sym (c .same j h))
 
-pub not-close : (l : List Float) (n count : ℕ) (numbers : List ℕ) (xs : List Float) (kx : SoughtKey) (ky : ℤ) (j : ℕ) → NearbyLists l n numbers xs count → Sought kx
+pub not-close : (l : List Float) (n count : ℕ) (numbers : List ℕ) (xs : List Float) (kx : SoughtKey) (ky : ℤ) (j : ℕ) → NearbyLists l n numbers xs count
+    → Sought kx
     → Usable l n → j < count → near (kx .scaled) (getD xs j nan) ≡ false → hasListed l numbers (keyOf kx) ky j ≡ false
 not-close l n count numbers xs kx ky j c so u h e =
     not-near l kx ky (getD numbers j 0) so (u .ranged (getD numbers j 0) (c .low j h) .0) (ap (near (kx .scaled)) (sym (c .same j h)) ∙ e)
 
 -- fewer of them
-pub lists-fewer : (l : List Float) (n count m : ℕ) (numbers : List ℕ) (xs : List Float) → m ≤ count → NearbyLists l n numbers xs count → NearbyLists l n numbers xs m
+pub lists-fewer : (l : List Float) (n count m : ℕ) (numbers : List ℕ) (xs : List Float) → m ≤ count → NearbyLists l n numbers xs count
+    → NearbyLists l n numbers xs m
 lists-fewer l n count m numbers xs h c =
     record {
       places = c .places;

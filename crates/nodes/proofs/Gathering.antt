@@ -19,7 +19,8 @@ use Rattle.nodes.specs.Flat.{nodeIn}
 use Rattle.nodes.specs.declared.nearby.Span.{Span}
 use Rattle.nodes.specs.declared.nearby.Window.{Window}
 use Rattle.nodes.specs.declared.nearby.Nearby.{Nearby}
-use Rattle.nodes.specs.Nearby.{mostNearby, chosen, Framed, inSpan, insideAt, inside, xsOf, counted, laid, nearby, Gathered, GoesOn, Collected, ValidNearby}
+use Rattle.nodes.specs.Nearby.{mostNearby, chosen, Framed, inSpan, insideAt, inside, xsOf, counted, laid, nearby, Gathered, GoesOn, Collected}
+use Rattle.nodes.specs.Nearby.{ValidNearby}
 use Rattle.nodes.proofs.Chosen.{beyond, pass, hit, skip}
 
 -- where branches join

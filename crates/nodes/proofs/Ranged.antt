@@ -9,15 +9,23 @@ use lib.IntN.{pos}
 use lib.Dec.{T}
 use lib.ListN.{getD}
 use lib.Ieee.{Float, nan, fin, le}
+use lib.Ieee.Fits.{and-l, and-r}
 use Rattle.laws.specs.Bounded.{any}
-use Rattle.laws.proofs.Booleans.{is-false}
+use Rattle.laws.specs.Within.{Within}
+use Rattle.laws.proofs.Between.{tested-1024}
 use Rattle.laws.proofs.Constants.{least-1024, most-1024}
-use Rattle.laws.proofs.Search.{any-none, any-fails, any-hit}
+use Rattle.laws.proofs.Search.{any-at, any-fails, any-hit}
 use Rattle.nodes.specs.Flat.{nodeIn, held, allHeld}
 
 pub held-is : (x : Float) → (le (fin true 1 (pos 10)) x && le x (fin false 1 (pos 10))) ≡ held x
 unfolding held
 held-is x = sym (λ j. le (least-1024 j) x && le x (most-1024 j))
+
+-- a number that is held is finite and within 1,024 mm
+pub held-within : (x : Float) → T (held x) → Within 1024 x
+held-within x h =
+    let k = subst T (sym (held-is x)) h in
+    tested-1024 x (and-l (le (fin true 1 (pos 10)) x) (le x (fin false 1 (pos 10))) k) (and-r (le (fin true 1 (pos 10)) x) (le x (fin false 1 (pos 10))) k)
 
 -- the number in place i is not
 abbrev pub out : List Float → ℕ → Bool
@@ -41,9 +49,6 @@ some p b (suc d) n h e = go (any (λ j. p (b + j)) d) (p (b + d)) (some p b d n 
     go true y u v w = u refl
     go false y u v w = v w
 
-low : (p : ℕ → Bool) (n k : ℕ) → any p n ≡ false → k < n → p k ≡ false
-low p n k e h = is-false _ (any-none p n (subst (λ (b : Bool). T (not b)) (sym e) tt) k h)
-
 -- one of the d numbers before place t is not held
 pub one-of : (l : List Float) (d t n : ℕ) → d ≤ t → t ≤ n → any (λ j. out l (t - d + j)) d ≡ true → false ≡ allHeld l n
 unfolding allHeld
@@ -54,10 +59,10 @@ pub go-on : (l : List Float) (d i t : ℕ) → d ≤ t → t ≤ i + d → any (
 go-on l d i t h k a b = any-fails (out l) t (λ m q. go m q (decLe (suc m) i))
   where
     go : (m : ℕ) → m < t → Dec (m < i) → out l m ≡ false
-    go m q (yes y) = low (out l) i m a y
+    go m q (yes y) = any-at (out l) i a m y
     go m q (no z) =
         let f : t - d + (m - (t - d)) ≡ m = omega (arith, q, h, k) in
-        subst (λ (u : ℕ). out l u ≡ false) f (low (λ j. out l (t - d + j)) d (m - (t - d)) b (omega (arith, q, h)))
+        subst (λ (u : ℕ). out l u ≡ false) f (any-at (λ j. out l (t - d + j)) d b (m - (t - d)) (omega (arith, q, h)))
 
 -- ---- nodes
 both : (a b c : Bool) → (c || not (a && b)) ≡ ((c || not a) || not b)

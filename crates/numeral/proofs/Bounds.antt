@@ -1,20 +1,20 @@
 -- How large the numbers of a scan get, byte by byte; that the two steps of `units` are the one division; and signs.
 use Prim.Native.Nat.{ℕ, zero, suc, _+_, _-_, _*_, _/_, _%_, _^_, _≤_, _<_}
 use mathlib.Core.Path.{_≡_, refl, sym, ap, _∙_}
-use mathlib.Core.Bool.{Bool, true, false, _||_, _&&_, not, cond}
+use mathlib.Core.Bool.{Bool, true, false, _||_, _&&_, not}
 use mathlib.Core.List.{List, [], _∷_}
 use native.Mathlib.Nat.{pow-succ', pow-le-pow-right, div-add-mod', add-mul-div-left, mul-assoc, mul-comm, mul-left-comm, mod-lt, div-lt-iff-lt-mul}
 use native.Mathlib.Omega.{arith}
 use lib.ListN.{length, getD, take, drop, length-drop}
 use lib.Seq.{take-all}
 use lib.Dec.{ltb, eqb}
-use lib.IntN.{ℤ, pos, negsuc, _-ℤ_, negℤ, +ℤ-idl}
+use lib.IntN.{ℤ, pos, _-ℤ_, negℤ, +ℤ-idl}
 use mir.Syntax.{w32}
 use mir.Val.{toZ, ofZ, SFits}
 use mir.ValLaws.{toZ-pos, toZ-ofZ}
-use borrow.Author.Tests.{ltb-true, ltb-false, eqb-true, lt-ltb, le-ltb}
+use borrow.Author.Tests.{ltb-false, lt-ltb, le-ltb}
 use Rattle.numeral.specs.declared.Met.{Met}
-use Rattle.numeral.specs.Numeral.{noDigit, scaled, more, scanTo, scanned, whole, signs, read, Small, Scaled, units, held, signed}
+use Rattle.numeral.specs.Numeral.{noDigit, scaled, more, scanTo, scanned, whole, signs, read, Small, Scaled, units, capped, signed}
 
 -- after i bytes
 pub record Below (s : Met) (i : ℕ) : Type 0 where
@@ -77,7 +77,9 @@ module _ (n d : ℕ) (h : 0 < d) where
       omega (arith, e, w)
     where
       twice : (a b : ℕ) → 2 * a * (b * 8192) ≡ b * a * 16384
-      twice a b = let p : 2 * a * (b * 8192) ≡ 2 * 8192 * (a * b) = simp (mul-assoc, mul-comm, mul-left-comm) in let q : b * a ≡ a * b = mul-comm b a in omega (arith, p, q)
+      twice a b =
+          let p : 2 * a * (b * 8192) ≡ 2 * 8192 * (a * b) = simp (mul-assoc, mul-comm, mul-left-comm) in
+          let q : b * a ≡ a * b = mul-comm b a in omega (arith, p, q)
 
   pub two-steps : n / d * 8192 + (n % d * 16384 + d) / (2 * d) ≡ units n d
   unfolding units
@@ -93,17 +95,17 @@ module _ (n d : ℕ) (h : 0 < d) where
       let z : (n % d * 16384 + d) / (2 * d) < 8193 = div-lt-iff-lt-mul {k = 2 * d} {x = n % d * 16384 + d} {y = 8193} (omega arith) .1 (omega arith) in
       omega arith
 
-  pub far : 1024 < n / d → held n d ≡ 8388609
-  unfolding held
+  pub far : 1024 < n / d → capped n d ≡ 8388609
+  unfolding capped
   far k = let e = two-steps in rw (lt-ltb 8388608 (units n d) (omega arith))
 
-  pub held-far : (m : ℕ) → m ≡ units n d → 8388608 < m → held n d ≡ 8388609
-  unfolding held
-  held-far m e k = rw (lt-ltb 8388608 (units n d) (omega arith))
+  pub capped-far : (m : ℕ) → m ≡ units n d → 8388608 < m → capped n d ≡ 8388609
+  unfolding capped
+  capped-far m e k = rw (lt-ltb 8388608 (units n d) (omega arith))
 
-  pub held-near : (m : ℕ) → m ≡ units n d → m ≤ 8388608 → m ≡ held n d
-  unfolding held
-  held-near m e k = rw (le-ltb 8388608 (units n d) (omega arith)) e
+  pub capped-near : (m : ℕ) → m ≡ units n d → m ≤ 8388608 → m ≡ capped n d
+  unfolding capped
+  capped-near m e k = rw (le-ltb 8388608 (units n d) (omega arith)) e
 
 -- signs
 negative : (n : ℕ) → negℤ (pos n) ≡ signed true n
@@ -154,7 +156,8 @@ module _ (w : List ℕ) (f : ℕ) (e : f ≡ signs w) where
   unfolding read
   reads s q h a b =
       let d : s ≡ scanned (drop (signs w) w) = a ∙ ap scanned body in
-      rw (behind, le-ltb 19 (length w - f) h) (λ j. record { number = (b ∙ ap (λ (m : Met). whole m (length w - f)) d) j; minus = eqb (e j) 1; value = d j .value; scale = d j .scale })
+      rw (behind, le-ltb 19 (length w - f) h)
+      (λ j. record { number = (b ∙ ap (λ (m : Met). whole m (length w - f)) d) j; minus = eqb (e j) 1; value = d j .value; scale = d j .scale })
 
   pub few-met : (s : Met) → length w - f ≤ 19 → s ≡ scanned (take (length w - f) (drop f w)) → s .digits + s .points ≤ 100
   unfolding scanned
@@ -163,11 +166,15 @@ module _ (w : List ℕ) (f : ℕ) (e : f ≡ signs w) where
       let k : length l ≤ 19 = rw body (rw behind h) in
       rw a (omega (arith, below l (length l) .few))
 
-  pub scaled-so : (s : Met) (q : Bool) → s ≡ scanned (take (length w - f) (drop f w)) → q ≡ whole s (length w - f) → Scaled (record { number = q; minus = eqb f 1; value = s .value; scale = s .scale })
+  pub scaled-so : (s : Met) (q : Bool) → s ≡ scanned (take (length w - f) (drop f w)) → q ≡ whole s (length w - f)
+      → Scaled (record { number = q; minus = eqb f 1; value = s .value; scale = s .scale })
   unfolding scanned whole
   scaled-so s q a b =
       let l : List ℕ = take (length w - f) (drop f w) in
-      record { some = rw a (below l (length l) .one); few = λ t. third (not (eqb (s .digits) 0)) (not (ltb 1 (s .points))) (ltb (10 ^ 14) (s .scale)) _ (sym b ∙ t) refl }
+      record {
+        some = rw a (below l (length l) .one);
+        few = λ t. third (not (eqb (s .digits) 0)) (not (ltb 1 (s .points))) (ltb (10 ^ 14) (s .scale)) _ (sym b ∙ t) refl;
+      }
     where
       third : (x y z v : Bool) → (x && y && not z && v) ≡ true → ltb (10 ^ 14) (s .scale) ≡ z → s .scale ≤ 10 ^ 14
       third true true false v e g = ltb-false (10 ^ 14) (s .scale) g

@@ -1,10 +1,9 @@
 -- Numbers as a person writes them, by computation: what they say, and their units. An exact half needs 14 decimals, since 1/16384 has as many.
-use Prim.Native.Nat.{ℕ}
-use mathlib.Core.Bool.{Bool, true, false}
+use mathlib.Core.Bool.{true, false}
 use mathlib.Core.Path.{_≡_, refl}
-use mathlib.Core.List.{List, [], _∷_}
-use lib.IntN.{pos, negsuc}
-use Rattle.numeral.specs.Numeral.{noDigit, scaled, more, scanTo, scanned, whole, signs, read, units, held, signed}
+use mathlib.Core.List.{[], _∷_}
+use lib.IntN.{negsuc}
+use Rattle.numeral.specs.Numeral.{scaled, more, scanTo, scanned, whole, signs, read, units, capped, signed}
 
 -- 12.5 is 125 / 10, -3 is 3 / 1 with a minus, .5 is 5 / 10
 pub twelve-and-a-half : read (49 ∷ 50 ∷ 46 ∷ 53 ∷ []) ≡ record { number = true; minus = false; value = 125; scale = 10 }
@@ -20,7 +19,8 @@ unfolding scaled more scanTo scanned whole signs read
 point-five = refl
 
 -- "1-2", "1.2.3", "." and "-" are no numbers
-pub no-numbers : (read (49 ∷ 45 ∷ 50 ∷ []) .number ≡ false) × (read (49 ∷ 46 ∷ 50 ∷ 46 ∷ 51 ∷ []) .number ≡ false) × (read (46 ∷ []) .number ≡ false) × (read (45 ∷ []) .number ≡ false)
+pub no-numbers : (read (49 ∷ 45 ∷ 50 ∷ []) .number ≡ false) × (read (49 ∷ 46 ∷ 50 ∷ 46 ∷ 51 ∷ []) .number ≡ false) × (read (46 ∷ []) .number ≡ false)
+    × (read (45 ∷ []) .number ≡ false)
 unfolding scaled more scanTo scanned whole signs read
 no-numbers = (refl, refl, refl, refl)
 
@@ -37,11 +37,11 @@ pub half-down : signed true (units 6103515625 100000000000000) ≡ negsuc 0
 unfolding units signed
 half-down = refl
 
--- 1,024 mm is held, the next unit is not
-pub last : held 1024 1 ≡ 8388608
-unfolding held units
+-- 1,024 mm is as it is, the next unit is capped
+pub last : capped 1024 1 ≡ 8388608
+unfolding capped units
 last = refl
 
-pub past-last : held 10240001 10000 ≡ 8388609
-unfolding held units
+pub past-last : capped 10240001 10000 ≡ 8388609
+unfolding capped units
 past-last = refl

@@ -1,5 +1,5 @@
--- What "the nearest 1/8192 mm, halves away from zero" means, without division: over the exact numbers n / d mm and U / 8192 mm, multiplied out. A number and its
--- coordinate have one sign, so that away from zero is up in size. proofs/NearestUnit proves it.
+-- What "the nearest 1/8192 mm, halves away from zero" means, without division: over the exact numbers n / d mm and U / 8192 mm, multiplied out. A number and
+-- its coordinate have one sign, so that away from zero is up in size. proofs/NearestUnit proves it.
 use Prim.Native.Nat.{ℕ, _+_, _*_, _≤_, _<_}
 
 -- U - 1/2 ≤ 8192 · n / d < U + 1/2

@@ -53,8 +53,8 @@ unfoldable pub units : ℕ → ℕ → ℕ
 units n d = (n * 16384 + d) / (2 * d)
 
 -- no coordinate is beyond 1,024 mm, which are 8,388,608 units: one more stands for all that are
-unfoldable pub held : ℕ → ℕ → ℕ
-held n d = cond (ltb 8388608 (units n d)) 8388609 (units n d)
+unfoldable pub capped : ℕ → ℕ → ℕ
+capped n d = cond (ltb 8388608 (units n d)) 8388609 (units n d)
 
 -- with its sign
 unfoldable pub signed : Bool → ℕ → ℤ

@@ -143,7 +143,7 @@ pub fn read(word: &[u8]) -> Said
 // for 64 bits.
 pub fn units(value: u64, scale: u64) -> u64
     requires { ⌜ (0 < scale) × (scale ≤ 10 ^ 14) ⌝ }
-    ensures { λ r. ⌜ (r ≡ Numeral.held value scale) × (r ≤ 8388609) ⌝ }
+    ensures { λ r. ⌜ (r ≡ Numeral.capped value scale) × (r ≤ 8388609) ⌝ }
 {
     let mm = value / scale;
     if 1024 < mm {

@@ -1,8 +1,9 @@
--- THEOREM `as-examined`, Card 8: "A ring of at most 24 points, with a chain of at most 24, in which the examination entry makes 12 cuts or fewer divides alike through either,
--- where the lists hold the examination reserve." For every such call over lent lists (specs/Practice.OnPaper) the practice call and the examination call answer the same row and
--- leave the same nodes, rim marks and cells, except that with 8 each has zeros in its own reserve of cell places (specs/Practice.Alike).
--- THEOREM `as-examined-8`: then the two cell lists differ in no place but those between the end of the practice reserve and that of the examination, where the examination
--- leaves zeros and the practice call what it found.
+-- THEOREM `as-examined`, Card 8: "A ring of at most 24 points, with a chain of at most 24, in which the examination entry makes 12 cuts or fewer divides
+-- alike through either, where the lists hold the examination reserve." For every such call over lent lists (specs/Practice.OnPaper) the practice call and the
+-- examination call answer the same row and leave the same nodes, rim marks and cells, except that with 8 each has zeros in its own reserve of cell places
+-- (specs/Practice.Alike).
+-- THEOREM `as-examined-8`: then the two cell lists differ in no place but those between the end of the practice reserve and that of the examination, where
+-- the examination leaves zeros and the practice call what it found.
 -- THEOREM `both-entries`: the same of what the two entries return and leave, by their promises.
 -- The core is alike for any set of limits and any smaller number of cuts (`core-alike`).
 use Prim.Native.Nat.{ℕ, _+_, _-_, _≤_, _<_, min}
@@ -32,7 +33,7 @@ use Rattle.table.proofs.Refusals.{not-8}
 use Rattle.sets.specs.Sets.{withCuts, practiceSet}
 use Rattle.sets.proofs.Taken.{delivered-taken, practice-taken}
 use Rattle.call.specs.Call.{Lists, usedIn, Call, listsOf, countsOut, over24, unitsOut, listsOut, nodeReserve, cellReserve, roomOut}
-use Rattle.call.specs.Divide.{CallAnswer, put, refused, refusedOr, ringTests, asked, rimsLeft, answered, core, cleanedRing, startOf}
+use Rattle.call.specs.Divide.{CallAnswer, put, refused, refusedOr, ringTests, asked, rimsLeft, answered, core, startOf}
 use Rattle.call.specs.Lent.{allCells, Lent, callOf, odd, testsBy, testsFor, divideLent, dividePractice}
 use Rattle.call.proofs.Tests.{passed}
 use Rattle.call.proofs.Course.{by-tests, by-tests-both, refused-code, start-points}
@@ -52,8 +53,10 @@ module _ (L M : Limits) (r : ℕ) (p : Part) (x : Lists) where
 
   answered-alike : asked M p (usedIn x) ≡ asked L p (usedIn x) → (s : Stack) (o : Outcome) → SameAnswer L M r x (answered L r p x s o) (answered M r p x s o)
   unfolding answered
-  answered-alike q s (done ns cs) = record { row = refl; nodes = refl; rims = marks-alike q (length ns); cells = λ e. refl; cells-8 = λ e. absurd (omega (arith, e)) }
-  answered-alike q s (failed ns n i) = record { row = refl; nodes = refl; rims = marks-alike q (length ns); cells = λ e. absurd (e refl); cells-8 = λ e. (refl, refl) }
+  answered-alike q s (done ns cs) =
+      record { row = refl; nodes = refl; rims = marks-alike q (length ns); cells = λ e. refl; cells-8 = λ e. absurd (omega (arith, e)) }
+  answered-alike q s (failed ns n i) =
+      record { row = refl; nodes = refl; rims = marks-alike q (length ns); cells = λ e. absurd (e refl); cells-8 = λ e. (refl, refl) }
 
 -- what a ring comes to that is split into s
 abbrev laid : Limits → ℕ → Part → Lists → Stack → CallAnswer
@@ -76,7 +79,8 @@ module _ (L : Limits) (k : ℕ) (h : k ≤ L .cuts) (r : ℕ) (p : Part) (x : Li
       by-tests-both x x (ringTests (p .points)) (laid L r p x (splitBadVertices L p)) (laid fewer r p x (splitBadVertices fewer p)) (SameAnswer L fewer r x) tt
       (λ t. refused-alike L fewer r p x (firstOf (ringTests (p .points))) t)
       (λ w. subst (λ (s : Stack). SameAnswer L fewer r x (laid L r p x (splitBadVertices L p)) (laid fewer r p x s)) (sym (same-split L k p h (few w)))
-      (answered-alike L fewer r p x (asked-alike (few w)) (splitBadVertices L p) (piecesTo (L .share) (splitBadVertices L p .pieces) (usedIn x) (length (splitBadVertices L p .pieces)))))
+      (answered-alike L fewer r p x (asked-alike (few w)) (splitBadVertices L p)
+      (piecesTo (L .share) (splitBadVertices L p .pieces) (usedIn x) (length (splitBadVertices L p .pieces)))))
 
 -- ---- the tests
 room-free : (L : Limits) (r : ℕ) (x : Lists) → HoldsReserve L r x → roomOut L r (length (x .nodes) - x .nodeCount) (length (x .cells) - x .cellCount) ≡ false
@@ -159,7 +163,8 @@ module _ (l : List Cell) (u n : ℕ) (fits : u + n ≤ length l) where
   front = length-take-le u l (omega (arith, fits))
 
   zero-before : (i : ℕ) → i < u → getD z i noCell ≡ getD l i noCell
-  zero-before i g = ap (λ (s : List Cell). getD s i noCell) seam ∙ List·getD-append (take u l) rest noCell i (omega (arith, g, front)) ∙ getD-take u l i noCell g
+  zero-before i g =
+      ap (λ (s : List Cell). getD s i noCell) seam ∙ List·getD-append (take u l) rest noCell i (omega (arith, g, front)) ∙ getD-take u l i noCell g
 
   from-front : (i : ℕ) → u ≤ i → getD z i noCell ≡ getD rest (i - u) noCell
   from-front i g =
@@ -218,7 +223,8 @@ module _ (l : Lent) (o : OnPracticePaper (callOf l)) where
       let few = min-less (n - 3) in
       subst (λ (a : List Cell). Differ (y .cells) a (dividePractice l .cells) (y .cellCount) (cellReserve practiceSet n) (cellReserve delivered n)) (sym (z .0))
       (subst (λ (b : List Cell). Differ (y .cells) (zeroed delivered n y) b (y .cellCount) (cellReserve practiceSet n) (cellReserve delivered n)) (sym (z .1))
-      (zeros-differ (y .cells) (y .cellCount) (cellReserve practiceSet n) (cellReserve delivered n) (omega (arith, few)) (omega (arith, o .reserve .cells, passed-8 l e))))
+      (zeros-differ (y .cells) (y .cellCount) (cellReserve practiceSet n) (cellReserve delivered n) (omega (arith, few))
+      (omega (arith, o .reserve .cells, passed-8 l e))))
 
   -- the examination entry returned v and left the nodes m, the rim marks r and the cells p; the practice entry w, k, t and q
   pub both-entries : (v w : Row) (m k : List Float) (r t p q : List ℕ) → Examination.Promise delivered l v m r p → PracticePromise l w k t q

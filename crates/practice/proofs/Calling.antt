@@ -1,5 +1,5 @@
--- The practice call by its own test: where 16 is due it is refused (`practice-refused`), and else it is the divider call with the practice set (`practice-divided`), each with
--- the promise of the entry. As a call of a list of calls it leaves what call/specs/LentCalls says (`as-called`).
+-- The practice call by its own test: where 16 is due it is refused (`practice-refused`), and else it is the divider call with the practice set
+-- (`practice-divided`), each with the promise of the entry. As a call of a list of calls it leaves what call/specs/LentCalls says (`as-called`).
 use Prim.Native.Nat.{ℕ, _-_, _/_}
 use native.Mathlib.Omega.{arith}
 use mathlib.Core.Path.{_≡_, refl, sym, ap, _∙_, subst}
@@ -49,7 +49,8 @@ module _ (l : Lent) where
       && over24 (length (l .ring) / 2) (length (l .chain) / 2)
 
   -- of the points
-  of-points : (t : Bool) → overPaper ≡ t → not (odd (l .ring) || odd (l .chain) || countsOut (length (c .ring)) (length (c .chain))) && over24 (length (c .ring)) (length (c .chain)) ≡ t
+  of-points : (t : Bool) → overPaper ≡ t
+      → not (odd (l .ring) || odd (l .chain) || countsOut (length (c .ring)) (length (c .chain))) && over24 (length (c .ring)) (length (c .chain)) ≡ t
   of-points t e = rw (length-tab (pointIn (l .ring)) (length (l .ring) / 2), length-tab (pointIn (l .chain)) (length (l .chain) / 2)) e
 
   -- the tests that come after
@@ -67,7 +68,9 @@ module _ (l : Lent) where
   divided = core practiceSet (length (c .ring)) (startOf c) (listsOf c)
 
   is-16 : overPaper ≡ true → firstOf practised ≡ 16
-  is-16 e = due (odd (l .ring) || odd (l .chain)) (countsOut (length (c .ring)) (length (c .chain))) (over24 (length (c .ring)) (length (c .chain))) later (of-points true e)
+  is-16 e =
+      due (odd (l .ring) || odd (l .chain)) (countsOut (length (c .ring)) (length (c .chain))) (over24 (length (c .ring)) (length (c .chain))) later
+      (of-points true e)
 
   away : overPaper ≡ true → dividePractice l ≡ refused (listsOf c) 16
   unfolding dividePractice
@@ -76,7 +79,9 @@ module _ (l : Lent) where
   pub practice-refused : overPaper ≡ true → PracticePromise l (refusedRow 16 (l .nodeCount) (l .cellCount)) (l .nodes) (l .rims) (l .cells)
   practice-refused e =
       record {
-        leaves = subst (λ (a : CallAnswer). Leaves a (refusedRow 16 (l .nodeCount) (l .cellCount)) (l .nodes) (l .nodes) (l .rims) (l .cells) (l .cells)) (sym (away e))
+        leaves =
+            subst (λ (a : CallAnswer). Leaves a (refusedRow 16 (l .nodeCount) (l .cellCount)) (l .nodes) (l .nodes) (l .rims) (l .cells) (l .cells))
+            (sym (away e))
             (refused-leaves (l .nodes) (l .nodeCount) (l .rims) (l .cells) (l .cellCount) 16);
         accepted = λ z. absurd (omega (arith, z));
       }
@@ -85,10 +90,12 @@ module _ (l : Lent) where
   unfolding dividePractice divideLent
   on e =
       ap (λ (n : ℕ). cond (eqb n 0) divided (refused (listsOf c) n))
-      (not-due (odd (l .ring) || odd (l .chain)) (countsOut (length (c .ring)) (length (c .chain))) (over24 (length (c .ring)) (length (c .chain))) later (of-points false e))
+      (not-due (odd (l .ring) || odd (l .chain)) (countsOut (length (c .ring)) (length (c .chain))) (over24 (length (c .ring)) (length (c .chain))) later
+      (of-points false e))
 
   -- the set by another name
-  pub practice-divided : overPaper ≡ false → (L : Limits) → L ≡ practiceSet → (v : Row) (m : List Float) (t p : List ℕ) → Examination.Promise L l v m t p → PracticePromise l v m t p
+  pub practice-divided : overPaper ≡ false → (L : Limits) → L ≡ practiceSet → (v : Row) (m : List Float) (t p : List ℕ) → Examination.Promise L l v m t p
+      → PracticePromise l v m t p
   practice-divided e L d v m t p h =
       let g = subst (λ (L : Limits). Examination.Promise L l v m t p) d h in
       record {
@@ -97,5 +104,6 @@ module _ (l : Lent) where
       }
 
 -- ---- the node list and the rim marks that it leaves are those of a list of calls
-pub as-called : (s : Pool) (g : Given ℕ) (v : Row) (m : List Float) (t p : List ℕ) → PracticePromise (lend s g) v m t p → _≡_ {A = Pool} (record { doubles = m; count = v .nodes; rims = t }) (leaves s (answerOf s (practice g)))
+pub as-called : (s : Pool) (g : Given ℕ) (v : Row) (m : List Float) (t p : List ℕ) → PracticePromise (lend s g) v m t p
+    → _≡_ {A = Pool} (record { doubles = m; count = v .nodes; rims = t }) (leaves s (answerOf s (practice g)))
 as-called s g v m t p h = λ j. record { doubles = h .leaves .nodes j; count = h .leaves .values j .nodes; rims = h .leaves .rims j }

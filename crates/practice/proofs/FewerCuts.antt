@@ -1,7 +1,7 @@
--- THEOREM `same-split`, on which Card 8 rests. For every set of limits L, every ring p with its marks, and every number k of cuts, at most that of L: where the split of p under L makes k cuts or
--- fewer, the split of p under L with k cuts for its number is the same: parts, pieces, cuts, turned area and log.
--- The number of cuts is looked at in one place, the test before a diagonal is sought. Under L it can be passed and under k refused only after k cuts, and a diagonal found
--- then is one cut more.
+-- THEOREM `same-split`, on which Card 8 rests. For every set of limits L, every ring p with its marks, and every number k of cuts, at most that of L: where
+-- the split of p under L makes k cuts or fewer, the split of p under L with k cuts for its number is the same: parts, pieces, cuts, turned area and log. The
+-- number of cuts is looked at in one place, the test before a diagonal is sought. Under L it can be passed and under k refused only after k cuts, and a
+-- diagonal found then is one cut more.
 use Prim.Native.Nat.{ℕ, zero, suc, _+_, _-_, _*_, _≤_, _<_}
 use native.Mathlib.Nat.{zero-add, suc-add}
 use native.Mathlib.Omega.{arith}
@@ -11,7 +11,6 @@ use mathlib.Core.Option.{Option, none, some}
 use mathlib.Core.List.{List, [], _∷_}
 use lib.ListN.{length}
 use lib.Dec.{ltb}
-use lib.Ieee.{Float}
 use borrow.Author.Tests.{ltb-false, lt-ltb, le-ltb}
 use Rattle.vector.specs.declared.GridPoint.{GridPoint}
 use Rattle.marks.specs.Part.{Part}
@@ -29,7 +28,8 @@ unfolding bestTo meetsRule inRange
 best-same L k r zero = refl
 best-same L k r (suc i) = ap (λ (b : Option ℕ). cond (meetsRule L r (suc (suc i))) (better r (suc (suc i)) b) b) (best-same L k r i)
 
--- ---- the test before it, after c cuts: b says whether the corner is bad, x is the best diagonal. Where one that is found leaves c below k, k and n decide alike
+-- ---- the test before it, after c cuts: b says whether the corner is bad, x is the best diagonal. Where one that is found leaves c below k, k and n decide
+-- alike
 either : (l : Bool) → _≡_ {A = Option ℕ} (cond l none none) none
 either true = refl
 either false = refl
@@ -39,7 +39,8 @@ decide none c k n h true e f = either (ltb c k)
 decide (some j) c k n h true e f = ap (λ (l : Bool). cond l (some j) none) (lt-ltb c k (f j refl))
 decide x c k n h false e f = ap (λ (l : Bool). cond l x none) (le-ltb c k (omega (arith, h, ltb-false c n e)))
 
-agree : (b : Bool) (x : Option ℕ) (c k n : ℕ) → k ≤ n → ((j : ℕ) → cond (b && ltb c n) x none ≡ some j → c < k) → cond (b && ltb c k) x none ≡ cond (b && ltb c n) x none
+agree : (b : Bool) (x : Option ℕ) (c k n : ℕ) → k ≤ n → ((j : ℕ) → cond (b && ltb c n) x none ≡ some j → c < k)
+    → cond (b && ltb c k) x none ≡ cond (b && ltb c n) x none
 agree false x c k n h f = refl
 agree true x c k n h f = decide x c k n h (ltb c n) refl f
 

@@ -28,8 +28,8 @@ pub record HoldsReserve (L : Limits) (r : ℕ) (x : Lists) : Type 0 where
   pub nodes : nodeReserve L r ≤ length (x .nodes) - x .nodeCount
   pub cells : cellReserve L r ≤ length (x .cells) - x .cellCount
 
--- "A ring of at most 24 points, with a chain of at most 24, in which the examination entry makes 12 cuts or fewer .. where the lists hold the examination reserve".
--- A ring that 5 to 7 refuse is not cut
+-- "A ring of at most 24 points, with a chain of at most 24, in which the examination entry makes 12 cuts or fewer .. where the lists hold the examination
+-- reserve". A ring that 5 to 7 refuse is not cut
 pub record OnPracticePaper (c : Call) : Type 0 where
   pub ring : length (c .ring) ≤ 24
   pub chain : length (c .chain) ≤ 24
@@ -41,8 +41,8 @@ pub record OnPracticePaper (c : Call) : Type 0 where
 abbrev pub zeroed : Limits → ℕ → Lists → List Cell
 zeroed L r x = put (x .cells) (x .cellCount) (replicate (cellReserve L r) noCell)
 
--- the answers a, with the set L, and b, with the set M, to a ring of r points over the lists x are alike: the whole row, the nodes and the rim marks are the same, and so are
--- the cells, except with 8: "With 8, the cell places left zero follow each entry's own reserve"
+-- the answers a, with the set L, and b, with the set M, to a ring of r points over the lists x are alike: the whole row, the nodes and the rim marks are the
+-- same, and so are the cells, except with 8: "With 8, the cell places left zero follow each entry's own reserve"
 pub record SameAnswer (L M : Limits) (r : ℕ) (x : Lists) (a b : CallAnswer) : Type 0 where
   pub row : b .row ≡ a .row
   pub nodes : b .nodes ≡ a .nodes
@@ -50,8 +50,8 @@ pub record SameAnswer (L M : Limits) (r : ℕ) (x : Lists) (a b : CallAnswer) : 
   pub cells : (a .row .code ≡ 8 → ⊥) → b .cells ≡ a .cells
   pub cells-8 : a .row .code ≡ 8 → (a .cells ≡ zeroed L r x) × (b .cells ≡ zeroed M r x)
 
--- what two such cell lists have, place by place, l before, u of its places used, where the reserve of L is n places and that of M is m, no more: the same before u + m and from
--- u + n on; between, a has zeros and b what was found
+-- what two such cell lists have, place by place, l before, u of its places used, where the reserve of L is n places and that of M is m, no more: the same
+-- before u + m and from u + n on; between, a has zeros and b what was found
 pub record Differ (l a b : List Cell) (u m n : ℕ) : Type 0 where
   pub smaller : m ≤ n
   pub used : (i : ℕ) → i < u → (getD a i noCell ≡ getD l i noCell) × (getD b i noCell ≡ getD l i noCell)

@@ -9,13 +9,15 @@ ghost use Prim.Native.Nat.{_/_, _%_};
 ghost use lib.Dec.{eqb};
 ghost use Rattle.table.specs.Answers as Answers;
 ghost use Rattle.call.specs.Call as Call;
+ghost use Rattle.call.specs.Lent.{lent};
 ghost use Rattle.practice.specs.Practice.{PracticePromise};
 use nodes::NodeNumber;
 use table::Answer;
 
 // 16, where 1 does not come first. Of the ring's numbers and the chain's, two a point.
 fn over_paper(ring: usize, chain: usize) -> bool
-    ensures { λ r. ⌜ r ≡ (not (not (eqb (ring % 2) 0) || not (eqb (chain % 2) 0) || Call.countsOut (ring / 2) (chain / 2)) && Call.over24 (ring / 2) (chain / 2)) ⌝ }
+    ensures { λ r. ⌜ r ≡ (not (not (eqb (ring % 2) 0) || not (eqb (chain % 2) 0) || Call.countsOut (ring / 2) (chain / 2))
+        && Call.over24 (ring / 2) (chain / 2)) ⌝ }
 {
     if entry::counts_out(ring, chain) {
         return false;
@@ -37,8 +39,8 @@ pub fn divide_practice(
     cells: &mut [NodeNumber],
     cell_count: usize,
 ) -> Answer
-    ensures { λ a. ⌜ PracticePromise (record { ring = now (ring .entry); chain = now (chain .entry); size = size; nodes = now (nodes .entry); nodeCount = «node_count»; rims = now (rims .entry); cells = now (cells .entry); cellCount = «cell_count» })
-        (Answers.values a) (now (nodes .exit)) (now (rims .exit)) (now (cells .exit)) ⌝ }
+    ensures { λ a. ⌜ PracticePromise (lent (now (ring .entry)) (now (chain .entry)) size (now (nodes .entry)) «node_count» (now (rims .entry))
+        (now (cells .entry)) «cell_count») (Answers.values a) (now (nodes .exit)) (now (rims .exit)) (now (cells .exit)) ⌝ }
 {
     if over_paper(ring.len(), chain.len()) {
         return Answer::Refused {

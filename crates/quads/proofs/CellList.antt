@@ -32,6 +32,9 @@ module _ (c : ℕ) (ms vs : List ℕ) where
   pub cells-length : (n : ℕ) → length (cellsTo c ms vs n) ≡ n
   cells-length n = ap length (cells-tab n) ∙ length-tab cellOf n
 
+  pub cells-at : (n k : ℕ) → k < n → getD (cellsTo c ms vs n) k noCell ≡ cellOf k
+  cells-at n k h = ap (λ (l : List Cell). getD l k noCell) (cells-tab n) ∙ getD-tab cellOf n k noCell h
+
   pub one-more : (l : List ℕ) (k : ℕ) (q : Cell) → q ≡ cellOf k → overCells l (cellsTo c ms vs k ++ (q ∷ [])) ≡ overCells l (cellsTo c ms vs (k + 1))
   unfolding cellsTo
   one-more l k q e = ap (λ (q : Cell). overCells l (cellsTo c ms vs k ++ (q ∷ []))) e ∙ rw add-one
@@ -53,7 +56,9 @@ module _ (c : ℕ) (ms vs : List ℕ) (n : ℕ) (hn : n ≤ 60) (hm : length ms 
       }
 
   pub cell-at : _≡_ {A = Cell} (record { a = c; b = getD ms k 0; c = getD vs j 0; d = getD ms j 0 }) (getD (cellsTo c (take n ms) (take n vs) n) k noCell)
-  cell-at = cell-is ∙ sym (ap (λ (l : List Cell). getD l k noCell) (cells-tab c (take n ms) (take n vs) n) ∙ getD-tab (cellOf c (take n ms) (take n vs)) n k noCell h)
+  cell-at =
+      cell-is
+      ∙ sym (ap (λ (l : List Cell). getD l k noCell) (cells-tab c (take n ms) (take n vs) n) ∙ getD-tab (cellOf c (take n ms) (take n vs)) n k noCell h)
 
 -- ---- written out
 pub length-cells : (cs : List Cell) → length (flatCells cs) ≡ length cs * 4
@@ -85,7 +90,8 @@ unfolding overCells
 over-none l = refl
 
 -- a callee wrote v at the front of the part from a on, which is back
-part-back : (l : List ℕ) (a : ℕ) (v r : List ℕ) → a + length v ≤ length l → r ≡ v ++ drop (length v) (take (length l - a) (drop a l)) → putMid a (length l - a) l r ≡ take a l ++ (v ++ drop (a + length v) l)
+part-back : (l : List ℕ) (a : ℕ) (v r : List ℕ) → a + length v ≤ length l → r ≡ v ++ drop (length v) (take (length l - a) (drop a l))
+    → putMid a (length l - a) l r ≡ take a l ++ (v ++ drop (a + length v) l)
 part-back l a v r h e =
     let n : length (drop a l) ≡ length l - a = length-drop a l in
     let p : length (drop a l) ≤ length l - a = omega arith in
@@ -94,7 +100,8 @@ part-back l a v r h e =
     rw (e, t, d) (simp (append-nil, drop-drop))
 
 -- one cell more, written through the part from at on
-pub turn : (l m : List ℕ) (at : ℕ) (cs : List Cell) (c : Cell) (r : List ℕ) → m ≡ overCells l cs → at ≡ length cs * 4 → length cs * 4 + 4 ≤ length l → r ≡ four c ++ drop 4 (take (length m - at) (drop at m))
+pub turn : (l m : List ℕ) (at : ℕ) (cs : List Cell) (c : Cell) (r : List ℕ) → m ≡ overCells l cs → at ≡ length cs * 4 → length cs * 4 + 4 ≤ length l
+    → r ≡ four c ++ drop 4 (take (length m - at) (drop at m))
     → putMid at (length m - at) m r ≡ overCells l (cs ++ (c ∷ []))
 unfolding overCells
 turn l m at cs c r e a h q =
@@ -111,6 +118,7 @@ turn l m at cs c r e a h q =
     part-back m at (four c) r (omega arith) q ∙ rw (t, d, g, cells-append) (sym (append-assoc (flatCells cs) (four c) (drop (length cs * 4 + 4) l)))
 
 -- ---- the two tests of a cell, its corners read
-pub holds-is : (ns : List Point) (c : Cell) {p q r s : Point} → p ≡ nodeAt ns (c .a) → q ≡ nodeAt ns (c .b) → r ≡ nodeAt ns (c .c) → s ≡ nodeAt ns (c .d) → (positive p q r s && allDistinct c) ≡ holds ns c
+pub holds-is : (ns : List Point) (c : Cell) {p q r s : Point} → p ≡ nodeAt ns (c .a) → q ≡ nodeAt ns (c .b) → r ≡ nodeAt ns (c .c) → s ≡ nodeAt ns (c .d)
+    → (positive p q r s && allDistinct c) ≡ holds ns c
 unfolding holds quadPositive
 holds-is ns c a b d e = λ i. positive (a i) (b i) (d i) (e i) && allDistinct c

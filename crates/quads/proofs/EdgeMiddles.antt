@@ -11,7 +11,8 @@ use Rattle.quads.specs.declared.Middle.{Middle}
 use Rattle.quads.specs.Quads.{middle, tooFar, edgeMiddle}
 use Rattle.quads.specs.Flat.{middleOf}
 
-pub plain : (share : Float) (m : EdgeMark) (a b c : Point) → c ≡ middle a b → m ≡ Straight → _≡_ {A = Middle} (record { at = c; far = false }) (middleOf share m a b)
+pub plain : (share : Float) (m : EdgeMark) (a b c : Point) → c ≡ middle a b → m ≡ Straight
+    → _≡_ {A = Middle} (record { at = c; far = false }) (middleOf share m a b)
 unfolding edgeMiddle tooFar
 plain share m a b c h e = (λ i. record { at = h i; far = false }) ∙ sym (ap (λ (m : EdgeMark). middleOf share m a b) e)
 

@@ -191,8 +191,10 @@ pub fn first_failing(
     vs: [NodeNumber; 60],
     n: usize,
 ) -> usize
-    requires { ⌜ (n ≤ 60) × (used * 2 ≤ length (now nodes)) × (centre < used) × ListedTo used ms n × ListedTo used vs n × (length ms ≡ 60) × (length vs ≡ 60) ⌝ }
-    ensures { λ r. ⌜ r ≡ first (λ k. not (Quads.holds (nodesIn (now (nodes .entry)) used) (getD (Quads.cellsTo centre (take n ms) (take n vs) n) k noCell))) n 0 ⌝ }
+    requires { ⌜ (n ≤ 60) × (used * 2 ≤ length (now nodes)) × (centre < used) × ListedTo used ms n × ListedTo used vs n
+        × (length ms ≡ 60) × (length vs ≡ 60) ⌝ }
+    ensures { λ r. ⌜ r ≡ first (λ k. not (Quads.holds (nodesIn (now (nodes .entry)) used)
+        (getD (Quads.cellsTo centre (take n ms) (take n vs) n) k noCell))) n 0 ⌝ }
 {
     for k in 0..n {
         let j = vector::next(k, n);

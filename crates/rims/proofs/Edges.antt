@@ -1,6 +1,6 @@
--- THEOREM `labelled`. A ring of three corners or more with each of its edges marked is split into the same pieces as the ring itself. There an edge of a piece is marked
--- exactly if it is one of the ring's: a marked one joins, in one sense or the other, two neighbours of the ring; one that is not is the diagonal of a cut, and straight in the
--- piece itself.
+-- THEOREM `labelled`. A ring of three corners or more with each of its edges marked is split into the same pieces as the ring itself. There an edge of a
+-- piece is marked exactly if it is one of the ring's: a marked one joins, in one sense or the other, two neighbours of the ring; one that is not is the
+-- diagonal of a cut, and straight in the piece itself.
 use Prim.Native.Nat.{ℕ, zero, suc, _<_}
 use native.Mathlib.Omega.{arith}
 use mathlib.Core.Path.{_≡_, refl, sym, ap, _∙_, subst}
@@ -45,11 +45,13 @@ record Cutting (l : List Cut) (d : CutLine) : Type 0 where
   pub a : diagonal c .a ≡ d .a
   pub b : diagonal c .b ≡ d .b
 
-cutting : (R : EdgeMark → EdgeMark → Type 0) (l m : List Cut) → Both (Across R) l m → (j : ℕ) → j < length (diagonalsOf l) → Cutting m (getD (diagonalsOf l) j noCutLine)
+cutting : (R : EdgeMark → EdgeMark → Type 0) (l m : List Cut) → Both (Across R) l m → (j : ℕ) → j < length (diagonalsOf l)
+    → Cutting m (getD (diagonalsOf l) j noCutLine)
 cutting R [] [] h j k = absurd (omega (arith, k))
 cutting R [] (d ∷ m) h j k = absurd h
 cutting R (c ∷ l) [] h j k = absurd h
-cutting R (c ∷ l) (d ∷ m) h zero k = record { c = d; one = List·Memᴰ·head refl; a = sym (ap (λ (s : Side). s .a) (h .0)); b = sym (ap (λ (s : Side). s .b) (h .0)) }
+cutting R (c ∷ l) (d ∷ m) h zero k =
+    record { c = d; one = List·Memᴰ·head refl; a = sym (ap (λ (s : Side). s .a) (h .0)); b = sym (ap (λ (s : Side). s .b) (h .0)) }
 cutting R (c ∷ l) (d ∷ m) h (suc j) k =
     let w = cutting R l m (h .1) j (omega (arith, k)) in
     record { c = w .c; one = List·Memᴰ·tail (w .one); a = w .a; b = w .b }
@@ -61,7 +63,8 @@ unmarked (e ∷ es) = (tt, unmarked es)
 
 pub marked-cuts : (L : Limits) (ring : Part) → splitBadVertices L (allMarked ring) .cuts ≡ splitBadVertices L ring .cuts
 unfolding allMarked
-marked-cuts L ring = twins (λ (m : EdgeMark) (e : EdgeMark). Unit {0}) tt L (allMarked ring) ring (record { points = refl; edges = unmarked (ring .edges) }) .cuts
+marked-cuts L ring =
+    twins (λ (m : EdgeMark) (e : EdgeMark). Unit {0}) tt L (allMarked ring) ring (record { points = refl; edges = unmarked (ring .edges) }) .cuts
 
 module _ (L : Limits) (ring : Part) (s : Sound ring) where
   marked-points : allMarked ring .points ≡ ring .points
@@ -80,7 +83,9 @@ module _ (L : Limits) (ring : Part) (s : Sound ring) where
   twin = twins Plain (λ u. refl) L (allMarked ring) ring (unfold allMarked in record { points = refl; edges = all-plain (ring .edges) })
 
   pair : (i : ℕ) → Twin Plain (labelsOf L ring i) (pieceOf L ring i)
-  pair i = both-at (Twin Plain) (splitBadVertices L (allMarked ring) .pieces) (splitBadVertices L ring .pieces) i noPart (twin .pieces) (record { points = refl; edges = tt })
+  pair i =
+      both-at (Twin Plain) (splitBadVertices L (allMarked ring) .pieces) (splitBadVertices L ring .pieces) i noPart (twin .pieces)
+      (record { points = refl; edges = tt })
 
   many : length (splitBadVertices L (allMarked ring) .pieces) ≡ length (splitBadVertices L ring .pieces)
   many = both-length (Twin Plain) (splitBadVertices L (allMarked ring) .pieces) (splitBadVertices L ring .pieces) (twin .pieces)
@@ -95,7 +100,9 @@ module _ (L : Limits) (ring : Part) (s : Sound ring) where
   told : (i k : ℕ) (p q : GridPoint) (b : Bool) → ofRing (labelsOf L ring i) k ≡ b
       → EdgeFrom (allMarked ring) (diagonalsOf (splitBadVertices L (allMarked ring) .log)) p q (markAt (labelsOf L ring i) k)
       → Source ring (splitBadVertices L ring .log) p q (markAt (pieceOf L ring i) k) b
-  told i k p q true e (side j h u m) = Edges.side j (subst (λ (r : List GridPoint). j < length r) marked-points h) (subst (λ (r : List GridPoint). Ends p q (at r j) (at r (suc j))) marked-points u)
+  told i k p q true e (side j h u m) =
+      Edges.side j (subst (λ (r : List GridPoint). j < length r) marked-points h)
+      (subst (λ (r : List GridPoint). Ends p q (at r j) (at r (suc j))) marked-points u)
   told i k p q false e (side j h u m) =
       let z : true ≡ false = sym (ring-is j (subst (λ (r : List GridPoint). j < length r) marked-points h)) ∙ ap isMarked (sym m) ∙ e in
       let y : _≡_ {A = ℕ} 0 1 = cc in
@@ -106,7 +113,10 @@ module _ (L : Limits) (ring : Part) (s : Sound ring) where
       absurd (omega arith)
   told i k p q false e (across j h u m) =
       let w = cutting Plain (splitBadVertices L (allMarked ring) .log) (splitBadVertices L ring .log) (twin .log) j h in
-      Edges.across (w .c) (w .one) (subst (λ (x : GridPoint). Ends p q x (diagonal (w .c) .b)) (sym (w .a)) (subst (λ (x : GridPoint). Ends p q (getD (diagonalsOf (splitBadVertices L (allMarked ring) .log)) j noCutLine .a) x) (sym (w .b)) u)) (plain i k e)
+      Edges.across (w .c) (w .one)
+      (subst (λ (x : GridPoint). Ends p q x (diagonal (w .c) .b)) (sym (w .a))
+      (subst (λ (x : GridPoint). Ends p q (getD (diagonalsOf (splitBadVertices L (allMarked ring) .log)) j noCutLine .a) x) (sym (w .b)) u))
+      (plain i k e)
 
   pub labelled : Labelled L ring
   labelled =
@@ -117,6 +127,7 @@ module _ (L : Limits) (ring : Part) (s : Sound ring) where
             let p = pair i .points in
             let f = cut-from L (allMarked ring) sound .from i (omega (arith, h, many)) in
             told i k (at (pieceOf L ring i .points) k) (at (pieceOf L ring i .points) (suc k)) (ofRing (labelsOf L ring i) k) refl
-            (subst (λ (r : List GridPoint). EdgeFrom (allMarked ring) (diagonalsOf (splitBadVertices L (allMarked ring) .log)) (at r k) (at r (suc k)) (markAt (labelsOf L ring i) k)) p
+            (subst (λ (r : List GridPoint). EdgeFrom (allMarked ring) (diagonalsOf (splitBadVertices L (allMarked ring) .log)) (at r k) (at r (suc k))
+            (markAt (labelsOf L ring i) k)) p
             (f .edge k (omega (arith, l, ap length p))));
       }

@@ -1,5 +1,5 @@
--- 02, Card 12: the "ring edge" of "the middle of a ring edge". An edge of the cleaned ring, whichever part it is in; the diagonal of a cut is none, even where it lies along one. What
--- `ofRing` of cells' specs/Asks tells of an edge of a piece. Definitions only.
+-- 02, Card 12: the "ring edge" of "the middle of a ring edge". An edge of the cleaned ring, whichever part it is in; the diagonal of a cut is none, even
+-- where it lies along one. What `ofRing` of cells' specs/Asks tells of an edge of a piece. Definitions only.
 use Prim.Native.Nat.{ℕ, suc, _<_}
 use mathlib.Core.Path.{_≡_}
 use mathlib.Core.Bool.{Bool, true, false}
@@ -34,4 +34,5 @@ pub record Labelled (L : Limits) (ring : Part) : Type 0 where
   pub many : length (splitBadVertices L (allMarked ring) .pieces) ≡ length (splitBadVertices L ring .pieces)
   pub points : (i : ℕ) → labelsOf L ring i .points ≡ pieceOf L ring i .points
   pub from : (i k : ℕ) → i < length (splitBadVertices L ring .pieces) → k < length (pieceOf L ring i .points)
-      → Source ring (splitBadVertices L ring .log) (at (pieceOf L ring i .points) k) (at (pieceOf L ring i .points) (suc k)) (markAt (pieceOf L ring i) k) (ofRing (labelsOf L ring i) k)
+      → Source ring (splitBadVertices L ring .log) (at (pieceOf L ring i .points) k) (at (pieceOf L ring i .points) (suc k)) (markAt (pieceOf L ring i) k)
+      (ofRing (labelsOf L ring i) k)

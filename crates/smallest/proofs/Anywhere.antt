@@ -1,5 +1,5 @@
--- The number of a ring on an empty node list does not depend on the lists, where they have its reserve (`anywhere`). The tests of the lists do not hold, and the core
--- looks at the used nodes alone, of which there are none.
+-- The number of a ring on an empty node list does not depend on the lists, where they have its reserve (`anywhere`). The tests of the lists do not hold, and
+-- the core looks at the used nodes alone, of which there are none.
 use Prim.Native.Nat.{ℕ, _-_, _/_, _≤_, min}
 use native.Mathlib.Nat.{min-le-right}
 use native.Mathlib.Omega.{arith}
@@ -7,7 +7,7 @@ use mathlib.Core.Path.{_≡_, refl, sym, ap, _∙_, subst}
 use mathlib.Core.Bool.{Bool, true, false, not, _||_, cond}
 use mathlib.Core.List.{List, []}
 use lib.ListN.{length, getD, take}
-use lib.Dec.{T, ltb, eqb}
+use lib.Dec.{ltb, eqb}
 use lib.IntN.{ℤ}
 use borrow.Author.Tests.{le-ltb}
 use Rattle.laws.specs.Bounded.{any}
@@ -19,8 +19,9 @@ use Rattle.corner.specs.Limits.{delivered}
 use Rattle.split.specs.Split.{Stack, splitBadVertices}
 use Rattle.nodes.proofs.Flat.{length-in}
 use Rattle.cells.specs.Pieces.{Outcome, done, failed, piecesTo}
-use Rattle.table.specs.Refusals.{Refusal, firstOf, turnsAway}
-use Rattle.call.specs.Call.{Lists, usedIn, Call, listsOf, countsOut, unitsOut, usable, rimsOut, listsOver, listsOut, nodeReserve, cellReserve, roomOut, mostPlaces}
+use Rattle.table.specs.Refusals.{firstOf}
+use Rattle.call.specs.Call.{Lists, usedIn, Call, listsOf, countsOut, unitsOut, usable, rimsOut, listsOver, listsOut, nodeReserve, cellReserve}
+use Rattle.call.specs.Call.{roomOut, mostPlaces}
 use Rattle.call.specs.Divide.{CallAnswer, refused, refusedOr, ringTests, answered, core, startOf}
 use Rattle.call.specs.Lent.{Lent, callOf, divideLent, odd, allCells, testsBy, pointIn, cellIn}
 use Rattle.call.proofs.Course.{by-tests-both, refused-code}
@@ -50,7 +51,8 @@ module _ (L : Limits) (r : ℕ) (p : Part) (x y : Lists) (used : usedIn x ≡ us
   laid-same : SameCode (answered L r p x (splitBadVertices L p) (outcome (usedIn x))) (answered L r p y (splitBadVertices L p) (outcome (usedIn y)))
   laid-same =
       let s = splitBadVertices L p in
-      answered-code L r p x s (outcome (usedIn x)) ∙ ap (λ (ns : List Point). outcomeCode (outcome ns)) used ∙ sym (answered-code L r p y s (outcome (usedIn y)))
+      answered-code L r p x s (outcome (usedIn x)) ∙ ap (λ (ns : List Point). outcomeCode (outcome ns)) used
+      ∙ sym (answered-code L r p y s (outcome (usedIn y)))
 
   refused-same : (n : ℕ) → SameCode (refused x n) (refused y n)
   refused-same n = refused-code x n ∙ sym (refused-code y n)
@@ -58,7 +60,8 @@ module _ (L : Limits) (r : ℕ) (p : Part) (x y : Lists) (used : usedIn x ≡ us
   core-same : SameCode (core L r p x) (core L r p y)
   unfolding core
   core-same =
-      by-tests-both x y (ringTests (p .points)) (answered L r p x (splitBadVertices L p) (outcome (usedIn x))) (answered L r p y (splitBadVertices L p) (outcome (usedIn y))) SameCode tt
+      by-tests-both x y (ringTests (p .points)) (answered L r p x (splitBadVertices L p) (outcome (usedIn x)))
+      (answered L r p y (splitBadVertices L p) (outcome (usedIn y))) SameCode tt
       (λ t. refused-same (firstOf (ringTests (p .points)))) (λ w. laid-same)
 
 -- ---- the tests of the lists

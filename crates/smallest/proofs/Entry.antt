@@ -1,5 +1,5 @@
--- Card 13 (`shown`): of every ring that is answered 0, the choice gets the ring's own number, one of 5 to 8; it has at least 3 points; no choice with that number has
--- fewer, nor as many and a lower number. Before it the entry's tests in order.
+-- Card 13 (`shown`): of every ring that is answered 0, the choice gets the ring's own number, one of 5 to 8; it has at least 3 points; no choice with that
+-- number has fewer, nor as many and a lower number. Before it the entry's tests in order.
 use Prim.Native.Nat.{ℕ, _*_, _-_, _%_, _^_, _≤_, _<_}
 use native.Mathlib.Nat.{mod-eq-of-lt}
 use native.Mathlib.Omega.{arith}
@@ -15,14 +15,14 @@ use lib.Count.{ones, ones-ones}
 use lib.IntN.{ℤ}
 use borrow.Author.Tests.{ltb-false, lt-ltb, le-ltb, eq-eqb, ne-eqb, eqb-true}
 use Rattle.laws.proofs.Table.{length-tab}
-use Rattle.laws.proofs.Booleans.{is-true}
+use Rattle.laws.proofs.Booleans.{is-true, neither}
 use Rattle.corner.specs.declared.Limits.{Limits}
 use Rattle.corner.specs.Limits.{delivered}
 use Rattle.table.specs.Refusals.{Refusal, firstOf, Passes}
 use Rattle.call.specs.Call.{listsOf}
 use Rattle.call.specs.Divide.{core, startOf}
 use Rattle.call.specs.Lent.{Lent, callOf, divideLent, odd, allCells, testsBy, pointIn}
-use Rattle.call.proofs.Tests.{or-no, passed}
+use Rattle.call.proofs.Tests.{passed}
 use Rattle.call.proofs.Course.{by-tests, refused-code}
 use Rattle.smallest.specs.Choice.{chosen, numberOf, trialOf, trialLent}
 use Rattle.smallest.specs.Search.{IsLeast}
@@ -63,7 +63,8 @@ unfolding smallestOf
 zero-only ring chain size w e = go (eqb w 1) (eqb w 2) (ltb 12 (points ring)) (ltb w 5) (ltb 8 w) refl refl refl e
   where
     go : (a b c d f : Bool) → ltb 12 (points ring) ≡ c → ltb w 5 ≡ d → ltb 8 w ≡ f
-        → cond a (refused 1) (cond b (refused 2) (cond c (refused 18) (cond (d || f) (refused 19) (found w (choiceOf ring chain size (points ring) w))))) .code ≡ 0
+        → cond a (refused 1) (cond b (refused 2) (cond c (refused 18) (cond (d || f) (refused 19) (found w (choiceOf ring chain size (points ring) w)))))
+        .code ≡ 0
         → (points ring ≤ 12) × (5 ≤ w) × (w ≤ 8)
     go true b c d f p q r e = absurd (omega (arith, e))
     go false true c d f p q r e = absurd (omega (arith, e))
@@ -73,19 +74,23 @@ zero-only ring chain size w e = go (eqb w 1) (eqb w 2) (ltb 12 (points ring)) (l
     go false false false false false p q r e = (ltb-false 12 (points ring) p, ltb-false w 5 q, ltb-false 8 w r)
 
 -- the choice of all the points is the ring, so that there is one to find
-all-points : (ring chain : List ℤ) (size : ℕ) → points ring ≤ 12 → length ring % 2 ≡ 0 → trialOf ring chain size (points ring) (2 ^ points ring - 1) ≡ numberOf ring chain size
+all-points : (ring chain : List ℤ) (size : ℕ) → points ring ≤ 12 → length ring % 2 ≡ 0
+    → trialOf ring chain size (points ring) (2 ^ points ring - 1) ≡ numberOf ring chain size
 all-points ring chain size h e =
     let k : points ring * 2 ≡ length ring = omega arith in
-    ap (λ (l : List ℤ). numberOf l chain size) (chosen-all ring (points ring) h (points ring) (omega arith) (omega arith) ∙ take-all (points ring * 2) ring (omega arith))
+    ap (λ (l : List ℤ). numberOf l chain size)
+    (chosen-all ring (points ring) h (points ring) (omega arith) (omega arith) ∙ take-all (points ring * 2) ring (omega arith))
 
 module _ (ring chain : List ℤ) (size : ℕ) (few : points ring ≤ 12) (even : length ring % 2 ≡ 0) (many : 3 ≤ points ring) where
-  pub least-choice : (w : ℕ) → numberOf ring chain size ≡ w → IsLeast (trialOf ring chain size (points ring)) w (2 ^ points ring) 3 (choiceOf ring chain size (points ring) w)
+  pub least-choice : (w : ℕ) → numberOf ring chain size ≡ w
+      → IsLeast (trialOf ring chain size (points ring)) w (2 ^ points ring) 3 (choiceOf ring chain size (points ring) w)
   least-choice w e =
       let t = trialOf ring chain size (points ring) in
       let o = ones-ones (points ring) in
       let p = pow-pos (points ring) in
       is-least t w (2 ^ points ring) (points ring - 2) 3
-      (ends t w (2 ^ points ring) (points ring - 2) 3 (2 ^ points ring - 1) (omega (arith, p)) (omega (arith, o, many)) (omega (arith, o, many)) (all-points ring chain size few even ∙ e))
+      (ends t w (2 ^ points ring) (points ring - 2) 3 (2 ^ points ring - 1) (omega (arith, p)) (omega (arith, o, many)) (omega (arith, o, many))
+      (all-points ring chain size few even ∙ e))
 
 -- ---- a number of 5 to 8 is given only past the entry's tests: the ring's numbers are two a point, of 3 points or more
 abbrev apart : ℕ → Bool
@@ -120,7 +125,7 @@ even-ring : (L : Limits) (l : Lent) → 5 ≤ divideLent L l .row .code → divi
 even-ring L l h k =
     let p = past L l h k in
     let e = eqb (length (l .ring) % 2) 0 in
-    let o = or-no (odd (l .ring)) (odd (l .chain)) (p .0) in
+    let o = neither (odd (l .ring)) (odd (l .chain)) (p .0) in
     (eqb-true (length (l .ring) % 2) 0 (is-true e (o .0)), omega (arith, passed L (callOf l) (p .1) .from, length-tab (pointIn (l .ring)) (points (l .ring))))
 
 -- ---- Card 13

@@ -1,4 +1,5 @@
--- 02, Card 13: "a choice of its points, in ring order", by its number, "where point i counts 2 to the power i"; and the number that its ring gets on an empty node list.
+-- 02, Card 13: "a choice of its points, in ring order", by its number, "where point i counts 2 to the power i"; and the number that its ring gets on an empty
+-- node list.
 use Prim.Native.Nat.{ℕ, zero, suc, _+_, _*_, _/_, _%_, _^_}
 use mathlib.Core.Bool.{cond}
 use mathlib.Core.List.{List, [], _∷_, _++_}
@@ -19,7 +20,16 @@ chosen l c (suc i) =
 -- "The trial lists are empty and have the full reserve" of 12 points: 55 node places, a rim mark beside each, and 30 cells
 abbrev pub trialLent : List ℤ → List ℤ → ℕ → Lent
 trialLent ring chain size =
-    record { ring = ring; chain = chain; size = size; nodes = replicate 110 naught; nodeCount = 0; rims = replicate 55 0; cells = replicate 120 0; cellCount = 0 }
+    record {
+      ring = ring;
+      chain = chain;
+      size = size;
+      nodes = replicate 110 naught;
+      nodeCount = 0;
+      rims = replicate 55 0;
+      cells = replicate 120 0;
+      cellCount = 0;
+    }
 
 -- the number that the examination entry gives there, 0 of a ring that is divided
 unfoldable pub numberOf : List ℤ → List ℤ → ℕ → ℕ

@@ -1,5 +1,5 @@
--- 02, Card 13: "on an empty node list", "The trial lists are empty and have the full reserve". The number is that of every such list, whatever is in its places: so what the
--- trial lists hold decides nothing, and the same ring is refused so on any empty list of the caller.
+-- 02, Card 13: "on an empty node list", "The trial lists are empty and have the full reserve". The number is that of every such list, whatever is in its
+-- places: so what the trial lists hold decides nothing, and the same ring is refused so on any empty list of the caller.
 use Prim.Native.Nat.{_-_, _/_, _≤_}
 use mathlib.Core.Path.{_≡_}
 use lib.ListN.{length}

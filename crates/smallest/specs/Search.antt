@@ -1,5 +1,5 @@
--- 02, Card 13, the search over choices, for any trial t of a choice: "Every other choice with that number has at least as many points. Of equal counts the lowest choice
--- number wins".
+-- 02, Card 13, the search over choices, for any trial t of a choice: "Every other choice with that number has at least as many points. Of equal counts the
+-- lowest choice number wins".
 use Prim.Native.Nat.{ℕ, zero, suc, _≤_, _<_}
 use mathlib.Core.Path.{_≡_}
 use mathlib.Core.Bool.{Bool, false, cond}
@@ -12,14 +12,14 @@ abbrev pub hits : (ℕ → ℕ) → ℕ → ℕ → ℕ → Bool
 hits t w k c = cond (eqb (ones c) k) (eqb (t c) w) false
 
 -- the first choice below n of k points that gives w; n if none does
-unfoldable pub firstOf : (ℕ → ℕ) → ℕ → ℕ → ℕ → ℕ
-firstOf t w n k = first (hits t w k) n 0
+unfoldable pub firstOfCount : (ℕ → ℕ) → ℕ → ℕ → ℕ → ℕ
+firstOfCount t w n k = first (hits t w k) n 0
 
 -- the same by rising count: k points, k + 1 points and so on, d counts in all
 unfoldable pub leastOf : (ℕ → ℕ) → ℕ → ℕ → ℕ → ℕ → ℕ
 leastOf t w n zero k = n
 leastOf t w n (suc d) k =
-    let c = firstOf t w n k in
+    let c = firstOfCount t w n k in
     let r = leastOf t w n d (suc k) in
     cond (ltb c n) c r
 

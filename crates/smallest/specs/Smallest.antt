@@ -24,8 +24,8 @@ choiceOf ring chain size r w = leastOf (trialOf ring chain size r) w (2 ^ r) (r 
 abbrev pub found : ℕ → ℕ → Smallest
 found w c = record { code = 0; refusal = w; choice = c; points = ones c }
 
--- w the number of the ring's own run on an empty list, whose 1 and 2 come first; "18 if the ring has over 12 points, after 2; 19 if its own run on an empty list gives none of
--- these four, after 18". A ring of over 12 points that has its 1 and 2 behind it gets 4 there
+-- w the number of the ring's own run on an empty list, whose 1 and 2 come first; "18 if the ring has over 12 points, after 2; 19 if its own run on an empty
+-- list gives none of these four, after 18". A ring of over 12 points that has its 1 and 2 behind it gets 4 there
 unfoldable pub smallestOf : List ℤ → List ℤ → ℕ → ℕ → Smallest
 smallestOf ring chain size w =
     cond (eqb w 1) (refused 1)

@@ -25,13 +25,13 @@ pub struct Smallest {
 }
 
 // The chosen points, x and y in turn, in the first `count` places.
-struct Chosen {
+struct ChosenPoints {
     points: [i32; 24],
     count: usize,
 }
 
 // Each point is written, and counted if it is chosen: the next one goes over it if not.
-fn choose(ring: &[i32], r: usize, choice: u32) -> Chosen
+fn choose(ring: &[i32], r: usize, choice: u32) -> ChosenPoints
     requires { ⌜ (r ≤ 12) × (r * 2 ≤ length (now ring)) ⌝ }
     ensures { λ p. ⌜ (take (p .count) (p .points) ≡ Choice.chosen (now (ring .entry)) choice r) × (p .count ≤ r * 2) × (length (p .points) ≡ 24) ⌝ }
 {
@@ -44,7 +44,7 @@ fn choose(ring: &[i32], r: usize, choice: u32) -> Chosen
         count += (rest % 2) as usize * 2;
         rest = rest / 2;
     }
-    Chosen {
+    ChosenPoints {
         points: points,
         count: count,
     }
@@ -85,9 +85,17 @@ fn hits(ring: &[i32], r: usize, chain: &[i32], size: u32, wanted: u64, k: u32, c
 }
 
 // The first choice of k points that gets the number, of the n = 2^r choices; n if none does.
-fn first_of(ring: &[i32], r: usize, chain: &[i32], size: u32, wanted: u64, n: u32, k: u32) -> u32
+fn first_of_count(
+    ring: &[i32],
+    r: usize,
+    chain: &[i32],
+    size: u32,
+    wanted: u64,
+    n: u32,
+    k: u32,
+) -> u32
     requires { ⌜ (r ≤ 12) × (r * 2 ≤ length (now ring)) ⌝ }
-    ensures { λ c. ⌜ c ≡ Search.firstOf (Choice.trialOf (now (ring .entry)) (now (chain .entry)) size r) wanted n k ⌝ }
+    ensures { λ c. ⌜ c ≡ Search.firstOfCount (Choice.trialOf (now (ring .entry)) (now (chain .entry)) size r) wanted n k ⌝ }
 {
     for c in 0..n {
         if hits(ring, r, chain, size, wanted, k, c) {
@@ -116,7 +124,7 @@ fn least(ring: &[i32], r: usize, chain: &[i32], size: u32, wanted: u64) -> u32
 {
     let n = power(r);
     for k in 3..r + 1 {
-        let c = first_of(ring, r, chain, size, wanted, n, k as u32);
+        let c = first_of_count(ring, r, chain, size, wanted, n, k as u32);
         if c < n {
             return c;
         }

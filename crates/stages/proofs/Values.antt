@@ -11,7 +11,6 @@ use mir.Val.{SFits, toZ, ofZ}
 use mir.Facts.{toZ-ofZ}
 use Rattle.laws.proofs.Integers.{natAbs-sub}
 use Rattle.laws.proofs.Signed as signed
-use Rattle.vector.specs.Grid.{origin}
 use Rattle.vector.specs.Size.{OnSheet}
 
 -- ---- a number below the limit, and the opposite of one
@@ -45,9 +44,6 @@ on-sheet x y h k =
       x = rw (signed.back32 x (omega arith)) h;
       y = rw (signed.back32 y (omega arith)) k;
     }
-
-pub on-origin : OnSheet origin
-on-origin = record { x = omega arith; y = omega arith }
 
 -- ---- a double equal to itself has bits
 pub real : (x : Float) → eq x x ≡ true → T (not (isNan x))

@@ -29,8 +29,6 @@ unfolding put
 in-front l t r m h = ap (take r) (h .list) ∙ take-at t _ r (sym (h .bytes))
 
 -- and the part of a list that holds it is as long as it says
-pub part-length {ℓ} : {A : Type ℓ} (r n : ℕ) (m : List A) → length m ≡ n → r ≤ n → r ≡ length (take r m)
-part-length r n m e h = sym (length-take-le r m (omega arith))
 
 -- the two cases of a row
 module _ (n used : ℕ) (v : Row) (cells : List ℕ) where

@@ -40,11 +40,13 @@ use Rattle.job.specs.Step as Step
 use Rattle.job.specs.Run as Run
 
 unfoldable pub in-doubles : Unit {0}
-unfolding Ieee.add Ieee.sub Ieee.mul Ieee.div Ieee.lt Ieee.le Ieee.ofInt Ieee.round Ieee.size Ieee.units Ieee.toBits Ieee.ofBits Double.lit Double.clamp Bounded.any Bounded.parity Bounded.first
+unfolding Ieee.add Ieee.sub Ieee.mul Ieee.div Ieee.lt Ieee.le Ieee.ofInt Ieee.round Ieee.size Ieee.units Ieee.toBits Ieee.ofBits
+    Double.lit Double.clamp Bounded.any Bounded.parity Bounded.first
 in-doubles = tt
 
 unfoldable pub in-vector : Unit {0}
-unfolding Grid.sub Grid.dot Grid.cross Grid.same Grid.at Grid.prev Grid.term Grid.areaTo Grid.polygonArea Units.mm Units.mm² Plane.inMm Plane.sub Plane.dot Plane.cross Plane.lerp
+unfolding Grid.sub Grid.dot Grid.cross Grid.same Grid.at Grid.prev Grid.term Grid.areaTo Grid.polygonArea Units.mm Units.mm² Plane.inMm Plane.sub
+    Plane.dot Plane.cross Plane.lerp
 in-vector = tt
 
 unfoldable pub in-root : Unit {0}
@@ -56,11 +58,13 @@ unfolding Cosine.cosine Chain.arc Chain.stays Chain.lastKept Chain.pointAtArclen
 in-chain = tt
 
 unfoldable pub in-clean : Unit {0}
-unfolding Clean.tolerance Clean.near Clean.spaced Clean.opened Clean.pointSegmentDistance Clean.flat Clean.bent Clean.straightened Clean.pass Clean.passes Clean.cleanPolygon
+unfolding Clean.tolerance Clean.near Clean.spaced Clean.opened Clean.pointSegmentDistance Clean.flat Clean.bent Clean.straightened Clean.pass
+    Clean.passes Clean.cleanPolygon
 in-clean = tt
 
 unfoldable pub in-simple : Unit {0}
-unfolding Simple.interior Simple.ratio Simple.segmentsCross Simple.edgesCross Simple.polygonSimple Simple.rayMeets Simple.meetsEdge Simple.pointInPolygon Meeting.onLine Meeting.strictlyBetween
+unfolding Simple.interior Simple.ratio Simple.segmentsCross Simple.edgesCross Simple.polygonSimple Simple.rayMeets Simple.meetsEdge
+    Simple.pointInPolygon Meeting.onLine Meeting.strictlyBetween
 in-simple = tt
 
 unfoldable pub in-marks : Unit {0}
@@ -72,24 +76,33 @@ unfolding Corner.quotient Corner.byQuadrant Corner.measure Corner.bad Corner.mea
 in-corner = tt
 
 unfoldable pub in-diagonal : Unit {0}
-unfolding Diagonal.inRange Diagonal.clearOf Diagonal.blocks Diagonal.runsOver Diagonal.cosineNext Diagonal.cosinePrev Diagonal.meetsRule Diagonal.larger Diagonal.score Diagonal.better Diagonal.bestTo
+unfolding Diagonal.inRange Diagonal.clearOf Diagonal.blocks Diagonal.runsOver Diagonal.cosineNext Diagonal.cosinePrev Diagonal.meetsRule
+    Diagonal.larger Diagonal.score Diagonal.better Diagonal.bestTo
 in-diagonal = tt
 
 unfoldable pub in-split : Unit {0}
-unfolding Cut.oriented Cut.makeSubPolygon Cut.turnedArea Cut.firstPart Cut.secondPart Cut.turnedIn Split.splitPolygonAt Split.cutAt Split.pop Split.pops Split.splitBadVertices
+unfolding Cut.oriented Cut.makeSubPolygon Cut.turnedArea Cut.firstPart Cut.secondPart Cut.turnedIn Split.splitPolygonAt Split.cutAt Split.pop
+    Split.pops Split.splitBadVertices
 in-split = tt
 
 unfoldable pub in-cells : Unit {0}
-unfolding Keys.rounded Keys.key Nodes.hasKey Nodes.number Nodes.addNode Nodes.addNodes Quads.middle Quads.tooFar Quads.edgeMiddle Quads.total Quads.mean Quads.turnsLeft Quads.quadPositive Quads.allDistinct Quads.holds Quads.cellsTo Cells.attempt Cells.subdivide Pieces.onward Pieces.piecesTo Asks.allMarked Asks.asksFor Asks.attemptAsks Asks.subdivideAsks Asks.onwardAsks Asks.asksTo Rims.onRimAt Rims.rimAt Rims.rimsBy
+unfolding Keys.rounded Keys.key Nodes.hasKey Nodes.number Nodes.addNode Nodes.addNodes Quads.middle Quads.tooFar Quads.edgeMiddle Quads.total
+    Quads.mean Quads.turnsLeft Quads.quadPositive Quads.allDistinct Quads.holds Quads.cellsTo Cells.attempt Cells.subdivide Pieces.onward
+    Pieces.piecesTo Asks.allMarked Asks.asksFor Asks.attemptAsks Asks.subdivideAsks Asks.onwardAsks Asks.asksTo Rims.onRimAt Rims.rimAt Rims.rimsBy
 in-cells = tt
 
 unfoldable pub in-divider : Unit {0}
-unfolding Sets.between Sets.cosinesOut Sets.limitsOut Call.countsOut Call.outside Call.anyOutside Call.unitsOut Call.held Call.usable Call.rimsOut Call.listsOver Call.roomOut Divide.refused Divide.answered Divide.core Divide.divide
+unfolding Sets.between Sets.cosinesOut Sets.limitsOut Call.countsOut Call.outside Call.anyOutside Call.unitsOut NodesFlat.held Call.usable Call.rimsOut
+    Call.listsOver Call.roomOut Divide.refused Divide.answered Divide.core Divide.divide
 in-divider = tt
 
 -- the program: blocks, the call over lent lists, the printed lines, and the run
 unfoldable pub in-program : Unit {0}
-unfolding Table.tab Fields.pair Fields.word Fields.signed Fields.coordinate Fields.checkTo Fields.anyUsed Blocks.headWrong Blocks.sizeWrong Blocks.unusedWrong Blocks.refusal Blocks.refusedBlock Blocks.acceptedBlock Blocks.readBlock NodesFlat.nodesIn QuadsFlat.overCells Lent.divideLent Text.bytes Text.digits Text.decimal Text.marks Text.part Text.filledTo Text.filled Report.hundredths Report.ringLine Report.nodesLine Report.quadLine Report.quadLines Report.ringText Report.refusedRing Report.refusedBlock Told.rowText Told.toldText Step.ends Step.waits Step.divides Step.taken Step.stepOf Run.onward Run.ran Run.readTo Run.wholeRun Run.printed
+unfolding Table.tab Fields.pair Fields.word Fields.signed Fields.coordinate Fields.checkTo Fields.anyUsed Blocks.headWrong Blocks.sizeWrong
+    Blocks.unusedWrong Blocks.refusal Blocks.refusedBlock Blocks.acceptedBlock Blocks.readBlock NodesFlat.nodesIn QuadsFlat.overCells Lent.divideLent
+    Text.bytes Text.digits Text.decimal Text.marks Text.part Text.filledTo Text.filled Report.hundredths Report.ringLine Report.nodesLine
+    Report.quadLine Report.quadLines Report.ringText Report.refusedRing Report.refusedBlock Told.rowText Told.toldText Step.ends Step.waits Step.divides
+    Step.taken Step.stepOf Run.onward Run.ran Run.readTo Run.wholeRun Run.printed
 in-program = tt
 
 unfoldable pub computing : Unit {0}

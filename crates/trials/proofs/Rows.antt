@@ -102,8 +102,11 @@ right (gives c vs bs ks) t =
     let a = divide delivered c in
     let u = sameList eqb (values a) vs in
     let v = sameList eqb (bits (take (a .row .nodes) (a .nodes))) bs in
-    let w = sameList sameCell (newCells c a) ks in
-    (numbers-same (values a) vs (and-l u (v && w) t), numbers-same (bits (take (a .row .nodes) (a .nodes))) bs (and-l v w (and-r u (v && w) t)), cells-same (newCells c a) ks (and-r v w (and-r u (v && w) t)))
+    let w = sameList sameCell (newCells c a) ks in (
+      numbers-same (values a) vs (and-l u (v && w) t),
+      numbers-same (bits (take (a .row .nodes) (a .nodes))) bs (and-l v w (and-r u (v && w) t)),
+      cells-same (newCells c a) ks (and-r v w (and-r u (v && w) t)),
+    )
 right (node c i x y) t = numbers-same (bits (nodeAt (divide delivered c .nodes) i ∷ [])) (x ∷ y ∷ []) t
 right (refuses c n) t =
     let b = eqb (divide delivered c .row .code) n in
@@ -118,8 +121,12 @@ right (leaves c vs bs ts ks) t =
     let m = sameList eqb (a .rims) ts in
     let w = sameList sameCell (a .cells) ks in
     let q = and-r u (v && (m && w)) t in
-    let z = and-r v (m && w) q in
-    (numbers-same (values a) vs (and-l u (v && (m && w)) t), numbers-same (bits (a .nodes)) bs (and-l v (m && w) q), numbers-same (a .rims) ts (and-l m w z), cells-same (a .cells) ks (and-r m w z))
+    let z = and-r v (m && w) q in (
+      numbers-same (values a) vs (and-l u (v && (m && w)) t),
+      numbers-same (bits (a .nodes)) bs (and-l v (m && w) q),
+      numbers-same (a .rims) ts (and-l m w z),
+      cells-same (a .cells) ks (and-r m w z),
+    )
 right (rims c ts) t = numbers-same (divide delivered c .rims) ts t
 right (prints b t) h = numbers-same (printed b) (bytes t) h
 

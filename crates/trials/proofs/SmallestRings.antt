@@ -1,5 +1,5 @@
--- Card 13 worked out: 01's crossed ring (`crossed-6`) and its thin one (`thin-8`) are the smallest of their kind, three points of a clockwise square are enough for 7
--- (`clockwise-7`); and a ring for each of 1, 2, 18 and 19.
+-- Card 13 worked out: 01's crossed ring (`crossed-6`) and its thin one (`thin-8`) are the smallest of their kind, three points of a clockwise square are
+-- enough for 7 (`clockwise-7`); and a ring for each of 1, 2, 18 and 19.
 use mathlib.Core.Path.{_≡_, refl}
 use mathlib.Core.List.{List, [], _∷_}
 use lib.ListN.{replicate}
@@ -7,12 +7,12 @@ use lib.Count.{ones, onesIn}
 use lib.IntN.{ℤ, pos, negsuc}
 use Rattle.call.specs.Lent.{divideLent}
 use Rattle.smallest.specs.Choice.{chosen, numberOf}
-use Rattle.smallest.specs.Search.{firstOf, leastOf}
+use Rattle.smallest.specs.Search.{firstOfCount, leastOf}
 use Rattle.smallest.specs.Smallest.{refused, smallestOf, smallestRefused}
 use Rattle.trials.proofs.Compute.{computing}
 
 unfoldable searching : Unit {0}
-unfolding computing divideLent onesIn ones chosen numberOf firstOf leastOf smallestOf smallestRefused
+unfolding computing divideLent onesIn ones chosen numberOf firstOfCount leastOf smallestOf smallestRefused
 searching = tt
 
 abbrev crossed : List ℤ

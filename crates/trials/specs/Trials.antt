@@ -1,5 +1,5 @@
--- 01, Rings for trial: those with a *, as the rows of one table, over the program's own lists: "one node list of 1,536 places", "its cell list has 124". Then calls over lists
--- that hold nodes and cells already. proofs/Trials proves that every row holds.
+-- 01, Rings for trial: those with a *, as the rows of one table, over the program's own lists: "one node list of 1,536 places", "its cell list has 124". Then
+-- calls over lists that hold nodes and cells already. proofs/Trials proves that every row holds.
 use Prim.Native.Nat.{ℕ, _*_}
 use Prim.Native.String.{String}
 use mathlib.Core.Path.{_≡_}
@@ -31,7 +31,17 @@ whole x y = units (x *ℤ pos 8192) (y *ℤ pos 8192)
 
 -- a ring and a chain over the program's lists, none of them used, sheet size 1
 abbrev pub sized : ℕ → List GridPoint → List GridPoint → Call
-sized size r c = record { ring = r; chain = c; size = size; nodes = replicate 1536 noNode; nodeCount = 0; rims = replicate 1536 0; cells = replicate 124 noCell; cellCount = 0 }
+sized size r c =
+    record {
+      ring = r;
+      chain = c;
+      size = size;
+      nodes = replicate 1536 noNode;
+      nodeCount = 0;
+      rims = replicate 1536 0;
+      cells = replicate 124 noCell;
+      cellCount = 0;
+    }
 
 abbrev pub fresh : List GridPoint → List GridPoint → Call
 fresh r c = sized 1 r c
@@ -77,13 +87,16 @@ pub data Trial : Type 0 where
 -- a row holds
 abbrev pub Holds : Trial → Type 0
 Holds (answers c vs) = values (divide delivered c) ≡ vs
-Holds (gives c vs bs ks) = (values (divide delivered c) ≡ vs) × (bits (take (divide delivered c .row .nodes) (divide delivered c .nodes)) ≡ bs) × (newCells c (divide delivered c) ≡ ks)
+Holds (gives c vs bs ks) =
+    (values (divide delivered c) ≡ vs) × (bits (take (divide delivered c .row .nodes) (divide delivered c .nodes)) ≡ bs)
+    × (newCells c (divide delivered c) ≡ ks)
 Holds (node c i x y) = bits (nodeAt (divide delivered c .nodes) i ∷ []) ≡ x ∷ y ∷ []
 Holds (refuses c n) = divide delivered c ≡ refused (listsOf c) n
 Holds (enters c) = entry delivered c ≡ 0
 Holds (corner u v b) = bad delivered (measure u v) ≡ b
 Holds (root x y) = rootBits x ≡ y
-Holds (leaves c vs bs ts ks) = (values (divide delivered c) ≡ vs) × (bits (divide delivered c .nodes) ≡ bs) × (divide delivered c .rims ≡ ts) × (divide delivered c .cells ≡ ks)
+Holds (leaves c vs bs ts ks) =
+    (values (divide delivered c) ≡ vs) × (bits (divide delivered c .nodes) ≡ bs) × (divide delivered c .rims ≡ ts) × (divide delivered c .cells ≡ ks)
 Holds (rims c ts) = divide delivered c .rims ≡ ts
 Holds (prints b t) = printed b ≡ bytes t
 
@@ -136,7 +149,9 @@ starred =
     prints squareBlocks "ring 0 corners 4 cuts 0 turned 0 area 100\nnodes 9 new 9\nquad 8 4 1 5\nquad 8 5 2 6\nquad 8 6 3 7\nquad 8 7 0 4\n" ∷
     -- the square: n 4, s 0, turned 0, 1 mm² (doubled, in units squared), 9 nodes, its cells
     gives square (0 ∷ 4 ∷ 0 ∷ 0 ∷ 1 ∷ 0 ∷ 2 * 8192 * 8192 ∷ 0 ∷ 9 ∷ 4 ∷ [])
-    (0 ∷ 0 ∷ 0x3ff0_0000_0000_0000 ∷ 0 ∷ 0x3ff0_0000_0000_0000 ∷ 0x3ff0_0000_0000_0000 ∷ 0 ∷ 0x3ff0_0000_0000_0000 ∷ 0x3fe0_0000_0000_0000 ∷ 0 ∷ 0x3ff0_0000_0000_0000 ∷ 0x3fe0_0000_0000_0000 ∷ 0x3fe0_0000_0000_0000 ∷ 0x3ff0_0000_0000_0000 ∷ 0 ∷ 0x3fe0_0000_0000_0000 ∷ 0x3fe0_0000_0000_0000 ∷ 0x3fe0_0000_0000_0000 ∷ [])
+    (0 ∷ 0 ∷ 0x3ff0_0000_0000_0000 ∷ 0 ∷ 0x3ff0_0000_0000_0000 ∷ 0x3ff0_0000_0000_0000 ∷ 0 ∷ 0x3ff0_0000_0000_0000 ∷ 0x3fe0_0000_0000_0000 ∷ 0
+    ∷ 0x3ff0_0000_0000_0000 ∷ 0x3fe0_0000_0000_0000 ∷ 0x3fe0_0000_0000_0000 ∷ 0x3ff0_0000_0000_0000 ∷ 0 ∷ 0x3fe0_0000_0000_0000 ∷ 0x3fe0_0000_0000_0000
+    ∷ 0x3fe0_0000_0000_0000 ∷ [])
     (cell 8 4 1 5 ∷ cell 8 5 2 6 ∷ cell 8 6 3 7 ∷ cell 8 7 0 4 ∷ [])
     -- s 1, 2 pieces, 6 cells, 11 nodes
     ∷ answers dart (0 ∷ 4 ∷ 0 ∷ 1 ∷ 2 ∷ 0 ∷ 20 * 8192 * 8192 ∷ 0 ∷ 11 ∷ 6 ∷ [])
@@ -171,7 +186,9 @@ twoOfOneKey =
       ring = whole (pos 0) (pos 0) ∷ whole (pos 1) (pos 0) ∷ whole (pos 0) (pos 1) ∷ [];
       chain = [];
       size = 1;
-      nodes = listed 0x3ff0_0000_0044_b830 0 ∷ listed 0x3ff0_0000_0000_0000 0 ∷ listed 0x4014_0000_0000_0000 0x4014_0000_0000_0000 ∷ replicate 11 (listed 0x401c_0000_0000_0000 0x4020_0000_0000_0000);
+      nodes =
+          listed 0x3ff0_0000_0044_b830 0 ∷ listed 0x3ff0_0000_0000_0000 0 ∷ listed 0x4014_0000_0000_0000 0x4014_0000_0000_0000
+          ∷ replicate 11 (listed 0x401c_0000_0000_0000 0x4020_0000_0000_0000);
       nodeCount = 3;
       rims = 0 ∷ 0 ∷ 1 ∷ replicate 11 7;
       cells = cell 9 9 9 9 ∷ replicate 4 (cell 5 6 7 8);
@@ -192,7 +209,8 @@ thinInUse =
       cellCount = 1;
     }
 
--- the dart of 01 on a list with a node at (0, 9.500000001): the middle of its cut is (0, 9.5), whose key that node has, so that the node is the middle in both pieces
+-- the dart of 01 on a list with a node at (0, 9.500000001): the middle of its cut is (0, 9.5), whose key that node has, so that the node is the middle in
+-- both pieces
 unfoldable pub middleListed : Call
 middleListed =
     record {
@@ -209,15 +227,24 @@ middleListed =
 abbrev pub inUse : List Trial
 inUse =
     leaves twoOfOneKey (0 ∷ 3 ∷ 0 ∷ 0 ∷ 1 ∷ 0 ∷ 8192 * 8192 ∷ 0 ∷ 9 ∷ 4 ∷ [])
-    (0x3ff0_0000_0044_b830 ∷ 0 ∷ 0x3ff0_0000_0000_0000 ∷ 0 ∷ 0x4014_0000_0000_0000 ∷ 0x4014_0000_0000_0000 ∷ 0 ∷ 0 ∷ 0 ∷ 0x3ff0_0000_0000_0000 ∷ 0x3fe0_0000_0044_b830 ∷ 0 ∷ 0x3fe0_0000_0044_b830 ∷ 0x3fe0_0000_0000_0000 ∷ 0 ∷ 0x3fe0_0000_0000_0000 ∷ 0x3fd5_5555_55b0_f595 ∷ 0x3fd5_5555_5555_5555 ∷ 0x401c_0000_0000_0000 ∷ 0x4020_0000_0000_0000 ∷ 0x401c_0000_0000_0000 ∷ 0x4020_0000_0000_0000 ∷ 0x401c_0000_0000_0000 ∷ 0x4020_0000_0000_0000 ∷ 0x401c_0000_0000_0000 ∷ 0x4020_0000_0000_0000 ∷ 0x401c_0000_0000_0000 ∷ 0x4020_0000_0000_0000 ∷ [])
+    (0x3ff0_0000_0044_b830 ∷ 0 ∷ 0x3ff0_0000_0000_0000 ∷ 0 ∷ 0x4014_0000_0000_0000 ∷ 0x4014_0000_0000_0000 ∷ 0 ∷ 0 ∷ 0 ∷ 0x3ff0_0000_0000_0000
+    ∷ 0x3fe0_0000_0044_b830 ∷ 0 ∷ 0x3fe0_0000_0044_b830 ∷ 0x3fe0_0000_0000_0000 ∷ 0 ∷ 0x3fe0_0000_0000_0000 ∷ 0x3fd5_5555_55b0_f595 ∷ 0x3fd5_5555_5555_5555
+    ∷ 0x401c_0000_0000_0000 ∷ 0x4020_0000_0000_0000 ∷ 0x401c_0000_0000_0000 ∷ 0x4020_0000_0000_0000 ∷ 0x401c_0000_0000_0000 ∷ 0x4020_0000_0000_0000
+    ∷ 0x401c_0000_0000_0000 ∷ 0x4020_0000_0000_0000 ∷ 0x401c_0000_0000_0000 ∷ 0x4020_0000_0000_0000 ∷ [])
     (1 ∷ 0 ∷ 1 ∷ 1 ∷ 1 ∷ 1 ∷ 1 ∷ 1 ∷ 0 ∷ replicate 5 7)
     (cell 9 9 9 9 ∷ cell 8 5 0 6 ∷ cell 8 6 4 7 ∷ cell 8 7 3 5 ∷ cell 5 6 7 8 ∷ []) ∷
     leaves thinInUse (8 ∷ 4 ∷ 0 ∷ 0 ∷ 0 ∷ 0 ∷ 0 ∷ 0 ∷ 10 ∷ 1 ∷ [])
-    (0x4014_0000_0000_0000 ∷ 0x4014_0000_0000_0000 ∷ 0xc024_0000_0000_0000 ∷ 0 ∷ 0 ∷ 0x4058_c000_0000_0000 ∷ 0x4024_0000_0000_0000 ∷ 0 ∷ 0 ∷ 0x4059_0000_0000_0000 ∷ 0xc014_0000_0000_0000 ∷ 0x4048_c000_0000_0000 ∷ 0x4014_0000_0000_0000 ∷ 0x4048_c000_0000_0000 ∷ 0x4014_0000_0000_0000 ∷ 0x4049_0000_0000_0000 ∷ 0xc014_0000_0000_0000 ∷ 0x4049_0000_0000_0000 ∷ 0 ∷ 0x4048_e000_0000_0000 ∷ 0x401c_0000_0000_0000 ∷ 0x4020_0000_0000_0000 ∷ 0x401c_0000_0000_0000 ∷ 0x4020_0000_0000_0000 ∷ 0x401c_0000_0000_0000 ∷ 0x4020_0000_0000_0000 ∷ 0x401c_0000_0000_0000 ∷ 0x4020_0000_0000_0000 ∷ 0x401c_0000_0000_0000 ∷ 0x4020_0000_0000_0000 ∷ 0x401c_0000_0000_0000 ∷ 0x4020_0000_0000_0000 ∷ 0x401c_0000_0000_0000 ∷ 0x4020_0000_0000_0000 ∷ [])
+    (0x4014_0000_0000_0000 ∷ 0x4014_0000_0000_0000 ∷ 0xc024_0000_0000_0000 ∷ 0 ∷ 0 ∷ 0x4058_c000_0000_0000 ∷ 0x4024_0000_0000_0000 ∷ 0 ∷ 0
+    ∷ 0x4059_0000_0000_0000 ∷ 0xc014_0000_0000_0000 ∷ 0x4048_c000_0000_0000 ∷ 0x4014_0000_0000_0000 ∷ 0x4048_c000_0000_0000 ∷ 0x4014_0000_0000_0000
+    ∷ 0x4049_0000_0000_0000 ∷ 0xc014_0000_0000_0000 ∷ 0x4049_0000_0000_0000 ∷ 0 ∷ 0x4048_e000_0000_0000 ∷ 0x401c_0000_0000_0000 ∷ 0x4020_0000_0000_0000
+    ∷ 0x401c_0000_0000_0000 ∷ 0x4020_0000_0000_0000 ∷ 0x401c_0000_0000_0000 ∷ 0x4020_0000_0000_0000 ∷ 0x401c_0000_0000_0000 ∷ 0x4020_0000_0000_0000
+    ∷ 0x401c_0000_0000_0000 ∷ 0x4020_0000_0000_0000 ∷ 0x401c_0000_0000_0000 ∷ 0x4020_0000_0000_0000 ∷ 0x401c_0000_0000_0000 ∷ 0x4020_0000_0000_0000 ∷ [])
     (0 ∷ 1 ∷ 1 ∷ 1 ∷ 1 ∷ 1 ∷ 1 ∷ 1 ∷ 1 ∷ 0 ∷ replicate 7 7)
     (cell 9 9 9 9 ∷ replicate 6 noCell ++ replicate 2 (cell 5 6 7 8)) ∷
     gives middleListed (0 ∷ 4 ∷ 0 ∷ 1 ∷ 2 ∷ 0 ∷ 20 * 8192 * 8192 ∷ 0 ∷ 11 ∷ 6 ∷ [])
-    (0 ∷ 0x4023_0000_0008_9706 ∷ 0 ∷ 0x4024_0000_0000_0000 ∷ 0xc024_0000_0000_0000 ∷ 0 ∷ 0 ∷ 0x4022_0000_0000_0000 ∷ 0xc014_0000_0000_0000 ∷ 0x4014_0000_0000_0000 ∷ 0xc014_0000_0000_0000 ∷ 0x4012_0000_0000_0000 ∷ 0xc00a_aaaa_aaaa_aaab ∷ 0x4019_5555_5555_5555 ∷ 0x4024_0000_0000_0000 ∷ 0 ∷ 0x4014_0000_0000_0000 ∷ 0x4012_0000_0000_0000 ∷ 0x4014_0000_0000_0000 ∷ 0x4014_0000_0000_0000 ∷ 0x400a_aaaa_aaaa_aaab ∷ 0x4019_5555_5555_5555 ∷ [])
+    (0 ∷ 0x4023_0000_0008_9706 ∷ 0 ∷ 0x4024_0000_0000_0000 ∷ 0xc024_0000_0000_0000 ∷ 0 ∷ 0 ∷ 0x4022_0000_0000_0000 ∷ 0xc014_0000_0000_0000
+    ∷ 0x4014_0000_0000_0000 ∷ 0xc014_0000_0000_0000 ∷ 0x4012_0000_0000_0000 ∷ 0xc00a_aaaa_aaaa_aaab ∷ 0x4019_5555_5555_5555 ∷ 0x4024_0000_0000_0000 ∷ 0
+    ∷ 0x4014_0000_0000_0000 ∷ 0x4012_0000_0000_0000 ∷ 0x4014_0000_0000_0000 ∷ 0x4014_0000_0000_0000 ∷ 0x400a_aaaa_aaaa_aaab ∷ 0x4019_5555_5555_5555 ∷ [])
     (cell 6 4 2 5 ∷ cell 6 5 3 0 ∷ cell 6 0 1 4 ∷ cell 10 8 7 9 ∷ cell 10 9 1 0 ∷ cell 10 0 3 8 ∷ []) ∷
     []
 

@@ -11,7 +11,7 @@ use lib.ListN.{length, set, take, drop, length-append, length-set, length-drop, 
 use lib.Seq.{take-suc-set, take-all, length-take-le, drop-append-le, drop-set-lt, drop-drop}
 use borrow.Author.Tests.{lt-ltb, le-ltb}
 use Rattle.wear.specs.declared.Record.{Record}
-use Rattle.wear.specs.Wear.{total, highest, held, grown, stored}
+use Rattle.wear.specs.Wear.{total, highest, heldCuts, grown, stored}
 use Rattle.wear.specs.Answers.{last}
 use Rattle.wear.proofs.Laws.{total-append, highest-append, greater-comm}
 use Rattle.wear.proofs.Tests.{Valid, next-low, next-same}
@@ -42,40 +42,46 @@ last-last n l m = go (length l - n) refl
 
 -- ---- a record's rings, the oldest first
 abbrev pub aged : Record → List ℕ
-aged r = drop (r .next) (held r) ++ take (r .next) (held r)
+aged r = drop (r .next) (heldCuts r) ++ take (r .next) (heldCuts r)
 
-pub aged-total : (r : Record) → total (held r) ≡ total (aged r)
+pub aged-total : (r : Record) → total (heldCuts r) ≡ total (aged r)
 aged-total r =
-    let a = take (r .next) (held r) in
-    let b = drop (r .next) (held r) in
-    ap total (sym (take-append-drop (r .next) (held r))) ∙ total-append a b ∙ omega (arith, total-append b a)
+    let a = take (r .next) (heldCuts r) in
+    let b = drop (r .next) (heldCuts r) in
+    ap total (sym (take-append-drop (r .next) (heldCuts r))) ∙ total-append a b ∙ omega (arith, total-append b a)
 
-pub aged-highest : (r : Record) → highest (held r) ≡ highest (aged r)
+pub aged-highest : (r : Record) → highest (heldCuts r) ≡ highest (aged r)
 aged-highest r =
-    let a = take (r .next) (held r) in
-    let b = drop (r .next) (held r) in
-    ap highest (sym (take-append-drop (r .next) (held r))) ∙ highest-append a b ∙ greater-comm (highest a) (highest b) ∙ sym (highest-append b a)
+    let a = take (r .next) (heldCuts r) in
+    let b = drop (r .next) (heldCuts r) in
+    ap highest (sym (take-append-drop (r .next) (heldCuts r))) ∙ highest-append a b ∙ greater-comm (highest a) (highest b) ∙ sym (highest-append b a)
 
 pub aged-length : (r : Record) → length (r .cuts) ≡ 32 → Valid r → r .rings ≡ length (aged r)
 aged-length r h v =
     let w = v .few in
     let k = next-low r v in
-    let p : length (held r) ≡ r .rings = length-take-le (r .rings) (r .cuts) (omega arith) in
-    let q : length (take (r .next) (held r) ++ drop (r .next) (held r)) ≡ r .rings = ap length (take-append-drop (r .next) (held r)) ∙ p in
-    omega (arith, length-append (take (r .next) (held r)) (drop (r .next) (held r)), length-append (drop (r .next) (held r)) (take (r .next) (held r)), q)
+    let p : length (heldCuts r) ≡ r .rings = length-take-le (r .rings) (r .cuts) (omega arith) in
+    let q : length (take (r .next) (heldCuts r) ++ drop (r .next) (heldCuts r)) ≡ r .rings = ap length (take-append-drop (r .next) (heldCuts r)) ∙ p in
+    omega (
+      arith,
+      length-append (take (r .next) (heldCuts r)) (drop (r .next) (heldCuts r)),
+      length-append (drop (r .next) (heldCuts r)) (take (r .next) (heldCuts r)),
+      q,
+    )
 
 -- fewer than 32: the places in order
-pub aged-few : (r : Record) → Valid r → length (r .cuts) ≡ 32 → r .rings < 32 → aged r ≡ held r
+pub aged-few : (r : Record) → Valid r → length (r .cuts) ≡ 32 → r .rings < 32 → aged r ≡ heldCuts r
 aged-few r v h k =
     let w = v .few in
     let n = next-same r v k in
-    let p : length (held r) ≡ r .rings = length-take-le (r .rings) (r .cuts) (omega arith) in
-    let a : drop (r .next) (held r) ≡ [] = drop-of-length-le (held r) {i = r .next} (omega arith) in
-    let b : take (r .next) (held r) ≡ held r = take-all (r .next) (held r) (omega arith) in
+    let p : length (heldCuts r) ≡ r .rings = length-take-le (r .rings) (r .cuts) (omega arith) in
+    let a : drop (r .next) (heldCuts r) ≡ [] = drop-of-length-le (heldCuts r) {i = r .next} (omega arith) in
+    let b : take (r .next) (heldCuts r) ≡ heldCuts r = take-all (r .next) (heldCuts r) (omega arith) in
     λ j. a j ++ b j
 
 -- the list l with x at its place i, of n: the rest after it, then those before it and x
-around : (l : List ℕ) (i x : ℕ) → length l ≡ 32 → i < 32 → drop ((i + 1) % 32) (set l i x) ++ take ((i + 1) % 32) (set l i x) ≡ drop (suc i) l ++ (take i l ++ (x ∷ []))
+around : (l : List ℕ) (i x : ℕ) → length l ≡ 32 → i < 32
+    → drop ((i + 1) % 32) (set l i x) ++ take ((i + 1) % 32) (set l i x) ≡ drop (suc i) l ++ (take i l ++ (x ∷ []))
 around l i x h k = ⊎-elim wrap go (eq-or-lt-of-le (omega arith))
   where
     wrap : suc i ≡ 32 → drop ((i + 1) % 32) (set l i x) ++ take ((i + 1) % 32) (set l i x) ≡ drop (suc i) l ++ (take i l ++ (x ∷ []))
@@ -100,9 +106,10 @@ module _ (r : Record) (x : ℕ) (h : length (r .cuts) ≡ 32) (v : Valid r) wher
       let n = next-same r v k in
       let w = v .few in
       let g : grown (r .rings) ≡ suc (r .rings) = rw (lt-ltb (r .rings) 32 k) (add-one (r .rings)) in
-      let a : take (grown (r .rings)) (set (r .cuts) (r .next) x) ≡ held r ++ (x ∷ []) = rw (g, n) (take-suc-set (r .cuts) (r .rings) x (omega arith)) in
-      let p : length (held r ++ (x ∷ [])) ≡ suc (r .rings) = length-append (held r) (x ∷ []) ∙ omega (arith, length-take-le (r .rings) (r .cuts) (omega arith)) in
-      rw (a, aged-few r v h k, last-few 32 (held r ++ (x ∷ [])) (omega arith), n) (turn (held r ++ (x ∷ [])) (r .rings) p k)
+      let a : take (grown (r .rings)) (set (r .cuts) (r .next) x) ≡ heldCuts r ++ (x ∷ []) = rw (g, n) (take-suc-set (r .cuts) (r .rings) x (omega arith)) in
+      let p : length (heldCuts r ++ (x ∷ [])) ≡ suc (r .rings) =
+      length-append (heldCuts r) (x ∷ []) ∙ omega (arith, length-take-le (r .rings) (r .cuts) (omega arith)) in
+      rw (a, aged-few r v h k, last-few 32 (heldCuts r ++ (x ∷ [])) (omega arith), n) (turn (heldCuts r ++ (x ∷ [])) (r .rings) p k)
     where
       turn : (l : List ℕ) (m : ℕ) → length l ≡ suc m → m < 32 → drop ((m + 1) % 32) l ++ take ((m + 1) % 32) l ≡ l
       turn l m p k = ⊎-elim wrap go (eq-or-lt-of-le (omega arith))
@@ -126,8 +133,10 @@ module _ (r : Record) (x : ℕ) (h : length (r .cuts) ≡ 32) (v : Valid r) wher
       let d : length (drop i (r .cuts)) ≡ 32 - i = simp length-drop (omega arith) in
       let u : length (take i (r .cuts)) ≡ i = length-take-le i (r .cuts) (omega arith) in
       let b : length ((drop i (r .cuts) ++ take i (r .cuts)) ++ (x ∷ [])) ≡ 33 = simp length-append (omega (arith, d, u)) in
-      let e : (drop i (r .cuts) ++ take i (r .cuts)) ++ (x ∷ []) ≡ drop i (r .cuts) ++ (take i (r .cuts) ++ (x ∷ [])) = append-assoc (drop i (r .cuts)) (take i (r .cuts)) (x ∷ []) in
-      let f : drop 1 (drop i (r .cuts) ++ (take i (r .cuts) ++ (x ∷ []))) ≡ drop 1 (drop i (r .cuts)) ++ (take i (r .cuts) ++ (x ∷ [])) = drop-append-le 1 (drop i (r .cuts)) (take i (r .cuts) ++ (x ∷ [])) (omega arith) in
+      let e : (drop i (r .cuts) ++ take i (r .cuts)) ++ (x ∷ []) ≡ drop i (r .cuts) ++ (take i (r .cuts) ++ (x ∷ [])) =
+      append-assoc (drop i (r .cuts)) (take i (r .cuts)) (x ∷ []) in
+      let f : drop 1 (drop i (r .cuts) ++ (take i (r .cuts) ++ (x ∷ []))) ≡ drop 1 (drop i (r .cuts)) ++ (take i (r .cuts) ++ (x ∷ [])) =
+      drop-append-le 1 (drop i (r .cuts)) (take i (r .cuts) ++ (x ∷ [])) (omega arith) in
       let q : drop 1 (drop i (r .cuts)) ≡ drop (suc i) (r .cuts) = drop-drop 1 i (r .cuts) ∙ ap (λ (n : ℕ). drop n (r .cuts)) (add-one i) in
       rw (g, s, t, b, e) (around (r .cuts) i x h w ∙ sym (f ∙ ap (λ (l : List ℕ). l ++ (take i (r .cuts) ++ (x ∷ []))) q))
 

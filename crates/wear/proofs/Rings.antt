@@ -1,9 +1,9 @@
--- Card 14's sentences. Of every list of answers from the empty record (`last-rings`): each call reports the values for the last 32 accepted, a refused one leaves
--- the record, the total is at most 1,024. Of every list of bytes and every answer (`as-it-came`): 0 or 20, the record as it came with 20 and with a refused ring, the
--- total at most 1,024. Of answers that have at most 32 cuts where their number is 0 (`follows`): never 20. The record's rings in order of age are the last 32 accepted.
+-- Card 14's sentences. Of every list of answers from the empty record (`last-rings`): each call reports the values for the last 32 accepted, a refused one
+-- leaves the record, the total is at most 1,024. Of every list of bytes and every answer (`as-it-came`): 0 or 20, the record as it came with 20 and with a
+-- refused ring, the total at most 1,024. Of answers that have at most 32 cuts where their number is 0 (`follows`): never 20. The record's rings in order of
+-- age are the last 32 accepted.
 use Prim.Native.Nat.{ℕ, zero, suc, _+_, _*_, _-_, _%_, _≤_, _<_}
 use native.Mathlib.Nat.{min-le-left}
-use native.Mathlib.Numerals.{add-one}
 use native.Mathlib.Omega.{arith}
 use mathlib.Core.Path.{_≡_, refl, sym, ap, _∙_, subst}
 use mathlib.Core.Logic.{_⊎_, inl, inr}
@@ -14,16 +14,14 @@ use lib.Seq.{take-all, take-suc, getD-set-same, getD-set-other, getD-append-add,
 use lib.Dec.{ltb, leb, eqb}
 use borrow.Author.Tests.{ltb-true, ltb-false, le-ltb, le-leb, lt-leb, leb-true, leb-false, eq-eqb, ne-eqb, eqb-true, eqb-false}
 use Rattle.laws.specs.Bounded.{any}
-use Rattle.laws.proofs.Search.{any-pass, any-none}
+use Rattle.laws.proofs.Search.{any-at, any-fails}
 use Rattle.laws.proofs.Lists.{all-drop, all-right}
 use Rattle.laws.specs.All.{All}
-use Rattle.laws.proofs.Booleans.{is-false, not-of}
 use Rattle.wear.specs.declared.Record.{Record}
 use Rattle.wear.specs.declared.Added.{Added}
-use Rattle.wear.specs.Wear.{total, highest, held, overAt, anyOver, misplaced, invalid, grown, stored, reported, refused, added}
+use Rattle.wear.specs.Wear.{total, highest, heldCuts, overAt, anyOver, misplaced, invalid, grown, stored, reported, refused, added}
 use Rattle.wear.specs.Bytes.{recordIn, bytesOf, valuesOf, refusal, returned, left, AsItCame}
-use Rattle.wear.specs.Answers.{Answer, isAccepted, accepted, last, empty, after, valuesFor, LastRings, Fair, zeros, Follows}
-use Rattle.wear.proofs.Laws.{any-zero}
+use Rattle.wear.specs.Answers.{RingAnswer, isAccepted, accepted, last, empty, after, valuesFor, LastRings, FewCuts, zeros, Follows}
 use Rattle.wear.proofs.Tests.{Valid, is-valid, valid-passes, next-low, next-same, bad-record, refused-ring, over-cuts, one-more}
 use Rattle.wear.proofs.Age.{aged, aged-total, aged-highest, aged-length, aged-more, last-last, last-length}
 
@@ -38,14 +36,7 @@ kept-reported : (r : Record) → bytesOf (reported r .kept) ≡ bytesOf r
 unfolding reported
 kept-reported r = refl
 
--- ---- a test at every number below n
-at-false : (p : ℕ → Bool) (n : ℕ) → any p n ≡ false → (i : ℕ) → i < n → p i ≡ false
-at-false p n e i h = is-false (p i) (any-none p n (not-of (any p n) e) i h)
-
-all-false : (p : ℕ → Bool) (n : ℕ) → ((i : ℕ) → i < n → p i ≡ false) → any p n ≡ false
-all-false p zero h = any-zero p
-all-false p (suc n) h = ap (any p) (sym (add-one n)) ∙ any-pass p n (all-false p n (λ i k. h i (omega arith))) (h n (omega arith))
-
+-- ---- a next place that is the number of rings, or any of the 32
 well-placed : (m n : ℕ) → (m < 32 → n ≡ m) → n < 32 → misplaced m n ≡ false
 unfolding misplaced
 well-placed m n f h = go (ltb m 32) refl
@@ -76,7 +67,7 @@ module _ (r : Record) (x : ℕ) (h : length (r .cuts) ≡ 32) (v : Valid r) (u :
 
   small-all : anyOver (set (r .cuts) (r .next) x) (grown (r .rings)) ≡ false
   unfolding anyOver
-  small-all = all-false (overAt (set (r .cuts) (r .next) x)) (grown (r .rings)) at
+  small-all = any-fails (overAt (set (r .cuts) (r .next) x)) (grown (r .rings)) at
     where
       was : (i : ℕ) → (i ≡ r .next → ⊥) → i < grown (r .rings) → i < r .rings
       was i f k = go (ltb (r .rings) 32) refl k
@@ -92,12 +83,13 @@ module _ (r : Record) (x : ℕ) (h : length (r .cuts) ≡ 32) (v : Valid r) (u :
           go true e =
               let a = eqb-true i (r .next) e in
               let n = next-low r v in
-              let b : getD (set (r .cuts) (r .next) x) i 0 ≡ x = ap (λ (j : ℕ). getD (set (r .cuts) (r .next) x) j 0) a ∙ getD-set-same (r .cuts) (r .next) x 0 (omega arith) in
+              let b : getD (set (r .cuts) (r .next) x) i 0 ≡ x =
+              ap (λ (j : ℕ). getD (set (r .cuts) (r .next) x) j 0) a ∙ getD-set-same (r .cuts) (r .next) x 0 (omega arith) in
               le-ltb 32 (getD (set (r .cuts) (r .next) x) i 0) (omega (arith, b))
           go false e =
               let f = eqb-false i (r .next) e in
               let b : getD (set (r .cuts) (r .next) x) i 0 ≡ getD (r .cuts) i 0 = getD-set-other (r .cuts) (r .next) i x 0 f in
-              ap (ltb 32) b ∙ at-false (overAt (r .cuts)) (r .rings) (v .small) i (was i f k)
+              ap (ltb 32) b ∙ any-at (overAt (r .cuts)) (r .rings) (v .small) i (was i f k)
 
   stored-valid : Valid (stored r x)
   unfolding stored
@@ -120,12 +112,12 @@ forth l h =
     sym c ∙ ap (λ (m : List ℕ). m ++ (getD l 33 0 ∷ [])) (sym b) ∙ sym a ∙ take-all 34 l (omega arith)
 
 -- ---- the three ways of an answer
-data Way (a : Answer) : Type 0 where
+data Way (a : RingAnswer) : Type 0 where
   taken : a .code ≡ 0 → a .cuts ≤ 32 → Way a
   over : a .code ≡ 0 → 32 < a .cuts → Way a
   turned : (a .code ≡ 0 → ⊥) → Way a
 
-way : (a : Answer) → Way a
+way : (a : RingAnswer) → Way a
 way a = go (eqb (a .code) 0) (leb (a .cuts) 32) refl refl
   where
     go : (s t : Bool) → eqb (a .code) 0 ≡ s → leb (a .cuts) 32 ≡ t → Way a
@@ -152,11 +144,11 @@ module _ (l h : List ℕ) (s : Holds l h) where
       let c = aged-length r many (s .valid) ∙ ap length (s .same) in
       λ j. record { code = 0; total = a j; highest = b j; rings = c j }
 
-  is-left : (a : Answer) → left l (a .code) (a .cuts) ≡ bytesOf (added (recordIn l) (a .code) (a .cuts) .kept)
+  is-left : (a : RingAnswer) → left l (a .code) (a .cuts) ≡ bytesOf (added (recordIn l) (a .code) (a .cuts) .kept)
   unfolding left
   is-left a = rw (eq-eqb (length l) 34 (s .long))
 
-  is-returned : (a : Answer) → returned l (a .code) (a .cuts) ≡ valuesOf (added (recordIn l) (a .code) (a .cuts))
+  is-returned : (a : RingAnswer) → returned l (a .code) (a .cuts) ≡ valuesOf (added (recordIn l) (a .code) (a .cuts))
   unfolding returned
   is-returned a = rw (eq-eqb (length l) 34 (s .long))
 
@@ -164,7 +156,7 @@ module _ (l h : List ℕ) (s : Holds l h) where
   passes = valid-passes (recordIn l) (s .valid)
 
   -- accepted: one more
-  module _ (a : Answer) (e : a .code ≡ 0) (f : a .cuts ≤ 32) where
+  module _ (a : RingAnswer) (e : a .code ≡ 0) (f : a .cuts ≤ 32) where
     next : Record
     next = stored (recordIn l) (a .cuts)
 
@@ -196,61 +188,70 @@ module _ (l h : List ℕ) (s : Holds l h) where
         }
 
   -- refused or over: as it came
-  stays : (a : Answer) → isAccepted a ≡ false → left l (a .code) (a .cuts) ≡ l
+  stays : (a : RingAnswer) → isAccepted a ≡ false → left l (a .code) (a .cuts) ≡ l
   stays a e = go (way a)
     where
       go : Way a → left l (a .code) (a .cuts) ≡ l
       go (taken p q) = absurd (clash (isAccepted a) (rw (eq-eqb (a .code) 0 p) (le-leb (a .cuts) 32 q)) e)
-      go (over p q) = is-left a ∙ ap (λ (x : Added). bytesOf (x .kept)) (sym (over-cuts (recordIn l) (a .code) (a .cuts) passes p q)) ∙ kept-refused (recordIn l) ∙ forth l (s .long)
-      go (turned p) = is-left a ∙ ap (λ (x : Added). bytesOf (x .kept)) (sym (refused-ring (recordIn l) (a .code) (a .cuts) passes p)) ∙ kept-reported (recordIn l) ∙ forth l (s .long)
+      go (over p q) =
+          is-left a ∙ ap (λ (x : Added). bytesOf (x .kept)) (sym (over-cuts (recordIn l) (a .code) (a .cuts) passes p q)) ∙ kept-refused (recordIn l)
+          ∙ forth l (s .long)
+      go (turned p) =
+          is-left a ∙ ap (λ (x : Added). bytesOf (x .kept)) (sym (refused-ring (recordIn l) (a .code) (a .cuts) passes p)) ∙ kept-reported (recordIn l)
+          ∙ forth l (s .long)
 
   -- its number is not 0: the values of the record as it is
-  turned-reports : (a : Answer) → (a .code ≡ 0 → ⊥) → returned l (a .code) (a .cuts) ≡ valuesFor (last 32 h)
+  turned-reports : (a : RingAnswer) → (a .code ≡ 0 → ⊥) → returned l (a .code) (a .cuts) ≡ valuesFor (last 32 h)
   turned-reports a p = is-returned a ∙ ap valuesOf (sym (refused-ring (recordIn l) (a .code) (a .cuts) passes p)) ∙ values
 
-  over-reports : (a : Answer) → a .code ≡ 0 → 32 < a .cuts → returned l (a .code) (a .cuts) ≡ refusal
+  over-reports : (a : RingAnswer) → a .code ≡ 0 → 32 < a .cuts → returned l (a .code) (a .cuts) ≡ refusal
   unfolding refused
   over-reports a p q = is-returned a ∙ ap valuesOf (sym (over-cuts (recordIn l) (a .code) (a .cuts) passes p q))
 
-taken-reports : (l h : List ℕ) (s : Holds l h) (a : Answer) → a .code ≡ 0 → a .cuts ≤ 32 → returned l (a .code) (a .cuts) ≡ valuesFor (last 32 (h ++ (a .cuts ∷ [])))
+taken-reports : (l h : List ℕ) (s : Holds l h) (a : RingAnswer) → a .code ≡ 0 → a .cuts ≤ 32
+    → returned l (a .code) (a .cuts) ≡ valuesFor (last 32 (h ++ (a .cuts ∷ [])))
 taken-reports l h s a e f =
     is-returned l h s a ∙ ap valuesOf (answer l h s a e f) ∙ ap (λ (r : Record). valuesOf (reported r)) (sym (is-next l h s a e f))
     ∙ values (left l (a .code) (a .cuts)) (h ++ (a .cuts ∷ [])) (more l h s a e f)
 
 -- ---- every list of answers
-pub accepts : (a : Answer) → a .code ≡ 0 → a .cuts ≤ 32 → isAccepted a ≡ true
+pub accepts : (a : RingAnswer) → a .code ≡ 0 → a .cuts ≤ 32 → isAccepted a ≡ true
 accepts a p q = rw (eq-eqb (a .code) 0 p) (le-leb (a .cuts) 32 q)
 
-not-over : (a : Answer) → 32 < a .cuts → isAccepted a ≡ false
+not-over : (a : RingAnswer) → 32 < a .cuts → isAccepted a ≡ false
 not-over a q = go (eqb (a .code) 0)
   where
     go : (t : Bool) → (t && leb (a .cuts) 32) ≡ false
     go true = lt-leb (a .cuts) 32 q
     go false = refl
 
-not-turned : (a : Answer) → (a .code ≡ 0 → ⊥) → isAccepted a ≡ false
+not-turned : (a : RingAnswer) → (a .code ≡ 0 → ⊥) → isAccepted a ≡ false
 not-turned a p = rw (ne-eqb (a .code) 0 p)
 
-accepted-append : (gs ks : List Answer) → accepted (gs ++ ks) ≡ accepted gs ++ accepted ks
+accepted-append : (gs ks : List RingAnswer) → accepted (gs ++ ks) ≡ accepted gs ++ accepted ks
 unfolding accepted
 accepted-append [] ks = refl
 accepted-append (a ∷ gs) ks = go (isAccepted a) (accepted-append gs ks)
   where
-    go : (t : Bool) → accepted (gs ++ ks) ≡ accepted gs ++ accepted ks → cond t (a .cuts ∷ accepted (gs ++ ks)) (accepted (gs ++ ks)) ≡ cond t (a .cuts ∷ accepted gs) (accepted gs) ++ accepted ks
+    go : (t : Bool) → accepted (gs ++ ks) ≡ accepted gs ++ accepted ks
+        → cond t (a .cuts ∷ accepted (gs ++ ks)) (accepted (gs ++ ks)) ≡ cond t (a .cuts ∷ accepted gs) (accepted gs) ++ accepted ks
     go true e = ap (λ (l : List ℕ). a .cuts ∷ l) e
     go false e = e
 
-holds-after : (gs : List Answer) (l h : List ℕ) → Holds l h → Holds (after l gs) (h ++ accepted gs)
+holds-after : (gs : List RingAnswer) (l h : List ℕ) → Holds l h → Holds (after l gs) (h ++ accepted gs)
 unfolding after accepted
 holds-after [] l h s = subst (Holds l) (sym (append-nil h)) s
 holds-after (a ∷ gs) l h s = go (way a) (holds-after gs (left l (a .code) (a .cuts)))
   where
-    skip : isAccepted a ≡ false → ((k : List ℕ) → Holds (left l (a .code) (a .cuts)) k → Holds (after (left l (a .code) (a .cuts)) gs) (k ++ accepted gs)) → Holds (after (left l (a .code) (a .cuts)) gs) (h ++ cond (isAccepted a) (a .cuts ∷ accepted gs) (accepted gs))
+    skip : isAccepted a ≡ false → ((k : List ℕ) → Holds (left l (a .code) (a .cuts)) k → Holds (after (left l (a .code) (a .cuts)) gs) (k ++ accepted gs))
+        → Holds (after (left l (a .code) (a .cuts)) gs) (h ++ cond (isAccepted a) (a .cuts ∷ accepted gs) (accepted gs))
     skip e f = rw e (f h (subst (λ (m : List ℕ). Holds m h) (sym (stays l h s a e)) s))
 
-    go : Way a → ((k : List ℕ) → Holds (left l (a .code) (a .cuts)) k → Holds (after (left l (a .code) (a .cuts)) gs) (k ++ accepted gs)) → Holds (after (left l (a .code) (a .cuts)) gs) (h ++ cond (isAccepted a) (a .cuts ∷ accepted gs) (accepted gs))
+    go : Way a → ((k : List ℕ) → Holds (left l (a .code) (a .cuts)) k → Holds (after (left l (a .code) (a .cuts)) gs) (k ++ accepted gs))
+        → Holds (after (left l (a .code) (a .cuts)) gs) (h ++ cond (isAccepted a) (a .cuts ∷ accepted gs) (accepted gs))
     go (taken p q) f =
-        rw (accepts a p q) (subst (Holds (after (left l (a .code) (a .cuts)) gs)) (append-assoc h (a .cuts ∷ []) (accepted gs)) (f (h ++ (a .cuts ∷ [])) (more l h s a p q)))
+        rw (accepts a p q)
+        (subst (Holds (after (left l (a .code) (a .cuts)) gs)) (append-assoc h (a .cuts ∷ []) (accepted gs)) (f (h ++ (a .cuts ∷ [])) (more l h s a p q)))
     go (over p q) f = skip (not-over a q) f
     go (turned p) f = skip (not-turned a p) f
 
@@ -259,7 +260,7 @@ unfolding last misplaced anyOver any
 start = record { long = refl; valid = record { few = omega arith; place = refl; small = refl }; same = refl }
 
 -- ---- the total
-accepted-low : (gs : List Answer) → All (λ x. x ≤ 32) (accepted gs)
+accepted-low : (gs : List RingAnswer) → All (λ x. x ≤ 32) (accepted gs)
 unfolding accepted
 accepted-low [] = tt
 accepted-low (a ∷ gs) = go (way a) (accepted-low gs)
@@ -285,7 +286,7 @@ last-low : (l : List ℕ) → All (λ x. x ≤ 32) l → total (last 32 l) ≤ 1
 last-low l h = omega (arith, total-low (last 32 l) (last-all l h), last-length 32 l)
 
 -- ---- Card 14
-module _ (gs : List Answer) (a : Answer) where
+module _ (gs : List RingAnswer) (a : RingAnswer) where
   now : Holds (after empty gs) (accepted gs)
   now = holds-after gs empty [] start
 
@@ -312,7 +313,8 @@ module _ (gs : List Answer) (a : Answer) where
       go (over p q) = absurd (clash known e (unknown p q))
       go (turned p) = turned-reports (after empty gs) (accepted gs) now a p ∙ ap (λ (h : List ℕ). valuesFor (last 32 h)) (sym (one-skipped (not-turned a p)))
 
-  nothing : accepted (gs ++ (a ∷ [])) ≡ [] → (a .code ≡ 0 → ⊥) → returned (after empty gs) (a .code) (a .cuts) ≡ record { code = 0; total = 0; highest = 0; rings = 0 }
+  nothing : accepted (gs ++ (a ∷ [])) ≡ [] → (a .code ≡ 0 → ⊥)
+      → returned (after empty gs) (a .code) (a .cuts) ≡ record { code = 0; total = 0; highest = 0; rings = 0 }
   unfolding total highest last
   nothing e p = turned-reports (after empty gs) (accepted gs) now a p ∙ ap (λ (h : List ℕ). valuesFor (last 32 h)) (sym (one-skipped (not-turned a p)) ∙ e)
 
@@ -345,13 +347,16 @@ module _ (gs : List Answer) (a : Answer) where
 held-low : (l : List ℕ) (n : ℕ) → any (overAt l) n ≡ false → All (λ x. x ≤ 32) (take n l)
 held-low l zero e = tt
 held-low [] (suc n) e = tt
-held-low (x ∷ l) (suc n) e = (ltb-false 32 x (at-false (overAt (x ∷ l)) (suc n) e 0 (omega arith)), held-low l n (all-false (overAt l) n (λ i k. at-false (overAt (x ∷ l)) (suc n) e (suc i) (omega arith))))
+held-low (x ∷ l) (suc n) e = (
+  ltb-false 32 x (any-at (overAt (x ∷ l)) (suc n) e 0 (omega arith)),
+  held-low l n (any-fails (overAt l) n (λ i k. any-at (overAt (x ∷ l)) (suc n) e (suc i) (omega arith))),
+)
 
-valid-low : (r : Record) → Valid r → total (held r) ≤ 1024
+valid-low : (r : Record) → Valid r → total (heldCuts r) ≤ 1024
 unfolding anyOver
 valid-low r v =
-    let a = total-low (held r) (held-low (r .cuts) (r .rings) (v .small)) in
-    let b : length (held r) ≤ r .rings = rw (length-take (r .rings) (r .cuts)) (min-le-left (r .rings) (length (r .cuts))) in
+    let a = total-low (heldCuts r) (held-low (r .cuts) (r .rings) (v .small)) in
+    let b : length (heldCuts r) ≤ r .rings = rw (length-take (r .rings) (r .cuts)) (min-le-left (r .rings) (length (r .cuts))) in
     omega (arith, a, b, v .few)
 
 -- an answer into a record of 32 places
@@ -409,7 +414,7 @@ as-it-came l code cuts = go (eqb (length l) 34) refl
     go false e = record { either = rw e (inr refl); twenty = rw e (λ q. refl); unchanged = rw e (λ q. refl); long = rw e refl; bounded = rw e (omega arith) }
 
 -- ---- answers of divider calls
-zeros-accepted : (gs : List Answer) → All Fair gs → accepted gs ≡ zeros gs
+zeros-accepted : (gs : List RingAnswer) → All FewCuts gs → accepted gs ≡ zeros gs
 unfolding accepted zeros
 zeros-accepted [] h = refl
 zeros-accepted (a ∷ gs) h = go (way a) (zeros-accepted gs (h .1))
@@ -419,10 +424,10 @@ zeros-accepted (a ∷ gs) h = go (way a) (zeros-accepted gs (h .1))
     go (over p q) e = absurd (omega (arith, h .0 p, q))
     go (turned p) e = rw (not-turned a p, ne-eqb (a .code) 0 p) e
 
-pub follows : (gs : List Answer) (a : Answer) → Follows gs a
+pub follows : (gs : List RingAnswer) (a : RingAnswer) → Follows gs a
 follows gs a h = last-rings gs a .reports (go (way a)) ∙ ap (λ (l : List ℕ). valuesFor (last 32 l)) (zeros-accepted (gs ++ (a ∷ [])) h)
   where
     go : Way a → (isAccepted a || not (eqb (a .code) 0)) ≡ true
     go (taken p q) = rw (accepts a p q)
-    go (over p q) = absurd (omega (arith, all-right Fair gs (a ∷ []) h .0 p, q))
+    go (over p q) = absurd (omega (arith, all-right FewCuts gs (a ∷ []) h .0 p, q))
     go (turned p) = rw (not-turned a p, ne-eqb (a .code) 0 p)

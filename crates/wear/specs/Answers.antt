@@ -12,16 +12,16 @@ use Rattle.wear.specs.Wear.{total, highest, invalid}
 use Rattle.wear.specs.Bytes.{recordIn, refusal, returned, left}
 
 -- a divider call's answer: its number and its cuts
-pub record Answer : Type 0 where
+pub record RingAnswer : Type 0 where
   pub code : ℕ
   pub cuts : ℕ
 
 -- accepted: the number is 0. One with over 32 cuts is no answer of a divider call, and is refused with 20
-abbrev pub isAccepted : Answer → Bool
+abbrev pub isAccepted : RingAnswer → Bool
 isAccepted a = eqb (a .code) 0 && leb (a .cuts) 32
 
 -- the cuts of the accepted ones, in order
-unfoldable pub accepted : List Answer → List ℕ
+unfoldable pub accepted : List RingAnswer → List ℕ
 accepted [] = []
 accepted (a ∷ gs) = cond (isAccepted a) (a .cuts ∷ accepted gs) (accepted gs)
 
@@ -33,7 +33,7 @@ last n l = drop (length l - n) l
 abbrev pub empty : List ℕ
 empty = replicate 34 0
 
-unfoldable pub after : List ℕ → List Answer → List ℕ
+unfoldable pub after : List ℕ → List RingAnswer → List ℕ
 after l [] = l
 after l (a ∷ gs) = after (left l (a .code) (a .cuts)) gs
 
@@ -42,15 +42,15 @@ abbrev pub valuesFor : List ℕ → Wear
 valuesFor l = record { code = 0; total = total l; highest = highest l; rings = length l }
 
 -- what the call with the answer a reports after the list gs of answers, from the empty record
-abbrev pub reply : List Answer → Answer → Wear
+abbrev pub reply : List RingAnswer → RingAnswer → Wear
 reply gs a = returned (after empty gs) (a .code) (a .cuts)
 
 -- an answer that goes in: accepted, or refused by the divider; not one that is accepted with over 32 cuts
-abbrev pub known : Answer → Bool
+abbrev pub known : RingAnswer → Bool
 known a = isAccepted a || not (eqb (a .code) 0)
 
 -- the list gs of answers, and one more, a, from the empty record
-pub record LastRings (gs : List Answer) (a : Answer) : Type 0 where
+pub record LastRings (gs : List RingAnswer) (a : RingAnswer) : Type 0 where
   -- a ring that is accepted or refused reports the values for the last 32 accepted, itself among them
   pub reports : known a ≡ true → reply gs a ≡ valuesFor (last 32 (accepted (gs ++ (a ∷ []))))
   -- "all zero where there are none"
@@ -67,14 +67,14 @@ pub record LastRings (gs : List Answer) (a : Answer) : Type 0 where
   pub long : length (after empty gs) ≡ 34
 
 -- an answer that a divider call gives: 32 cuts or fewer where its number is 0
-abbrev pub Fair : Answer → Type 0
-Fair a = a .code ≡ 0 → a .cuts ≤ 32
+abbrev pub FewCuts : RingAnswer → Type 0
+FewCuts a = a .code ≡ 0 → a .cuts ≤ 32
 
 -- the cuts of those with 0
-unfoldable pub zeros : List Answer → List ℕ
+unfoldable pub zeros : List RingAnswer → List ℕ
 zeros [] = []
 zeros (a ∷ gs) = cond (eqb (a .code) 0) (a .cuts ∷ zeros gs) (zeros gs)
 
 -- such answers are never 20: each call reports the values for the last 32 with 0, itself among them
-abbrev pub Follows : List Answer → Answer → Type 0
-Follows gs a = All Fair (gs ++ (a ∷ [])) → reply gs a ≡ valuesFor (last 32 (zeros (gs ++ (a ∷ []))))
+abbrev pub Follows : List RingAnswer → RingAnswer → Type 0
+Follows gs a = All FewCuts (gs ++ (a ∷ [])) → reply gs a ≡ valuesFor (last 32 (zeros (gs ++ (a ∷ []))))

@@ -22,8 +22,8 @@ highest [] = 0
 highest (x ∷ l) = greater x (highest l)
 
 -- the cuts that a record holds: of unused places nothing is asked
-abbrev pub held : Record → List ℕ
-held r = take (r .rings) (r .cuts)
+abbrev pub heldCuts : Record → List ℕ
+heldCuts r = take (r .rings) (r .cuts)
 
 -- "over 32 cuts for a ring"
 abbrev pub overAt : List ℕ → ℕ → Bool
@@ -40,7 +40,7 @@ misplaced rings next = cond (ltb rings 32) (not (eqb next rings)) (ltb 31 next)
 unfoldable pub invalid : Record → Bool
 invalid r = ltb 32 (r .rings) || misplaced (r .rings) (r .next) || anyOver (r .cuts) (r .rings)
 
--- one ring more: its cuts at the next place, which is the oldest ring's where 32 are held
+-- one ring more: its cuts at the next place, which is the oldest ring's where 32 are heldCuts
 abbrev pub grown : ℕ → ℕ
 grown n = cond (ltb n 32) (n + 1) 32
 
@@ -49,7 +49,7 @@ stored r cuts = record { cuts = set (r .cuts) (r .next) cuts; rings = grown (r .
 
 -- the three values of a record, with the record; and 20, "the record comes back as it came", with zeros
 unfoldable pub reported : Record → Added
-reported r = record { code = 0; total = total (held r); highest = highest (held r); rings = r .rings; kept = r }
+reported r = record { code = 0; total = total (heldCuts r); highest = highest (heldCuts r); rings = r .rings; kept = r }
 
 unfoldable pub refused : Record → Added
 refused r = record { code = 20; total = 0; highest = 0; rings = 0; kept = r }

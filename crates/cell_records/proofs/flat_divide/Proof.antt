@@ -1,8 +1,8 @@
--- `flat_divide` meets its contract. The laws hold of every list of cells with that many places; where none is named, one of empty cells stands for it.
+-- `flat_divide`: the laws hold of every list of cells with that many places; where none is named, one of empty cells stands for it.
 use native.Mathlib.Omega.{arith}
 use mathlib.Core.Path.{refl}
 use mathlib.Core.List.{List}
-use lib.ListN.{length, replicate, length-replicate}
+use lib.ListN.{replicate, length-replicate}
 use borrow.Author.Needs.{needs}
 use Rattle.corner.specs.Limits.{delivered}
 use Rattle.quads.specs.declared.Cell.{Cell}
@@ -16,7 +16,18 @@ use Rattle.cell_records.proofs.flat_divide.Tie as tie
 
 -- what was lent, with these cells
 abbrev lent : (s : tie.Start) → List Cell → LentRecords
-lent s cs = let a = s .args in record { ring = a .ring .now; chain = a .chain .now; size = a .size; nodes = a .nodes .now; nodeCount = a .node-count; rims = a .rims .now; cells = cs; cellCount = a .cell-count }
+lent s cs =
+    let a = s .args in
+    record {
+      ring = a .ring .now;
+      chain = a .chain .now;
+      size = a .size;
+      nodes = a .nodes .now;
+      nodeCount = a .node-count;
+      rims = a .rims .now;
+      cells = cs;
+      cellCount = a .cell-count;
+    }
 
 on-delivery-requires : tie.Need-on-delivery-requires
 on-delivery-requires c κs = search needs
@@ -25,7 +36,8 @@ slice-aggregate-divide-with : tie.Need-slice-aggregate-divide-with
 slice-aggregate-divide-with c = search needs
 
 divide-with-requires : tie.Need-divide-with-requires
-divide-with-requires c κs = let L = c .before .before .before .on-delivery in has-room (L .result) (most-cuts (L .result) (L .ensures)) (replicate 496 0) refl _ refl
+divide-with-requires c κs =
+    let L = c .before .before .before .on-delivery in has-room (L .result) (most-cuts (L .result) (L .ensures)) (replicate 496 0) refl _ refl
 
 placed-requires : tie.Need-placed-requires
 placed-requires c κs =
@@ -36,7 +48,8 @@ placed-requires c κs =
     let cs = replicate (a .cell-places) noCell in
     let n = length-replicate (a .cell-places) noCell in
     let f = most-cuts (L .result) (L .ensures) in (
-      sum-fits (L .result) f (replicate 496 0) refl (lent s cs) (values (d .result)) _ _ _ (d .ensures cs n) (omega (arith, n, s .fits .cell-places)) (s .fits .cell-count .fits),
+      sum-fits (L .result) f (replicate 496 0) refl (lent s cs) (values (d .result)) _ _ _ (d .ensures cs n) (omega (arith, n, s .fits .cell-places))
+          (s .fits .cell-count .fits),
       counts-in (L .result) f (replicate 496 0) refl (lent s cs) (values (d .result)) _ _ _ (d .ensures cs n),
     )
 
@@ -55,8 +68,10 @@ returns c =
     let cs = replicate (a .cell-places) noCell in
     let n = length-replicate (a .cell-places) noCell in
     let f = most-cuts (L .result) (L .ensures) in
-    let g = laid-fits (L .result) f (replicate 496 0) refl (lent s cs) (values (d .result)) _ _ _ (d .ensures cs n) (c .placed .result) (c .placed .ensures) in (
-      (λ cells e. laid-numbers (L .result) f (replicate 496 0) refl (lent s cells) (values (d .result)) _ _ _ (d .ensures cells e) (c .placed .result) (c .placed .ensures) delivered (L .ensures)),
+    let g = laid-fits (L .result) f (replicate 496 0) refl (lent s cs) (values (d .result)) _ _ _ (d .ensures cs n) (c .placed .result)
+    (c .placed .ensures) in (
+      (λ cells e. laid-numbers (L .result) f (replicate 496 0) refl (lent s cells) (values (d .result)) _ _ _ (d .ensures cells e) (c .placed .result)
+          (c .placed .ensures) delivered (L .ensures)),
       g .0,
       (λ h. omega (arith, g .1 h, n)),
     )

@@ -1,7 +1,7 @@
 -- `sheet` ends and stays within its lists. Each part that is lent is within its list.
 use native.Mathlib.Omega.{arith}
 use borrow.Author.Needs.{needs}
-use Rattle.words.proofs.Parts.{part-length}
+use Rattle.laws.proofs.Lists.{part-length}
 use Rattle.desk.proofs.sheet.Statement.{statement}
 use Rattle.desk.proofs.sheet.Tie as tie
 
@@ -38,7 +38,8 @@ array-share-prefix-nodes c = search needs
 slice-aggregate-node-sheet : tie.Need-slice-aggregate-node-sheet
 slice-aggregate-node-sheet c =
     let l = c .before .before .before .before .before .before .before .read-nodes in
-    part-length (c .before .before .before .before .before .before .before .before .before .before .count .result) 64 (l .last .1 .0) (l .kept .1 .0) (omega arith)
+    part-length (c .before .before .before .before .before .before .before .before .before .before .count .result) 64 (l .last .1 .0) (l .kept .1 .0)
+    (omega arith)
 
 array-borrow-prefix-out : tie.Need-array-borrow-prefix-out
 array-borrow-prefix-out c = search needs

@@ -1,7 +1,7 @@
 -- `smallest_ring` ends and stays within its lists. Each part that is lent is within its list.
 use native.Mathlib.Omega.{arith}
 use borrow.Author.Needs.{needs}
-use Rattle.words.proofs.Parts.{part-length}
+use Rattle.laws.proofs.Lists.{part-length}
 use Rattle.desk.proofs.smallest_ring.Statement.{statement}
 use Rattle.desk.proofs.smallest_ring.Tie as tie
 

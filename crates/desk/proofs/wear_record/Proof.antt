@@ -2,7 +2,7 @@
 use native.Mathlib.Omega.{arith}
 use mathlib.Core.Path.{_∙_}
 use borrow.Author.Needs.{needs}
-use Rattle.words.proofs.Parts.{part-length}
+use Rattle.laws.proofs.Lists.{part-length}
 use Rattle.desk.proofs.wear_record.Statement.{statement}
 use Rattle.desk.proofs.wear_record.Tie as tie
 
@@ -37,7 +37,8 @@ slice-aggregate-wear-add : tie.Need-slice-aggregate-wear-add
 slice-aggregate-wear-add c =
     let l = c .before .before .before .read-bytes in
     let f = c .before .before .before .before .before .before .fill in
-    part-length (c .before .before .before .before .before .before .before .before .count .result) 1536 (l .last .1 .0) (l .kept .1 .0 ∙ f .kept .0) (omega arith)
+    part-length (c .before .before .before .before .before .before .before .before .count .result) 1536 (l .last .1 .0) (l .kept .1 .0 ∙ f .kept .0)
+    (omega arith)
 
 wear-add-requires : tie.Need-wear-add-requires
 wear-add-requires c κs = search needs

@@ -1,6 +1,5 @@
--- `begin` meets its contract. Laws in proofs/Closing.
+-- `begin`: laws in proofs/Closing.
 use Rattle.drawing.proofs.Closing.{begins-not, begins-so}
-use native.Mathlib.Omega.{arith}
 use borrow.Author.Needs.{needs}
 use Rattle.drawing.proofs.begin.Statement.{statement}
 use Rattle.drawing.proofs.begin.Tie as tie
@@ -13,16 +12,18 @@ same-length c = search needs
 
 returns : tie.Need-returns
 returns c =
-    let a = c .before .before .before .before .before .before .before .args in
-    begins-not (a .line) (a .size) (a .o) (a .ring .now) (a .chain .now) (c .before .before .before .before .close .result) (c .before .before .before .before .close .last .1 .1 .1 .0) (c .before .before .before .before .close .ensures) (c .if1 .taken)
+    let s = c .before .before .before .before in
+    let a = s .before .before .before .args in
+    begins-not (a .line) (a .size) (a .o) (a .ring .now) (a .chain .now) (s .close .result) (s .close .last .1 .1 .1 .0) (s .close .ensures) (c .if1 .taken)
 
 same-length-2 : tie.Need-same-length-2
 same-length-2 c = search needs
 
 returns-2 : tie.Need-returns-2
 returns-2 c =
-    let a = c .before .before .before .before .before .before .before .args in
-    begins-so (a .line) (a .size) (a .o) (a .ring .now) (a .chain .now) (c .before .before .before .before .close .result) (c .before .before .before .before .close .last .1 .1 .1 .0) (c .before .before .before .before .close .ensures) (c .if1 .left)
+    let s = c .before .before .before .before in
+    let a = s .before .before .before .args in
+    begins-so (a .line) (a .size) (a .o) (a .ring .now) (a .chain .now) (s .close .result) (s .close .last .1 .1 .1 .0) (s .close .ensures) (c .if1 .left)
 
 pub begin-spec : {M : Type 1} → statement M
 begin-spec = tie.close (tie.spec close-requires same-length returns same-length-2 returns-2)

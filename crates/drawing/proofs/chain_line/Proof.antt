@@ -1,8 +1,6 @@
--- `chain_line` meets its contract.
 use Rattle.drawing.specs.Drawing as Drawing
 use borrow.Author.Tests.{eq-eqb, ne-eqb}
 use mathlib.Core.Path.{_∙_}
-use native.Mathlib.Omega.{arith}
 use borrow.Author.Needs.{needs}
 use Rattle.drawing.proofs.chain_line.Statement.{statement}
 use Rattle.drawing.proofs.chain_line.Tie as tie

@@ -1,6 +1,5 @@
--- `chain_point` meets its contract. Laws in proofs/Points.
+-- `chain_point`: laws in proofs/Points.
 use Rattle.drawing.proofs.Points.{chain-full, chain-more}
-use native.Mathlib.Omega.{arith}
 use borrow.Author.Needs.{needs}
 use Rattle.drawing.proofs.chain_point.Statement.{statement}
 use Rattle.drawing.proofs.chain_point.Tie as tie
@@ -9,7 +8,9 @@ fails-requires : tie.Need-fails-requires
 fails-requires c κs = search needs
 
 returns : tie.Need-returns
-returns c = chain-full (c .before .before .before .args .o) (c .before .before .before .args .h) (c .before .before .before .args .chain .now) (c .fails .result) (c .before .if1 .taken) (c .fails .ensures)
+returns c =
+    chain-full (c .before .before .before .args .o) (c .before .before .before .args .h) (c .before .before .before .args .chain .now) (c .fails .result)
+    (c .before .if1 .taken) (c .fails .ensures)
 
 put-point-requires : tie.Need-put-point-requires
 put-point-requires c κs = search needs
@@ -21,7 +22,10 @@ same-length : tie.Need-same-length
 same-length c = search needs
 
 returns-2 : tie.Need-returns-2
-returns-2 c = chain-more (c .before .before .before .before .before .before .before .args .o) (c .before .before .before .before .before .before .before .args .h) (c .before .before .before .before .before .before .before .args .chain .now) (c .before .put-point .last .0) (c .before .before .before .before .before .if1 .left) (c .before .put-point .ensures)
+returns-2 c =
+    let s = c .before .before .before .before .before .before .before in
+    chain-more (s .args .o) (s .args .h) (s .args .chain .now) (c .before .put-point .last .0) (c .before .before .before .before .before .if1 .left)
+    (c .before .put-point .ensures)
 
 pub chain-point-spec : {M : Type 1} → statement M
 chain-point-spec =

@@ -1,4 +1,4 @@
--- `close` meets its contract. Laws in proofs/Closing.
+-- `close`: laws in proofs/Closing.
 use Rattle.drawing.proofs.Closing.{refusal-small, closes-none, closes-refused, closes-written}
 use lib.Seq.{length-take-le}
 use Prim.Native.Nat.{ℕ, _≤_, _*_}
@@ -13,8 +13,8 @@ quiet-requires c κs = search needs
 
 returns : tie.Need-returns
 returns c =
-    let a = c .before .before .before .before .args in
-    closes-none (a .o) (a .ring .now) (a .chain .now) (a .out .now) (c .before .before .before .before .pre) (c .quiet .result) (c .before .if1 .taken) (c .quiet .ensures)
+    let s = c .before .before .before .before in
+    let a = s .args in closes-none (a .o) (a .ring .now) (a .chain .now) (a .out .now) (s .pre) (c .quiet .result) (c .before .if1 .taken) (c .quiet .ensures)
 
 mul-end : tie.Need-mul-end
 mul-end c = search needs
@@ -23,10 +23,14 @@ mul-stop : tie.Need-mul-stop
 mul-stop c = search needs
 
 slice-aggregate-blocks-write : tie.Need-slice-aggregate-blocks-write
-slice-aggregate-blocks-write c = sym (length-take-le (c .before .before .before .before .before .before .args .o .corners * 2) (c .before .before .before .before .before .before .args .ring .now) (omega (arith, c .before .before .before .before .before .before .pre .corners, c .before .before .before .before .before .before .pre .ring-long)))
+slice-aggregate-blocks-write c =
+    let s = c .before .before .before .before .before .before in
+    sym (length-take-le (s .args .o .corners * 2) (s .args .ring .now) (omega (arith, s .pre .corners, s .pre .ring-long)))
 
 slice-aggregate-blocks-write-2 : tie.Need-slice-aggregate-blocks-write-2
-slice-aggregate-blocks-write-2 c = sym (length-take-le (c .before .before .before .before .before .before .before .args .o .run * 2) (c .before .before .before .before .before .before .before .args .chain .now) (omega (arith, c .before .before .before .before .before .before .before .pre .run, c .before .before .before .before .before .before .before .pre .chain-long)))
+slice-aggregate-blocks-write-2 c =
+    let s = c .before .before .before .before .before .before .before in
+    sym (length-take-le (s .args .o .run * 2) (s .args .chain .now) (omega (arith, s .pre .run, s .pre .chain-long)))
 
 blocks-write-requires : tie.Need-blocks-write-requires
 blocks-write-requires c κs = search needs
@@ -45,9 +49,12 @@ same-length c = search needs
 
 returns-2 : tie.Need-returns-2
 returns-2 c =
-    let a = c .before .before .before .before .before .before .before .before .before .before .before .before .before .args in
+    let s = c .before .before .before .before .before .before .before .before .before .before .before .before .before in
+    let a = s .args in
     let w = c .before .before .before .before .blocks-write in
-    closes-refused (a .o) (a .ring .now) (a .chain .now) (a .out .now) (c .before .before .before .before .before .before .before .before .before .before .before .before .before .pre) (c .before .before .before .before .before .before .before .before .before .before .if1 .left) (w .result) (w .ensures .0) (c .fails .result) (w .last .1 .1 .1 .1 .0) (c .before .if2 .taken) (c .fails .ensures) (w .kept .1 .1 .1 .1 .0 ∙ c .before .before .before .before .before .before .before .before .before .before .before .before .before .pre .out-long)
+    closes-refused (a .o) (a .ring .now) (a .chain .now) (a .out .now) (s .pre)
+    (c .before .before .before .before .before .before .before .before .before .before .if1 .left) (w .result) (w .ensures .0) (c .fails .result)
+    (w .last .1 .1 .1 .1 .0) (c .before .if2 .taken) (c .fails .ensures) (w .kept .1 .1 .1 .1 .0 ∙ s .pre .out-long)
 
 add-t16 : tie.Need-add-t16
 add-t16 c = search needs
@@ -57,9 +64,12 @@ same-length-2 c = search needs
 
 returns-3 : tie.Need-returns-3
 returns-3 c =
-    let a = c .before .before .before .before .before .before .before .before .before .before .before .before .before .args in
+    let s = c .before .before .before .before .before .before .before .before .before .before .before .before .before in
+    let a = s .args in
     let w = c .before .before .before .before .blocks-write in
-    closes-written (a .o) (a .ring .now) (a .chain .now) (a .out .now) (c .before .before .before .before .before .before .before .before .before .before .before .before .before .pre) (c .before .before .before .before .before .before .before .before .before .before .if1 .left) (w .result) (w .ensures .0) (w .last .1 .1 .1 .1 .0) (omega (arith, c .before .if2 .left)) (w .ensures .1) (w .kept .1 .1 .1 .1 .0 ∙ c .before .before .before .before .before .before .before .before .before .before .before .before .before .pre .out-long)
+    closes-written (a .o) (a .ring .now) (a .chain .now) (a .out .now) (s .pre)
+    (c .before .before .before .before .before .before .before .before .before .before .if1 .left) (w .result) (w .ensures .0) (w .last .1 .1 .1 .1 .0)
+    (omega (arith, c .before .if2 .left)) (w .ensures .1) (w .kept .1 .1 .1 .1 .0 ∙ s .pre .out-long)
 
 pub close-spec : {M : Type 1} → statement M
 close-spec =

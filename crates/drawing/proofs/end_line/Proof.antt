@@ -1,4 +1,4 @@
--- `end_line` meets its contract. Laws in proofs/Feeding.
+-- `end_line`: laws in proofs/Feeding.
 use Rattle.drawing.proofs.Feeding.{line-ends}
 use lib.Seq.{length-take-le}
 use mathlib.Core.Path.{sym}
@@ -8,7 +8,10 @@ use Rattle.drawing.proofs.end_line.Statement.{statement}
 use Rattle.drawing.proofs.end_line.Tie as tie
 
 slice-aggregate-hear : tie.Need-slice-aggregate-hear
-slice-aggregate-hear c = sym (length-take-le (c .before .before .before .args .s .length) (c .before .before .before .args .text .now) (omega (arith, c .before .before .before .pre .0 .short, c .before .before .before .pre .0 .text-long)))
+slice-aggregate-hear c =
+    sym
+    (length-take-le (c .before .before .before .args .s .length) (c .before .before .before .args .text .now)
+    (omega (arith, c .before .before .before .pre .0 .short, c .before .before .before .pre .0 .text-long)))
 
 hear-requires : tie.Need-hear-requires
 hear-requires c κs = search needs
@@ -33,8 +36,12 @@ same-length-3 c = search needs
 
 returns : tie.Need-returns
 returns c =
-    let a = c .before .before .before .before .before .before .before .before .before .before .before .before .before .before .args in
-    line-ends (a .s) (a .text .now) (a .ring .now) (a .chain .now) (a .out .now) (c .before .before .before .before .before .before .before .before .before .before .before .before .before .before .pre .0) (c .before .before .before .before .before .before .before .before .before .before .hear .result) (c .before .before .before .before .before .before .take-heard .result) (c .next-line .result) _ _ _ (c .before .before .before .before .before .before .before .before .before .before .before .before .before .before .pre .1) (c .before .before .before .before .before .before .before .before .before .before .hear .ensures .0) (c .before .before .before .before .before .before .take-heard .ensures) (c .next-line .ensures)
+    let w = c .before .before .before .before .before .before in
+    let u = w .before .before .before .before in
+    let t = u .before .before .before .before in
+    let a = t .args in
+    line-ends (a .s) (a .text .now) (a .ring .now) (a .chain .now) (a .out .now) (t .pre .0) (u .hear .result) (w .take-heard .result) (c .next-line .result)
+    _ _ _ (t .pre .1) (u .hear .ensures .0) (w .take-heard .ensures) (c .next-line .ensures)
 
 pub end-line-spec : {M : Type 1} → statement M
 end-line-spec =

@@ -1,6 +1,5 @@
--- `finish` meets its contract. Laws in proofs/Feeding.
+-- `finish`: laws in proofs/Feeding.
 use Rattle.drawing.proofs.Feeding.{text-ends}
-use native.Mathlib.Omega.{arith}
 use borrow.Author.Needs.{needs}
 use Rattle.drawing.proofs.finish.Statement.{statement}
 use Rattle.drawing.proofs.finish.Tie as tie
@@ -13,8 +12,10 @@ same-length c = search needs
 
 returns : tie.Need-returns
 returns c =
-    let a = c .before .before .before .before .before .before .args in
-    text-ends (a .s) (a .text .now) (a .ring .now) (a .chain .now) (a .out .now) (c .before .before .before .before .before .before .pre) (c .before .before .close .result) _ (c .before .before .close .ensures)
+    let t = c .before .before .before .before .before .before in
+    let a = t .args in
+    text-ends (a .s) (a .text .now) (a .ring .now) (a .chain .now) (a .out .now) (t .pre) (c .before .before .close .result) _
+    (c .before .before .close .ensures)
 
 pub finish-spec : {M : Type 1} → statement M
 finish-spec = tie.close (tie.spec close-requires same-length returns)

@@ -1,6 +1,4 @@
--- `next_line` meets its contract.
 use borrow.Author.Tests.{eq-eqb, ne-eqb}
-use native.Mathlib.Omega.{arith}
 use borrow.Author.Needs.{needs}
 use Rattle.drawing.proofs.next_line.Statement.{statement}
 use Rattle.drawing.proofs.next_line.Tie as tie

@@ -1,7 +1,6 @@
--- `point` meets its contract. Laws in proofs/Taking.
+-- `point`: laws in proofs/Taking.
 use Rattle.drawing.proofs.Taking.{chain-taken, ring-taken}
 use mathlib.Core.Path.{_∙_}
-use native.Mathlib.Omega.{arith}
 use borrow.Author.Needs.{needs}
 use Rattle.drawing.proofs.point.Statement.{statement}
 use Rattle.drawing.proofs.point.Tie as tie
@@ -14,8 +13,11 @@ same-length c = search needs
 
 returns : tie.Need-returns
 returns c =
-    let a = c .before .before .before .before .before .before .args in
-    chain-taken (a .h) (a .o) (a .ring .now) (a .chain .now) (a .out .now) (c .before .before .before .before .before .before .pre .0) (c .before .chain-point .result) (c .before .chain-point .last .1 .1 .0) (c .before .before .before .if1 .taken) (c .before .chain-point .kept .1 .1 .0 ∙ c .before .before .before .before .before .before .pre .0 .chain-long) (c .before .chain-point .ensures)
+    let s = c .before .before .before .before .before .before in
+    let a = s .args in
+    chain-taken (a .h) (a .o) (a .ring .now) (a .chain .now) (a .out .now) (s .pre .0) (c .before .chain-point .result)
+    (c .before .chain-point .last .1 .1 .0) (c .before .before .before .if1 .taken) (c .before .chain-point .kept .1 .1 .0 ∙ s .pre .0 .chain-long)
+    (c .before .chain-point .ensures)
 
 ring-point-requires : tie.Need-ring-point-requires
 ring-point-requires c κs = search needs
@@ -25,8 +27,10 @@ same-length-2 c = search needs
 
 returns-2 : tie.Need-returns-2
 returns-2 c =
-    let a = c .before .before .before .before .before .before .args in
-    ring-taken (a .h) (a .o) (a .ring .now) (a .chain .now) (a .out .now) (c .before .before .before .before .before .before .pre .0) (c .before .ring-point .result) (c .before .ring-point .last .1 .1 .0) (c .before .before .before .if1 .left) (c .before .ring-point .kept .1 .1 .0 ∙ c .before .before .before .before .before .before .pre .0 .ring-long) (c .before .ring-point .ensures)
+    let s = c .before .before .before .before .before .before in
+    let a = s .args in
+    ring-taken (a .h) (a .o) (a .ring .now) (a .chain .now) (a .out .now) (s .pre .0) (c .before .ring-point .result) (c .before .ring-point .last .1 .1 .0)
+    (c .before .before .before .if1 .left) (c .before .ring-point .kept .1 .1 .0 ∙ s .pre .0 .ring-long) (c .before .ring-point .ensures)
 
 pub point-spec : {M : Type 1} → statement M
 point-spec =

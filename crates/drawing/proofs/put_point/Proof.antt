@@ -1,8 +1,8 @@
--- `put_point` meets its contract. Laws in proofs/Points.
+-- `put_point`: laws in proofs/Points.
 use Rattle.drawing.proofs.Points.{point-put}
 use mir.ValLaws.{toZ-ofZ}
 use mir.Syntax.{w32}
-use lib.ListN.{length, take, length-set}
+use lib.ListN.{take, length-set}
 use Prim.Native.Nat.{_*_}
 use mathlib.Core.Path.{_∙_}
 use mathlib.Core.List.{[], _∷_, _++_}

@@ -1,6 +1,5 @@
--- `ring_point` meets its contract. Laws in proofs/Points.
+-- `ring_point`: laws in proofs/Points.
 use Rattle.drawing.proofs.Points.{ring-full, ring-more}
-use native.Mathlib.Omega.{arith}
 use borrow.Author.Needs.{needs}
 use Rattle.drawing.proofs.ring_point.Statement.{statement}
 use Rattle.drawing.proofs.ring_point.Tie as tie
@@ -9,7 +8,9 @@ fails-requires : tie.Need-fails-requires
 fails-requires c κs = search needs
 
 returns : tie.Need-returns
-returns c = ring-full (c .before .before .before .args .o) (c .before .before .before .args .h) (c .before .before .before .args .ring .now) (c .fails .result) (c .before .if1 .taken) (c .fails .ensures)
+returns c =
+    ring-full (c .before .before .before .args .o) (c .before .before .before .args .h) (c .before .before .before .args .ring .now) (c .fails .result)
+    (c .before .if1 .taken) (c .fails .ensures)
 
 put-point-requires : tie.Need-put-point-requires
 put-point-requires c κs = search needs
@@ -21,7 +22,10 @@ same-length : tie.Need-same-length
 same-length c = search needs
 
 returns-2 : tie.Need-returns-2
-returns-2 c = ring-more (c .before .before .before .before .before .before .before .args .o) (c .before .before .before .before .before .before .before .args .h) (c .before .before .before .before .before .before .before .args .ring .now) (c .before .put-point .last .0) (c .before .before .before .before .before .if1 .left) (c .before .put-point .ensures)
+returns-2 c =
+    let s = c .before .before .before .before .before .before .before in
+    ring-more (s .args .o) (s .args .h) (s .args .ring .now) (c .before .put-point .last .0) (c .before .before .before .before .before .if1 .left)
+    (c .before .put-point .ensures)
 
 pub ring-point-spec : {M : Type 1} → statement M
 ring-point-spec =

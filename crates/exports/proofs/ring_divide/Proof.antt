@@ -1,4 +1,4 @@
--- `ring_divide` has the promise of `divide`. Assumes nothing.
+-- `ring_divide` has the promise of `divide`.
 use borrow.Author.Needs.{needs}
 use Rattle.exports.proofs.ring_divide.Statement.{statement}
 use Rattle.exports.proofs.ring_divide.Tie as tie

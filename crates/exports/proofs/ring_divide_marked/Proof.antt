@@ -1,4 +1,4 @@
--- `ring_divide_marked` has the promise of `divide_marked`. Assumes nothing.
+-- `ring_divide_marked` has the promise of `divide_marked`.
 use borrow.Author.Needs.{needs}
 use Rattle.exports.proofs.ring_divide_marked.Statement.{statement}
 use Rattle.exports.proofs.ring_divide_marked.Tie as tie

@@ -1,4 +1,4 @@
--- `ring_divide_marked_set` has the promise of `divide_marked_set`, for the set of the five values that came. Assumes nothing.
+-- `ring_divide_marked_set` has the promise of `divide_marked_set`, for the set of the five values that came.
 use borrow.Author.Needs.{needs}
 use Rattle.exports.proofs.ring_divide_marked_set.Statement.{statement}
 use Rattle.exports.proofs.ring_divide_marked_set.Tie as tie
@@ -22,7 +22,9 @@ same-length-3 : tie.Need-same-length-3
 same-length-3 c = search needs
 
 returns : tie.Need-returns
-returns c = let d = c .before .before .before .before .before .before .before in rw (c .new .ensures, ← d .before .before .before .before .set-of .ensures) (d .divide-marked-set .ensures)
+returns c =
+    let d = c .before .before .before .before .before .before .before in
+    rw (c .new .ensures, ← d .before .before .before .before .set-of .ensures) (d .divide-marked-set .ensures)
 
 pub ring-divide-marked-set-spec : {M : Type 1} → statement M
 ring-divide-marked-set-spec =

@@ -1,4 +1,4 @@
--- `ring_divide_practice` has the promise of `divide_practice`. Assumes nothing.
+-- `ring_divide_practice` has the promise of `divide_practice`.
 use borrow.Author.Needs.{needs}
 use Rattle.exports.proofs.ring_divide_practice.Statement.{statement}
 use Rattle.exports.proofs.ring_divide_practice.Tie as tie

@@ -7,9 +7,9 @@ use mathlib.Core.Bool.{false}
 use lib.ListN.{length, getD, take}
 use borrow.Author.Tests.{le-ltb}
 use Rattle.laws.specs.Bounded.{any}
-use Rattle.laws.proofs.Search.{any-pass}
+use Rattle.laws.proofs.Search.{any-zero, any-pass}
 use Rattle.outline.specs.Outline.{total}
-use Rattle.given.proofs.Scans.{any-zero, short, loop-short, sum-next, loops-over, loops-sum}
+use Rattle.given.proofs.Scans.{short, loop-short, sum-next, loops-over, loops-sum}
 use Rattle.given.proofs.loops_out.Statement.{statement}
 use Rattle.given.proofs.loops_out.Tie as tie
 

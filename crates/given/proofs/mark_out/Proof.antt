@@ -3,8 +3,6 @@ use native.Mathlib.Omega.{arith}
 use borrow.Author.Needs.{needs}
 use mathlib.Core.Path.{sym, ap, _∙_}
 use borrow.Author.Tests.{eq-eqb, ne-eqb, lt-ltb, le-ltb}
-use Rattle.nodes.specs.Flat as Flat
-use Rattle.call.specs.Call.{held}
 use Rattle.call.specs.Marked.{markOut}
 use mathlib.Core.Bool.{not}
 use Rattle.given.proofs.mark_out.Statement.{statement}
@@ -25,13 +23,13 @@ is-held-requires-2 : tie.Need-is-held-requires-2
 is-held-requires-2 c κs = search needs
 
 returns-3 : tie.Need-returns-3
-unfolding markOut held Flat.held
+unfolding markOut
 returns-3 c =
     let h = c .before .before in
     rw (le-ltb _ _ (h .before .before .if1 .left), eq-eqb _ _ (h .before .if2 .left), sym (h .is-held .ensures) ∙ c .before .if3 .taken) (ap not (c .is-held2 .ensures))
 
 returns-4 : tie.Need-returns-4
-unfolding markOut held Flat.held
+unfolding markOut
 returns-4 c =
     let h = c .before in
     rw (le-ltb _ _ (h .before .before .if1 .left), eq-eqb _ _ (h .before .if2 .left), sym (h .is-held .ensures) ∙ c .if3 .left)

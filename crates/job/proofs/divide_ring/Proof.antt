@@ -1,7 +1,7 @@
 -- `divide_ring` meets its contract: the promise of the divider call is the definition's step, and says that its row can be printed. Laws in proofs/Rows and Stepping.
 use Prim.Native.Nat.{_*_}
 use lib.ListN.{take}
-use Rattle.told.proofs.Rows.{part-length}
+use Rattle.laws.proofs.Lists.{part-length}
 use Rattle.job.proofs.Stepping.{divided}
 use native.Mathlib.Omega.{arith}
 use borrow.Author.Needs.{needs}

@@ -1,8 +1,5 @@
--- `blank` meets its contract.
 use Rattle.lines.specs.Line as Line
 use borrow.Author.Tests.{eq-eqb, ne-eqb}
-use borrow.Author.Needs.{needs}
-use native.Mathlib.Omega.{arith}
 use Rattle.lines.proofs.blank.Statement.{statement}
 use Rattle.lines.proofs.blank.Tie as tie
 

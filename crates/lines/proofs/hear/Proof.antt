@@ -1,7 +1,6 @@
--- `hear` meets its contract. Laws in proofs/Tests.
-use Rattle.lines.proofs.Tests.{plain-held, nothing, too-many, two-words}
-use mathlib.Core.Path.{sym, _∙_}
-use native.Mathlib.Omega.{arith}
+-- `hear`: laws in proofs/Tests.
+use Rattle.lines.proofs.Tests.{plain-on-sheet, nothing, too-many, two-words}
+use mathlib.Core.Path.{_∙_}
 use borrow.Author.Needs.{needs}
 use Rattle.lines.proofs.hear.Statement.{statement}
 use Rattle.lines.proofs.hear.Tie as tie
@@ -13,7 +12,11 @@ plain-requires : tie.Need-plain-requires
 plain-requires c κs = search needs
 
 returns : tie.Need-returns
-returns c = (c .plain .ensures ∙ nothing (c .before .before .before .before .args .line .now) (c .before .before .start-of .result) (c .before .before .start-of .ensures .0) (c .before .if1 .taken), rw (c .plain .ensures) (plain-held 0 0))
+returns c = (
+  c .plain .ensures ∙ nothing (c .before .before .before .before .args .line .now) (c .before .before .start-of .result)
+      (c .before .before .start-of .ensures .0) (c .before .if1 .taken),
+  rw (c .plain .ensures) (plain-on-sheet 0 0),
+)
 
 end-of-requires : tie.Need-end-of-requires
 end-of-requires c κs = search needs
@@ -31,7 +34,16 @@ plain-requires-2 : tie.Need-plain-requires-2
 plain-requires-2 c κs = search needs
 
 returns-2 : tie.Need-returns-2
-returns-2 c = (c .plain2 .ensures ∙ too-many (c .before .before .before .before .before .before .before .before .before .args .line .now) (c .before .before .before .before .before .before .before .start-of .result) (c .before .before .before .before .before .before .before .start-of .ensures .0) (c .before .before .before .before .before .end-of .result) (c .before .before .before .before .start-of2 .result) (c .before .before .before .end-of2 .result) (c .before .before .start-of3 .result) (c .before .before .before .before .before .end-of .ensures .0) (c .before .before .before .before .start-of2 .ensures .0) (c .before .before .before .end-of2 .ensures .0) (c .before .before .start-of3 .ensures .0) (c .before .before .before .before .before .before .if1 .left) (c .before .if2 .taken), rw (c .plain2 .ensures) (plain-held 21 0))
+returns-2 c =
+    let u = c .before .before .before .before in
+    let t = u .before in
+    let s = t .before .before in (
+      c .plain2 .ensures ∙ too-many (s .before .before .args .line .now) (s .start-of .result) (s .start-of .ensures .0) (t .end-of .result)
+          (u .start-of2 .result) (c .before .before .before .end-of2 .result) (c .before .before .start-of3 .result) (t .end-of .ensures .0)
+          (u .start-of2 .ensures .0) (c .before .before .before .end-of2 .ensures .0) (c .before .before .start-of3 .ensures .0) (t .before .if1 .left)
+          (c .before .if2 .taken),
+      rw (c .plain2 .ensures) (plain-on-sheet 21 0),
+    )
 
 sub-hear-words : tie.Need-sub-hear-words
 sub-hear-words c = search needs
@@ -55,7 +67,16 @@ hear-words-requires : tie.Need-hear-words-requires
 hear-words-requires c κs = search needs
 
 returns-3 : tie.Need-returns-3
-returns-3 c = (c .hear-words .ensures .0 ∙ two-words (c .before .before .before .before .before .before .before .before .before .before .before .args .line .now) (c .before .before .before .before .before .before .before .before .before .start-of .result) (c .before .before .before .before .before .before .before .before .before .start-of .ensures .0) (c .before .before .before .before .before .before .before .end-of .result) (c .before .before .before .before .before .before .start-of2 .result) (c .before .before .before .before .before .end-of2 .result) (c .before .before .before .before .start-of3 .result) (c .before .before .before .before .before .before .before .end-of .ensures .0) (c .before .before .before .before .before .before .start-of2 .ensures .0) (c .before .before .before .before .before .end-of2 .ensures .0) (c .before .before .before .before .start-of3 .ensures .0) (c .before .before .before .before .before .before .before .before .if1 .left) (c .before .before .before .if2 .left), c .hear-words .ensures .1)
+returns-3 c =
+    let u = c .before .before .before .before .before .before in
+    let t = u .before in
+    let s = t .before .before in (
+      c .hear-words .ensures .0 ∙ two-words (s .before .before .args .line .now) (s .start-of .result) (s .start-of .ensures .0) (t .end-of .result)
+          (u .start-of2 .result) (c .before .before .before .before .before .end-of2 .result) (c .before .before .before .before .start-of3 .result)
+          (t .end-of .ensures .0) (u .start-of2 .ensures .0) (c .before .before .before .before .before .end-of2 .ensures .0)
+          (c .before .before .before .before .start-of3 .ensures .0) (t .before .if1 .left) (c .before .before .before .if2 .left),
+      c .hear-words .ensures .1,
+    )
 
 pub hear-spec : {M : Type 1} → statement M
 hear-spec =

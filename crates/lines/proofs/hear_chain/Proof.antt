@@ -1,8 +1,6 @@
--- `hear_chain` meets its contract.
 use Rattle.lines.specs.Line as Line
-use mathlib.Core.Path.{sym, _∙_}
+use mathlib.Core.Path.{_∙_}
 use borrow.Author.Tests.{eq-eqb, ne-eqb}
-use native.Mathlib.Omega.{arith}
 use borrow.Author.Needs.{needs}
 use Rattle.lines.proofs.hear_chain.Statement.{statement}
 use Rattle.lines.proofs.hear_chain.Tie as tie

@@ -1,4 +1,3 @@
--- `hear_size` meets its contract.
 use Rattle.lines.proofs.Tests.{small-size}
 use Rattle.lines.specs.Line as Line
 use mathlib.Core.Path.{sym, _∙_}

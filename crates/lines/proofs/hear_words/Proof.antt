@@ -1,8 +1,7 @@
--- `hear_words` meets its contract. Laws in proofs/Tests.
+-- `hear_words`: laws in proofs/Tests.
 use Rattle.lines.proofs.Tests.{ring-words, chain-words, point-words}
 use Rattle.text.specs.Text.{bytes}
 use mathlib.Core.Path.{sym, _∙_}
-use native.Mathlib.Omega.{arith}
 use borrow.Author.Needs.{needs}
 use Rattle.lines.proofs.hear_words.Statement.{statement}
 use Rattle.lines.proofs.hear_words.Tie as tie
@@ -21,7 +20,10 @@ hear-size-requires c κs = search needs
 
 returns : tie.Need-returns
 unfolding bytes
-returns c = ring-words (c .before .before .before .before .before .before .before .args .first .now) (c .before .before .before .before .before .before .before .args .second .now) (c .hear-size .result) (c .before .read .result) (sym (c .before .before .before .same .ensures) ∙ c .before .before .if1 .taken) (c .before .read .ensures .0) (c .hear-size .ensures)
+returns c =
+    let s = c .before .before .before .before .before .before .before in
+    ring-words (s .args .first .now) (s .args .second .now) (c .hear-size .result) (c .before .read .result)
+    (sym (c .before .before .before .same .ensures) ∙ c .before .before .if1 .taken) (c .before .read .ensures .0) (c .hear-size .ensures)
 
 slice-aggregate-same-2 : tie.Need-slice-aggregate-same-2
 slice-aggregate-same-2 c = search needs
@@ -34,7 +36,11 @@ hear-chain-requires c κs = search needs
 
 returns-2 : tie.Need-returns-2
 unfolding bytes
-returns-2 c = chain-words (c .before .before .before .before .before .before .before .before .before .args .first .now) (c .before .before .before .before .before .before .before .before .before .args .second .now) (c .hear-chain .result) (sym (c .before .before .before .before .before .same .ensures) ∙ c .before .before .before .before .if1 .left) (sym (c .before .before .same2 .ensures) ∙ c .before .if2 .taken) (c .hear-chain .ensures)
+returns-2 c =
+    let s = c .before .before .before .before .before .before .before .before .before in
+    chain-words (s .args .first .now) (s .args .second .now) (c .hear-chain .result)
+    (sym (c .before .before .before .before .before .same .ensures) ∙ c .before .before .before .before .if1 .left)
+    (sym (c .before .before .same2 .ensures) ∙ c .before .if2 .taken) (c .hear-chain .ensures)
 
 read-requires-2 : tie.Need-read-requires-2
 read-requires-2 c κs = search needs
@@ -47,7 +53,14 @@ hear-point-requires c κs = (c .before .read2 .ensures .1, c .read3 .ensures .1)
 
 returns-3 : tie.Need-returns-3
 unfolding bytes
-returns-3 c = (point-words (c .before .before .before .before .before .before .before .before .before .before .before .args .first .now) (c .before .before .before .before .before .before .before .before .before .before .before .args .second .now) (c .hear-point .result) (c .before .before .read2 .result) (c .before .read3 .result) (sym (c .before .before .before .before .before .before .before .same .ensures) ∙ c .before .before .before .before .before .before .if1 .left) (sym (c .before .before .before .before .same2 .ensures) ∙ c .before .before .before .if2 .left) (c .before .before .read2 .ensures .0) (c .before .read3 .ensures .0) (c .hear-point .ensures .0), c .hear-point .ensures .1)
+returns-3 c =
+    let s = c .before .before .before .before .before .before .before .before .before .before .before in (
+      point-words (s .args .first .now) (s .args .second .now) (c .hear-point .result) (c .before .before .read2 .result) (c .before .read3 .result)
+          (sym (c .before .before .before .before .before .before .before .same .ensures) ∙ c .before .before .before .before .before .before .if1 .left)
+          (sym (c .before .before .before .before .same2 .ensures) ∙ c .before .before .before .if2 .left) (c .before .before .read2 .ensures .0)
+          (c .before .read3 .ensures .0) (c .hear-point .ensures .0),
+      c .hear-point .ensures .1,
+    )
 
 pub hear-words-spec : {M : Type 1} → statement M
 hear-words-spec =

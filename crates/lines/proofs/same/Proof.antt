@@ -1,4 +1,4 @@
--- `same` meets its contract. The loop's invariant: the first k bytes are the same.
+-- `same`, the loop's invariant: the first k bytes are the same.
 use Rattle.lines.specs.Line as Line
 use Rattle.laws.proofs.Search.{any-hit, any-pass}
 use Rattle.laws.specs.Bounded.{any}
@@ -6,7 +6,7 @@ use borrow.Author.Tests.{eq-eqb, ne-eqb}
 use lib.ListN.{length, getD}
 use lib.Dec.{eqb}
 use mathlib.Core.Bool.{false, not}
-use mathlib.Core.Path.{_≡_, refl, sym, ap, _∙_}
+use mathlib.Core.Path.{_≡_, refl, ap}
 use Prim.Native.Nat.{ℕ, _-_, _≤_}
 use borrow.Author.Needs.{needs}
 use native.Mathlib.Omega.{arith}
@@ -14,7 +14,8 @@ use Rattle.lines.proofs.same.Statement.{statement}
 use Rattle.lines.proofs.same.Tie as tie
 
 abbrev Inv-loop : tie.InvT-loop
-Inv-loop word form k₀ k-end k = (k ≤ length word) × (k-end ≡ length word) × (length word ≡ length form) × (any (λ (i : ℕ). not (eqb (getD word i 0) (getD form i 0))) k ≡ false)
+Inv-loop word form k₀ k-end k =
+    (k ≤ length word) × (k-end ≡ length word) × (length word ≡ length form) × (any (λ (i : ℕ). not (eqb (getD word i 0) (getD form i 0))) k ≡ false)
 
 abbrev μ-loop : tie.MeasureT-loop
 μ-loop word form k₀ k-end k = length word - k
@@ -36,9 +37,14 @@ shared-slice-read-if2-2 c = search needs
 returns-2 : tie.Need-returns-2 Inv-loop μ-loop
 unfolding Line.same
 returns-2 c =
-    let v = c .before .before .before .before .before .before .args .word .now in
-    let w = c .before .before .before .before .before .before .args .form .now in
-    simp (eq-eqb _ _ (c .before .before .before .before .loop .inv .2), any-hit (λ (i : ℕ). not (eqb (getD v i 0) (getD w i 0))) (c .before .before .before .before .loop .k) (length v) (omega arith) (ap not (ne-eqb _ _ (c .if2 .taken))))
+    let t = c .before .before .before .before in
+    let s = t .before .before in
+    let v = s .args .word .now in
+    let w = s .args .form .now in
+    simp (
+      eq-eqb _ _ (t .loop .inv .2),
+      any-hit (λ (i : ℕ). not (eqb (getD v i 0) (getD w i 0))) (t .loop .k) (length v) (omega arith) (ap not (ne-eqb _ _ (c .if2 .taken))),
+    )
 
 add-k : tie.Need-add-k Inv-loop μ-loop
 add-k c = search needs

@@ -1,4 +1,4 @@
--- `start_of` meets its contract. The loop's invariant: what is left of the search is the whole.
+-- `start_of`, the loop's invariant: what is left of the search is the whole.
 use Rattle.lines.specs.Line as Line
 use Rattle.laws.proofs.Search.{first-hit, first-pass, first-end}
 use Rattle.laws.specs.Bounded.{first}
@@ -28,7 +28,13 @@ blank-requires : tie.Need-blank-requires Inv-loop μ-loop
 blank-requires c κs = search needs
 
 returns : tie.Need-returns Inv-loop μ-loop
-returns c = (sym (first-hit _ (length (c .before .before .before .before .before .before .args .line .now)) (c .before .before .before .before .loop .i) (omega arith) (ap not (sym (c .before .blank .ensures)) ∙ c .if1 .taken)) ∙ c .before .before .before .before .loop .inv .2, search needs, search needs)
+returns c =
+    let s = c .before .before .before .before in (
+      sym (first-hit _ (length (s .before .before .args .line .now)) (s .loop .i) (omega arith) (ap not (sym (c .before .blank .ensures)) ∙ c .if1 .taken)) ∙ s
+          .loop .inv .2,
+      search needs,
+      search needs,
+    )
 
 add-i : tie.Need-add-i Inv-loop μ-loop
 add-i c = search needs
@@ -37,7 +43,13 @@ loop-less : tie.Need-loop-less Inv-loop μ-loop
 loop-less c = search needs
 
 loop-again : tie.Need-loop-again Inv-loop μ-loop
-loop-again c = (search needs, search needs, sym (first-pass _ (length (c .before .before .before .before .before .before .args .line .now)) (c .before .before .before .before .loop .i) (omega arith) (ap not (sym (c .before .blank .ensures)) ∙ c .if1 .left)) ∙ c .before .before .before .before .loop .inv .2)
+loop-again c =
+    let s = c .before .before .before .before in (
+      search needs,
+      search needs,
+      sym (first-pass _ (length (s .before .before .args .line .now)) (s .loop .i) (omega arith) (ap not (sym (c .before .blank .ensures)) ∙ c .if1 .left)) ∙ s
+          .loop .inv .2,
+    )
 
 returns-2 : tie.Need-returns-2 Inv-loop μ-loop
 returns-2 c =

@@ -1,6 +1,7 @@
 -- `refusal` meets its contract: each test in its place. Where no cell list is named, one of empty cells stands for it.
 use native.Mathlib.Omega.{arith}
 use borrow.Author.Needs.{needs}
+use Rattle.laws.proofs.Booleans.{neither}
 use Prim.Native.Nat.{ℕ, _-_, _/_, _≤_}
 use mathlib.Core.Path.{_≡_, sym, _∙_}
 use mathlib.Core.Bool.{Bool, true, false, cond, _||_}
@@ -15,7 +16,7 @@ use Rattle.call.specs.Call.{Lists, countsOut, unitsOut, roomOut}
 use Rattle.call.specs.Lent.{allCells, odd}
 use Rattle.call.specs.Marked.{allPoints, marksOut, outlineOut, LentMarked, markedTests}
 use Rattle.call.proofs.Tests as Tests
-use Rattle.call.proofs.Tests.{or-no, counts-in}
+use Rattle.call.proofs.Tests.{counts-in}
 use Rattle.divider.proofs.Calling.{cell-places}
 use Rattle.marked.proofs.Refusing.{no-chain, first, second, thirteenth, fourteenth, fifteenth, third, fourth}
 use Rattle.marked.proofs.refusal.Statement.{statement}
@@ -43,7 +44,7 @@ counts-no c = sym (counts-are (c .before)) ∙ c .if1 .left
 counts-fit : (c : tie.Else1) → let r = start (c .before) .args .ring .now in (3 ≤ length r / 2) × (length r / 2 ≤ 60)
 counts-fit c =
     let r = start (c .before) .args .ring .now in
-    let n = counts-in (length r / 2) 0 (or-no (odd r) (countsOut (length r / 2) 0) (counts-no c) .1) in
+    let n = counts-in (length r / 2) 0 (neither (odd r) (countsOut (length r / 2) 0) (counts-no c) .1) in
     (n .0, n .1)
 
 units-no : (c : tie.Else2) → let a = start (c .before .before .before) .args in unitsOut (allPoints (a .ring .now)) [] (a .size) ≡ false

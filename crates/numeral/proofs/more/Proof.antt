@@ -1,7 +1,5 @@
--- `more` meets its contract.
 use Rattle.numeral.specs.Numeral as Numeral
 use borrow.Author.Tests.{eq-eqb, ne-eqb, lt-ltb, le-ltb}
-use native.Mathlib.Omega.{arith}
 use borrow.Author.Needs.{needs}
 use Rattle.numeral.proofs.more.Statement.{statement}
 use Rattle.numeral.proofs.more.Tie as tie
@@ -35,7 +33,13 @@ add-t9 c = search needs
 
 returns-4 : tie.Need-returns-4
 unfolding Numeral.more
-returns-4 c = simp (ne-eqb _ _ (c .before .before .before .before .before .if1 .left), le-ltb _ _ (c .before .before .before .before .if2 .left), le-ltb _ _ (c .before .before .before .if3 .left), c .before .scaled .ensures)
+returns-4 c =
+    simp (
+      ne-eqb _ _ (c .before .before .before .before .before .if1 .left),
+      le-ltb _ _ (c .before .before .before .before .if2 .left),
+      le-ltb _ _ (c .before .before .before .if3 .left),
+      c .before .scaled .ensures,
+    )
 
 pub more-spec : {M : Type 1} → statement M
 more-spec =

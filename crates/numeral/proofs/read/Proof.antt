@@ -1,4 +1,4 @@
--- `read` meets its contract. Laws in proofs/Bounds.
+-- `read`: laws in proofs/Bounds.
 use Rattle.numeral.proofs.Bounds.{too-long, reads, few-met, scaled-so}
 use native.Mathlib.Omega.{arith}
 use borrow.Author.Needs.{needs}
@@ -12,7 +12,10 @@ sub-n : tie.Need-sub-n
 sub-n c = search needs
 
 returns : tie.Need-returns
-returns c = (too-long (c .before .before .before .args .word .now) (c .before .signs .result) (c .before .signs .ensures .0) (c .if1 .taken), record { some = omega arith; few = λ _. omega arith })
+returns c = (
+  too-long (c .before .before .before .args .word .now) (c .before .signs .result) (c .before .signs .ensures .0) (c .if1 .taken),
+  record { some = omega arith; few = λ _. omega arith },
+)
 
 sub-scan : tie.Need-sub-scan
 sub-scan c = search needs
@@ -27,14 +30,18 @@ scan-requires : tie.Need-scan-requires
 scan-requires c κs = search needs
 
 whole-requires : tie.Need-whole-requires
-whole-requires c κs = few-met (c .before .before .before .before .before .args .word .now) (c .before .before .before .signs .result) (c .before .before .before .signs .ensures .0) (c .scan .result) (c .before .before .if1 .left) (c .scan .ensures)
+whole-requires c κs =
+    few-met (c .before .before .before .before .before .args .word .now) (c .before .before .before .signs .result)
+    (c .before .before .before .signs .ensures .0) (c .scan .result) (c .before .before .if1 .left) (c .scan .ensures)
 
 returns-2 : tie.Need-returns-2
 returns-2 c =
     let w = c .before .before .before .before .before .before .args .word .now in
     let f = c .before .before .before .before .signs .result in
-    let e = c .before .before .before .before .signs .ensures .0 in
-    (reads w f e (c .before .scan .result) (c .whole .result) (c .before .before .before .if1 .left) (c .before .scan .ensures) (c .whole .ensures), scaled-so w f e (c .before .scan .result) (c .whole .result) (c .before .scan .ensures) (c .whole .ensures))
+    let e = c .before .before .before .before .signs .ensures .0 in (
+      reads w f e (c .before .scan .result) (c .whole .result) (c .before .before .before .if1 .left) (c .before .scan .ensures) (c .whole .ensures),
+      scaled-so w f e (c .before .scan .result) (c .whole .result) (c .before .scan .ensures) (c .whole .ensures),
+    )
 
 pub read-spec : {M : Type 1} → statement M
 read-spec =

@@ -1,7 +1,5 @@
--- `scaled` meets its contract.
 use Rattle.numeral.specs.Numeral as Numeral
 use borrow.Author.Tests.{eq-eqb, ne-eqb}
-use native.Mathlib.Omega.{arith}
 use borrow.Author.Needs.{needs}
 use Rattle.numeral.proofs.scaled.Statement.{statement}
 use Rattle.numeral.proofs.scaled.Tie as tie

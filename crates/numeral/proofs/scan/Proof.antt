@@ -1,9 +1,9 @@
--- `scan` meets its contract. The loop's invariant: the first i bytes were met.
+-- `scan`, the loop's invariant: the first i bytes were met.
 use Rattle.numeral.proofs.Bounds.{small}
 use Rattle.numeral.specs.Numeral as Numeral
 use native.Mathlib.Numerals.{add-one}
 use lib.ListN.{length}
-use mathlib.Core.Path.{_≡_, refl, ap, _∙_, subst}
+use mathlib.Core.Path.{_≡_, refl, _∙_, subst}
 use Prim.Native.Nat.{_-_, _≤_}
 use borrow.Author.Needs.{needs}
 use native.Mathlib.Omega.{arith}
@@ -27,7 +27,9 @@ wide-requires : tie.Need-wide-requires Inv-loop μ-loop
 wide-requires c κs = search needs
 
 more-requires : tie.Need-more-requires Inv-loop μ-loop
-more-requires c κs = rw (c .before .before .before .loop .inv .3) (small (c .before .before .before .before .before .args .body .now) (c .before .before .before .loop .i) (omega arith))
+more-requires c κs =
+    rw (c .before .before .before .loop .inv .3)
+    (small (c .before .before .before .before .before .args .body .now) (c .before .before .before .loop .i) (omega arith))
 
 add-i : tie.Need-add-i Inv-loop μ-loop
 add-i c = search needs
@@ -37,7 +39,12 @@ loop-less c = search needs
 
 loop-again : tie.Need-loop-again Inv-loop μ-loop
 unfolding Numeral.scanTo
-loop-again c = (search needs, search needs, search needs, rw add-one (c .more .ensures ∙ (λ j. Numeral.more (c .before .before .before .before .loop .inv .3 j) (c .before .wide .ensures .0 j))))
+loop-again c = (
+  search needs,
+  search needs,
+  search needs,
+  rw add-one (c .more .ensures ∙ (λ j. Numeral.more (c .before .before .before .before .loop .inv .3 j) (c .before .wide .ensures .0 j))),
+)
 
 returns : tie.Need-returns Inv-loop μ-loop
 unfolding Numeral.scanned

@@ -1,4 +1,4 @@
--- `signed` meets its contract. Laws in proofs/Bounds.
+-- `signed`: laws in proofs/Bounds.
 use Rattle.numeral.proofs.Bounds.{minus-fits, minus-is, plus-is}
 use native.Mathlib.Omega.{arith}
 use borrow.Author.Needs.{needs}

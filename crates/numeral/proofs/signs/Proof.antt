@@ -1,4 +1,3 @@
--- `signs` meets its contract.
 use mathlib.Core.Path.{sym, _∙_}
 use Rattle.numeral.proofs.Bounds.{past-end}
 use Rattle.numeral.specs.Numeral as Numeral

@@ -1,9 +1,8 @@
--- `units` meets its contract. Laws in proofs/Bounds.
+-- `units`: laws in proofs/Bounds.
 use Rattle.numeral.proofs.Bounds.{part-most}
 use native.Mathlib.Nat.{mod-lt}
-use Prim.Native.Nat.{_%_, _^_, _<_}
 use mathlib.Core.Path.{sym}
-use Rattle.numeral.proofs.Bounds.{two-steps, far, held-far, held-near}
+use Rattle.numeral.proofs.Bounds.{two-steps, far, capped-far, capped-near}
 use native.Mathlib.Omega.{arith}
 use borrow.Author.Needs.{needs}
 use Rattle.numeral.proofs.units.Statement.{statement}
@@ -42,13 +41,13 @@ returns-2 : tie.Need-returns-2
 returns-2 c =
     let a = c .before .before .args in
     let h = two-steps (a .value) (a .scale) (omega arith) in
-    (sym (held-far (a .value) (a .scale) (omega arith) _ h (c .if2 .taken)), omega arith)
+    (sym (capped-far (a .value) (a .scale) (omega arith) _ h (c .if2 .taken)), omega arith)
 
 returns-3 : tie.Need-returns-3
 returns-3 c =
     let a = c .before .before .args in
     let h = two-steps (a .value) (a .scale) (omega arith) in
-    (held-near (a .value) (a .scale) (omega arith) _ h (c .if2 .left), omega arith)
+    (capped-near (a .value) (a .scale) (omega arith) _ h (c .if2 .left), omega arith)
 
 pub units-spec : {M : Type 1} → statement M
 units-spec =

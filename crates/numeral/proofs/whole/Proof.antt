@@ -1,7 +1,5 @@
--- `whole` meets its contract.
 use Rattle.numeral.specs.Numeral as Numeral
 use borrow.Author.Tests.{eq-eqb, ne-eqb, lt-ltb, le-ltb}
-use native.Mathlib.Omega.{arith}
 use borrow.Author.Needs.{needs}
 use Rattle.numeral.proofs.whole.Statement.{statement}
 use Rattle.numeral.proofs.whole.Tie as tie
@@ -23,7 +21,9 @@ add-result c = search needs
 
 returns-4 : tie.Need-returns-4
 unfolding Numeral.whole
-returns-4 c = simp (ne-eqb _ _ (c .before .before .before .before .before .if1 .left), le-ltb _ _ (c .before .before .before .if2 .left), le-ltb _ _ (c .before .if3 .left))
+returns-4 c =
+    simp
+    (ne-eqb _ _ (c .before .before .before .before .before .if1 .left), le-ltb _ _ (c .before .before .before .if2 .left), le-ltb _ _ (c .before .if3 .left))
 
 pub whole-spec : {M : Type 1} → statement M
 whole-spec = tie.close (tie.spec returns returns-2 returns-3 add-result returns-4)

@@ -1,4 +1,4 @@
--- `divide_practice` keeps its promise: 16 where it is due, and else the divider call with the practice set. Assumes nothing.
+-- `divide_practice` keeps its promise: 16 where it is due, and else the divider call with the practice set.
 use mathlib.Core.Path.{sym, _∙_}
 use borrow.Author.Needs.{needs}
 use Rattle.call.specs.Lent.{Lent}
@@ -8,7 +8,18 @@ use Rattle.practice.proofs.divide_practice.Tie as tie
 
 -- what was lent
 abbrev lent : tie.Start → Lent
-lent s = let a = s .args in record { ring = a .ring .now; chain = a .chain .now; size = a .size; nodes = a .nodes .now; nodeCount = a .node-count; rims = a .rims .now; cells = a .cells .now; cellCount = a .cell-count }
+lent s =
+    let a = s .args in
+    record {
+      ring = a .ring .now;
+      chain = a .chain .now;
+      size = a .size;
+      nodes = a .nodes .now;
+      nodeCount = a .node-count;
+      rims = a .rims .now;
+      cells = a .cells .now;
+      cellCount = a .cell-count;
+    }
 
 over-paper-requires : tie.Need-over-paper-requires
 over-paper-requires c κs = search needs
@@ -36,7 +47,8 @@ returns-2 c =
     let d = c .before .before .before .before .before .before in
     let e = d .before .before .before .before .before in
     let l = lent (e .before .before .before .before .before) in
-    practice-divided l (sym (e .before .over-paper .ensures) ∙ e .if1 .left) _ (d .before .before .before .before .practice .ensures) _ _ _ _ (d .divide-set .ensures)
+    practice-divided l (sym (e .before .over-paper .ensures) ∙ e .if1 .left) _ (d .before .before .before .before .practice .ensures) _ _ _ _
+    (d .divide-set .ensures)
 
 pub divide-practice-spec : {M : Type 1} → statement M
 divide-practice-spec =

@@ -1,4 +1,3 @@
--- `over_paper` meets its contract. Assumes nothing.
 use borrow.Author.Needs.{needs}
 use borrow.Author.Tests.{lt-ltb, le-ltb}
 use Rattle.call.specs.Call.{over24}

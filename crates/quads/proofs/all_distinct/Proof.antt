@@ -1,4 +1,3 @@
--- `all_distinct` meets its contract.
 use borrow.Author.Tests.{eq-eqb, ne-eqb}
 use Rattle.quads.specs.Quads as Quads
 use Rattle.quads.proofs.all_distinct.Statement.{statement}

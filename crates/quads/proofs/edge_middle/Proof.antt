@@ -1,4 +1,3 @@
--- `edge_middle` meets its contract.
 use Rattle.quads.proofs.EdgeMiddles as edge
 use borrow.Author.Needs.{needs}
 use Rattle.quads.proofs.edge_middle.Statement.{statement}
@@ -20,21 +19,24 @@ dist-requires-2 : tie.Need-dist-requires-2
 dist-requires-2 c κs = search needs
 
 returns : tie.Need-returns
-returns c = let a = c .before .before .before .args in edge.plain (a .share) (a .m) (a .a) (a .b) _ (c .before .before .halfway .ensures) (c .enum-told .given .1)
+returns c =
+    let a = c .before .before .before .args in edge.plain (a .share) (a .m) (a .a) (a .b) _ (c .before .before .halfway .ensures) (c .enum-told .given .1)
 
 returns-2 : tie.Need-returns-2
 returns-2 c =
     let t = c .before .before .before .before in
     let a = t .before .before .before .args in
     let g = t .m .given in
-    edge.near (a .share) (a .m) (a .a) (a .b) _ (g .0 .0) _ _ (t .before .before .halfway .ensures) (c .before .before .dist .ensures) (c .before .dist2 .ensures) (g .1) (c .if1 .taken)
+    edge.near (a .share) (a .m) (a .a) (a .b) _ (g .0 .0) _ _ (t .before .before .halfway .ensures) (c .before .before .dist .ensures)
+    (c .before .dist2 .ensures) (g .1) (c .if1 .taken)
 
 returns-3 : tie.Need-returns-3
 returns-3 c =
     let t = c .before .before .before .before in
     let a = t .before .before .before .args in
     let g = t .m .given in
-    edge.away (a .share) (a .m) (a .a) (a .b) _ (g .0 .0) _ _ (t .before .before .halfway .ensures) (c .before .before .dist .ensures) (c .before .dist2 .ensures) (g .1) (c .if1 .left)
+    edge.away (a .share) (a .m) (a .a) (a .b) _ (g .0 .0) _ _ (t .before .before .halfway .ensures) (c .before .before .dist .ensures)
+    (c .before .dist2 .ensures) (g .1) (c .if1 .left)
 
 pub edge-middle-spec : {M : Type 1} → statement M
 edge-middle-spec =

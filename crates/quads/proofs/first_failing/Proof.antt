@@ -1,4 +1,4 @@
--- `first_failing` meets its contract.
+-- `first_failing`, the loop's invariant: what is left of the search is the whole search.
 use mathlib.Core.Path.{_≡_, sym, ap, _∙_}
 use Prim.Native.Nat.{ℕ, _-_, _≤_}
 use mathlib.Core.List.{List}

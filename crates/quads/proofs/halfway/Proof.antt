@@ -1,4 +1,3 @@
--- `halfway` meets its contract.
 use mathlib.Core.Path.{refl}
 use lib.Ieee.{ofBits, round}
 use Rattle.laws.specs.Double.{lit}

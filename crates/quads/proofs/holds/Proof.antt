@@ -1,4 +1,3 @@
--- `holds` meets its contract.
 use mathlib.Core.Path.{_≡_, sym, _∙_}
 use Prim.Native.Nat.{ℕ, _<_}
 use mathlib.Core.Bool.{_&&_}
@@ -34,7 +33,9 @@ abbrev Tests : tie.After-quad-positive → Type 0
 Tests c =
     let d = c .before in
     let a = d .before .before .before .before .before .args in
-    (positive (d .before .before .before .node-at .result) (d .before .before .node-at2 .result) (d .before .node-at3 .result) (d .node-at4 .result) && Quads.allDistinct (a .c)) ≡ Quads.holds (nodesIn (a .nodes .now) (a .used)) (a .c)
+    (positive (d .before .before .before .node-at .result) (d .before .before .node-at2 .result) (d .before .node-at3 .result) (d .node-at4 .result)
+    && Quads.allDistinct (a .c))
+    ≡ Quads.holds (nodesIn (a .nodes .now) (a .used)) (a .c)
 
 tests : (c : tie.After-quad-positive) → Tests c
 tests c =
@@ -42,7 +43,8 @@ tests c =
     let s = d .before .before .before .before .before in
     let h = s .pre .1 in
     let g : (k : ℕ) → k < s .args .used → nodeIn (s .args .nodes .now) k ≡ _ = λ k h. sym (node-in (s .args .nodes .now) (s .args .used) k h) in
-    cell.holds-is _ (s .args .c) (d .before .before .before .node-at .ensures ∙ g _ (h .a)) (d .before .before .node-at2 .ensures ∙ g _ (h .b)) (d .before .node-at3 .ensures ∙ g _ (h .c)) (d .node-at4 .ensures ∙ g _ (h .d))
+    cell.holds-is _ (s .args .c) (d .before .before .before .node-at .ensures ∙ g _ (h .a)) (d .before .before .node-at2 .ensures ∙ g _ (h .b))
+    (d .before .node-at3 .ensures ∙ g _ (h .c)) (d .node-at4 .ensures ∙ g _ (h .d))
 
 returns : tie.Need-returns
 returns c = let u = c .before .before in c .all-distinct .ensures ∙ sym (rw (sym (u .quad-positive .ensures) ∙ c .before .if1 .taken)) ∙ tests u

@@ -1,4 +1,4 @@
--- `mean` meets its contract.
+-- `mean`, the loop's invariant: x and y are the sums over the corners passed, in their order.
 use mathlib.Core.Path.{_≡_, refl, ap, _∙_}
 use Prim.Native.Nat.{ℕ, _-_, _≤_}
 use native.Mathlib.Nat.{le-trans}
@@ -19,7 +19,8 @@ use Rattle.quads.proofs.mean.Statement.{statement}
 use Rattle.quads.proofs.mean.Tie as tie
 
 abbrev Inv-loop : tie.InvT-loop
-Inv-loop nodes n vs x₀ y₀ i₀ x y i = (i ≤ n) × (x ≡ total (λ (k : ℕ). nodeIn nodes (getD vs k 0) .x) i) × (y ≡ total (λ (k : ℕ). nodeIn nodes (getD vs k 0) .y) i)
+Inv-loop nodes n vs x₀ y₀ i₀ x y i =
+    (i ≤ n) × (x ≡ total (λ (k : ℕ). nodeIn nodes (getD vs k 0) .x) i) × (y ≡ total (λ (k : ℕ). nodeIn nodes (getD vs k 0) .y) i)
 
 abbrev μ-loop : tie.MeasureT-loop
 μ-loop nodes n vs x₀ y₀ i₀ x y i = n - i

@@ -1,4 +1,3 @@
--- `put_cell` meets its contract.
 use mathlib.Core.List.{[], _∷_}
 use lib.ListN.{length-set}
 use lib.Seq.{sets-eq}

@@ -1,4 +1,4 @@
--- `put_cells` meets its contract.
+-- `put_cells`, the loop's invariant: the first k cells stand over the list as it came.
 use mathlib.Core.Path.{_≡_, refl, ap, _∙_}
 use Prim.Native.Nat.{ℕ, _+_, _-_, _*_, _≤_}
 use lib.ListN.{length, take, length-take, length-drop}
@@ -84,8 +84,10 @@ loop-again c =
     let z = cell.cells-length (a .centre) (take (a .n) (a .t3)) (take (a .n) (a .t4)) (l .k) in (
       search needs,
       search needs,
-      cell.turn (a .cells .now) (l .cells) (l .at) (cellsTo (a .centre) (take (a .n) (a .t3)) (take (a .n) (a .t4)) (l .k)) _ _ (l .inv .2) (omega (arith, z)) (omega (arith, z, s .pre .1)) (c .before .before .put-cell .ensures)
-          ∙ cell.one-more (a .centre) (take (a .n) (a .t3)) (take (a .n) (a .t4)) (a .cells .now) (l .k) _ (cell.cell-is (a .centre) (a .t3) (a .t4) (a .n) (s .pre .0) (s .pre .2) (s .pre .3) (l .k) _ t (x .next .ensures .0)),
+      cell.turn (a .cells .now) (l .cells) (l .at) (cellsTo (a .centre) (take (a .n) (a .t3)) (take (a .n) (a .t4)) (l .k)) _ _ (l .inv .2) (omega (arith, z))
+          (omega (arith, z, s .pre .1)) (c .before .before .put-cell .ensures)
+          ∙ cell.one-more (a .centre) (take (a .n) (a .t3)) (take (a .n) (a .t4)) (a .cells .now) (l .k) _
+          (cell.cell-is (a .centre) (a .t3) (a .t4) (a .n) (s .pre .0) (s .pre .2) (s .pre .3) (l .k) _ t (x .next .ensures .0)),
     )
 
 same-length : tie.Need-same-length Inv-loop μ-loop
@@ -93,7 +95,8 @@ same-length c =
     let s = c .before .before .before in
     let a = s .args in
     let l = c .before .loop in
-    ap length (l .inv .2) ∙ cell.length-over (a .cells .now) _ (omega (arith, cell.cells-length (a .centre) (take (a .n) (a .t3)) (take (a .n) (a .t4)) (l .k), s .pre .1, l .inv .0))
+    ap length (l .inv .2)
+    ∙ cell.length-over (a .cells .now) _ (omega (arith, cell.cells-length (a .centre) (take (a .n) (a .t3)) (take (a .n) (a .t4)) (l .k), s .pre .1, l .inv .0))
 
 returns : tie.Need-returns Inv-loop μ-loop
 returns c =

@@ -1,4 +1,3 @@
--- `quad_positive` meets its contract.
 use mathlib.Core.Path.{sym, _∙_}
 use borrow.Author.Needs.{needs}
 use Rattle.quads.proofs.quad_positive.Statement.{statement}
@@ -21,14 +20,23 @@ returns c =
     let s = c .before .before in
     let t = s .before .before in
     let u = t .before .before in
-    c .turns-left4 .ensures ∙ rw (sym (u .turns-left .ensures) ∙ t .before .if1 .taken, sym (t .turns-left2 .ensures) ∙ s .before .if2 .taken, sym (s .turns-left3 .ensures) ∙ c .before .if3 .taken)
+    c .turns-left4 .ensures
+    ∙ rw (
+      sym (u .turns-left .ensures) ∙ t .before .if1 .taken,
+      sym (t .turns-left2 .ensures) ∙ s .before .if2 .taken,
+      sym (s .turns-left3 .ensures) ∙ c .before .if3 .taken,
+    )
 
 returns-2 : tie.Need-returns-2
 returns-2 c =
     let s = c .before in
     let t = s .before .before in
     let u = t .before .before in
-    rw (sym (u .turns-left .ensures) ∙ t .before .if1 .taken, sym (t .turns-left2 .ensures) ∙ s .before .if2 .taken, sym (s .turns-left3 .ensures) ∙ c .if3 .left)
+    rw (
+      sym (u .turns-left .ensures) ∙ t .before .if1 .taken,
+      sym (t .turns-left2 .ensures) ∙ s .before .if2 .taken,
+      sym (s .turns-left3 .ensures) ∙ c .if3 .left,
+    )
 
 returns-3 : tie.Need-returns-3
 returns-3 c =

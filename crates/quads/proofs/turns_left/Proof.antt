@@ -1,4 +1,3 @@
--- `turns_left` meets its contract.
 use mathlib.Core.Path.{ap, _∙_}
 use mathlib.Core.Bool.{not}
 use lib.Ieee.{ofBits, round}

@@ -1,7 +1,7 @@
 -- `replay_block` ends and stays within its lists. The part that is lent is within the bytes.
 use native.Mathlib.Omega.{arith}
 use borrow.Author.Needs.{needs}
-use Rattle.words.proofs.Parts.{part-length}
+use Rattle.laws.proofs.Lists.{part-length}
 use Rattle.replay.proofs.replay_block.Statement.{statement}
 use Rattle.replay.proofs.replay_block.Tie as tie
 

@@ -1,7 +1,7 @@
 -- `replay_entry` ends and stays within its lists. Each part that is lent is within its list.
 use mathlib.Core.Path.{refl}
 use lib.ListN.{length}
-use Rattle.words.proofs.Parts.{part-length}
+use Rattle.laws.proofs.Lists.{part-length}
 use borrow.Author.Needs.{needs}
 use Rattle.replay.proofs.replay_entry.Statement.{statement}
 use Rattle.replay.proofs.replay_entry.Tie as tie

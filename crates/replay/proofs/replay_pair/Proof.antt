@@ -1,7 +1,7 @@
 -- `replay_pair` ends and stays within its lists. Each part that is lent is within its list.
 use native.Mathlib.Omega.{arith}
 use borrow.Author.Needs.{needs}
-use Rattle.words.proofs.Parts.{part-length}
+use Rattle.laws.proofs.Lists.{part-length}
 use Rattle.replay.proofs.replay_pair.Statement.{statement}
 use Rattle.replay.proofs.replay_pair.Tie as tie
 
@@ -62,7 +62,8 @@ array-share-prefix-ring c = search needs
 slice-aggregate-blocks-write : tie.Need-slice-aggregate-blocks-write
 slice-aggregate-blocks-write c =
     let l = c .before .before .before .before .before .before .before .before .before .before .before .read-numbers in
-    part-length (c .before .before .before .before .before .before .before .before .before .before .before .before .before .before .count2 .result) 520 (l .last .1 .0) (l .kept .1 .0) (omega arith)
+    part-length (c .before .before .before .before .before .before .before .before .before .before .before .before .before .before .count2 .result) 520
+    (l .last .1 .0) (l .kept .1 .0) (omega arith)
 
 array-share-prefix-chain : tie.Need-array-share-prefix-chain
 array-share-prefix-chain c = search needs
@@ -70,7 +71,8 @@ array-share-prefix-chain c = search needs
 slice-aggregate-blocks-write-2 : tie.Need-slice-aggregate-blocks-write-2
 slice-aggregate-blocks-write-2 c =
     let l = c .before .before .before .before .before .before .before .before .before .read-numbers2 in
-    part-length (c .before .before .before .before .before .before .before .before .before .before .before .before .before .before .count3 .result) 520 (l .last .1 .0) (l .kept .1 .0) (omega arith)
+    part-length (c .before .before .before .before .before .before .before .before .before .before .before .before .before .before .count3 .result) 520
+    (l .last .1 .0) (l .kept .1 .0) (omega arith)
 
 array-borrow-prefix-out : tie.Need-array-borrow-prefix-out
 array-borrow-prefix-out c = search needs
@@ -78,7 +80,9 @@ array-borrow-prefix-out c = search needs
 slice-aggregate-blocks-write-3 : tie.Need-slice-aggregate-blocks-write-3
 slice-aggregate-blocks-write-3 c =
     let l = c .before .before .before .before .fill in
-    part-length (c .before .before .before .before .before .before .before .before .before .before .before .before .before .before .before .before .before .count .result) 1536 (l .last .0) (l .kept .0) (omega arith)
+    part-length
+    (c .before .before .before .before .before .before .before .before .before .before .before .before .before .before .before .before .before .count .result)
+    1536 (l .last .0) (l .kept .0) (omega arith)
 
 blocks-write-requires : tie.Need-blocks-write-requires
 blocks-write-requires c κs = search needs

@@ -5,7 +5,7 @@ use mathlib.Core.Bool.{cond}
 use lib.ListN.{length, take, length-take}
 use borrow.Author.Tests.{not-true, not-false}
 use Rattle.report.specs.Report.{mostText}
-use Rattle.told.proofs.Rows.{part-length}
+use Rattle.laws.proofs.Lists.{part-length}
 use Rattle.job.proofs.Runs.{not-both}
 use Rattle.run.specs.Reached.{Wrote}
 use Rattle.run.proofs.Reaching.{begun-unwritten, can-step, finished, falls, owes, wrote}

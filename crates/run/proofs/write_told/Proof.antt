@@ -4,7 +4,8 @@ use mathlib.Core.Path.{sym, ap, subst}
 use mathlib.Core.List.{List}
 use lib.ListN.{length}
 use Rattle.report.specs.Report.{mostText}
-use Rattle.told.proofs.Rows.{in-front, part-length}
+use Rattle.laws.proofs.Lists.{part-length}
+use Rattle.told.proofs.Rows.{in-front}
 use Rattle.run.specs.Reached.{Owed}
 use native.Mathlib.Omega.{arith}
 use borrow.Author.Needs.{needs}

@@ -4,7 +4,7 @@ use mathlib.Core.Path.{_≡_, refl, sym, _∙_}
 use mathlib.Core.Bool.{cond}
 use lib.ListN.{length, take, length-take}
 use borrow.Author.Tests.{not-true, not-false}
-use Rattle.told.proofs.Rows.{part-length}
+use Rattle.laws.proofs.Lists.{part-length}
 use Rattle.run.specs.Reached.{Reached}
 use Rattle.run.proofs.Reaching.{begun-so, can-step, listed, falls, turned}
 use Rattle.sheet.proofs.Lines.{finished}

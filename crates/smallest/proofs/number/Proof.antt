@@ -1,4 +1,3 @@
--- `number` meets its contract.
 use lib.Ieee.{ofBits}
 use Rattle.table.specs.declared.Row.{Row}
 use mathlib.Core.Path.{ap, _∙_}

@@ -6,6 +6,7 @@ use borrow.Author.Needs.{needs}
 use Rattle.laws.proofs.Lists.{all-set, all-same}
 use Rattle.vector.specs.Grid.{origin}
 use Rattle.vector.specs.Size.{OnSheet, AllOnSheet}
+use Rattle.vector.proofs.Sheet.{origin-on}
 use Rattle.stages.proofs.Values as values
 use Rattle.stages.proofs.points.Statement.{statement}
 use Rattle.stages.proofs.points.Tie as tie
@@ -17,7 +18,7 @@ abbrev μ-loop : tie.MeasureT-loop
 μ-loop block out₀ i₀ out i = 60 - i
 
 loop-holds : tie.Need-loop-holds Inv-loop μ-loop
-loop-holds c = (search needs, all-same OnSheet origin 60 origin values.on-origin values.on-origin, refl)
+loop-holds c = (search needs, all-same OnSheet origin 60 origin origin-on origin-on, refl)
 
 mul-at : tie.Need-mul-at Inv-loop μ-loop
 mul-at c = search needs

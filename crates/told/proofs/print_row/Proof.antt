@@ -4,7 +4,8 @@ use mathlib.Core.Path.{refl}
 use native.Mathlib.Omega.{arith}
 use lib.ListN.{length}
 use borrow.Author.Needs.{needs}
-use Rattle.told.proofs.Rows.{row-refused, row-accepted, has-room, has-both, printed-as, part-length}
+use Rattle.laws.proofs.Lists.{part-length}
+use Rattle.told.proofs.Rows.{row-refused, row-accepted, has-room, has-both, printed-as}
 use Rattle.report.specs.Report as Report
 use Rattle.told.proofs.print_row.Statement.{statement}
 use Rattle.told.proofs.print_row.Tie as tie

@@ -1,8 +1,6 @@
--- `goes` meets its contract.
 use Rattle.drawing.specs.declared.Draft.{Draft}
 use mathlib.Core.Path.{ap}
 use Prim.Native.Nat.{_-_}
-use native.Mathlib.Omega.{arith}
 use borrow.Author.Needs.{needs}
 use Rattle.drawing.proofs.State.goes.Statement.{statement}
 use Rattle.drawing.proofs.State.goes.Tie as tie

@@ -1,7 +1,5 @@
--- `stops` meets its contract.
 use Rattle.drawing.specs.declared.Draft.{Draft}
 use mathlib.Core.Path.{ap}
-use native.Mathlib.Omega.{arith}
 use borrow.Author.Needs.{needs}
 use Rattle.drawing.proofs.State.stops.Statement.{statement}
 use Rattle.drawing.proofs.State.stops.Tie as tie

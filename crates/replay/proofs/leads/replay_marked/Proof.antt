@@ -3,7 +3,7 @@ use native.Mathlib.Omega.{arith}
 use borrow.Author.Needs.{needs}
 use Prim.Native.Nat.{ℕ}
 use lib.ListN.{length-replicate, replicate}
-use Rattle.words.proofs.Parts.{part-length}
+use Rattle.laws.proofs.Lists.{part-length}
 use Rattle.replay.proofs.leads.replay_marked.Statement.{statement}
 use Rattle.replay.proofs.leads.replay_marked.Tie as tie
 
@@ -69,46 +69,59 @@ array-share-prefix-ring c = search needs
 
 slice-aggregate-compared : tie.Need-slice-aggregate-compared
 slice-aggregate-compared c =
+    let h = c .before .before .before .before .before .before .before .before .before .before in
+    let s = h .before .before .before .before .before .before .before .before .before .before in
     let n = c .before .before .before .before .before .before .before .before .before .before .before .before .before .before .read-numbers in
-    part-length (c .before .before .before .before .before .before .before .before .before .before .before .before .before .before .before .before .before .before .before .before .count-to2 .result) 256 (n .last .1 .0) (n .kept .1 .0) (c .before .before .before .before .before .before .before .before .before .before .before .before .before .before .before .before .before .before .before .before .count-to2 .ensures)
+    part-length (s .count-to2 .result) 256 (n .last .1 .0) (n .kept .1 .0) (s .count-to2 .ensures)
 
 array-share-prefix-kinds : tie.Need-array-share-prefix-kinds
 array-share-prefix-kinds c = search needs
 
 slice-aggregate-compared-2 : tie.Need-slice-aggregate-compared-2
 slice-aggregate-compared-2 c =
+    let h = c .before .before .before .before .before .before .before .before .before .before in
+    let s = h .before .before .before .before .before .before .before .before .before .before in
     let n = c .before .before .before .before .before .before .before .before .before .before .before .before .read-bytes in
-    part-length (c .before .before .before .before .before .before .before .before .before .before .before .before .before .before .before .before .before .before .before .before .count-to3 .result) 256 (n .last .1 .0) (n .kept .1 .0) (c .before .before .before .before .before .before .before .before .before .before .before .before .before .before .before .before .before .before .before .before .count-to3 .ensures)
+    part-length (s .count-to3 .result) 256 (n .last .1 .0) (n .kept .1 .0) (s .count-to3 .ensures)
 
 array-share-prefix-snaps : tie.Need-array-share-prefix-snaps
 array-share-prefix-snaps c = search needs
 
 slice-aggregate-compared-3 : tie.Need-slice-aggregate-compared-3
 slice-aggregate-compared-3 c =
+    let h = c .before .before .before .before .before .before .before .before .before .before in
+    let s = h .before .before .before .before .before .before .before .before .before .before in
     let n = c .before .before .before .before .before .before .before .before .before .before .read-nodes in
-    part-length (c .before .before .before .before .before .before .before .before .before .before .before .before .before .before .before .before .before .before .before .before .count-to4 .result) 512 (n .last .1 .0) (n .kept .1 .0) (c .before .before .before .before .before .before .before .before .before .before .before .before .before .before .before .before .before .before .before .before .count-to4 .ensures)
+    part-length (s .count-to4 .result) 512 (n .last .1 .0) (n .kept .1 .0) (s .count-to4 .ensures)
 
 array-share-prefix-outline : tie.Need-array-share-prefix-outline
 array-share-prefix-outline c = search needs
 
 slice-aggregate-compared-4 : tie.Need-slice-aggregate-compared-4
 slice-aggregate-compared-4 c =
+    let h = c .before .before .before .before .before .before .before .before .before .before in
+    let s = h .before .before .before .before .before .before .before .before .before .before in
     let n = c .before .before .before .before .before .before .before .before .read-numbers2 in
-    part-length (c .before .before .before .before .before .before .before .before .before .before .before .before .before .before .before .before .before .before .before .before .count-to5 .result) 256 (n .last .1 .0) (n .kept .1 .0) (c .before .before .before .before .before .before .before .before .before .before .before .before .before .before .before .before .before .before .before .before .count-to5 .ensures)
+    part-length (s .count-to5 .result) 256 (n .last .1 .0) (n .kept .1 .0) (s .count-to5 .ensures)
 
 array-share-prefix-loops : tie.Need-array-share-prefix-loops
 array-share-prefix-loops c = search needs
 
 slice-aggregate-compared-5 : tie.Need-slice-aggregate-compared-5
 slice-aggregate-compared-5 c =
+    let h = c .before .before .before .before .before .before .before .before .before .before in
+    let s = h .before .before .before .before .before .before .before .before .before .before in
     let n = c .before .before .before .before .before .before .read-words in
-    part-length (c .before .before .before .before .before .before .before .before .before .before .before .before .before .before .before .before .before .before .before .before .count-to6 .result) 64 (n .last .1 .0) (n .kept .1 .0) (c .before .before .before .before .before .before .before .before .before .before .before .before .before .before .before .before .before .before .before .before .count-to6 .ensures)
+    part-length (s .count-to6 .result) 64 (n .last .1 .0) (n .kept .1 .0) (s .count-to6 .ensures)
 
 array-borrow-prefix-cells : tie.Need-array-borrow-prefix-cells
 array-borrow-prefix-cells c = search needs
 
 slice-aggregate-compared-6 : tie.Need-slice-aggregate-compared-6
-slice-aggregate-compared-6 c = part-length (c .before .before .before .before .before .before .before .before .before .before .before .before .before .before .before .before .before .before .before .before .before .before .before .before .before .before .before .before .before .count-to .result) 2048 (replicate {A = ℕ} 2048 65535) (length-replicate {A = ℕ} 2048 65535) (c .before .before .before .before .before .before .before .before .before .before .before .before .before .before .before .before .before .before .before .before .before .before .before .before .before .before .before .before .before .count-to .ensures)
+slice-aggregate-compared-6 c =
+    let h = c .before .before .before .before .before .before .before .before .before .before .before .before .before .before in
+    let s = h .before .before .before .before .before .before .before .before .before .before .before .before .before .before .before in
+    part-length (s .count-to .result) 2048 (replicate {A = ℕ} 2048 65535) (length-replicate {A = ℕ} 2048 65535) (s .count-to .ensures)
 
 compared-requires : tie.Need-compared-requires
 compared-requires c κs = search needs

@@ -1,2 +1,0 @@
--- A law that the function proofs cite.
-pub mod Parts
