@@ -92,7 +92,7 @@ fn records(fd: i32) -> Tally {
 }
 
 // A file that cannot be opened counts as one that differs.
-fn file(path: &[u8]) -> Tally {
+fn tally(path: &[u8]) -> Tally {
     let fd = os::open_read(path);
     if fd < 0 {
         os::fail(path);
@@ -100,8 +100,11 @@ fn file(path: &[u8]) -> Tally {
     }
     let t = records(fd);
     libc::close(fd);
-    t.print(path);
     t
+}
+
+fn file(path: &[u8]) {
+    tally(path).print(path);
 }
 
 fn main() {
@@ -109,4 +112,5 @@ fn main() {
     file(b"wear.list");
     file(b"smallest.list");
     file(b"crossings.list");
+    tally(b"wrong.list").print_told(b"wrong.list");
 }

@@ -227,7 +227,7 @@ fn replay(fd: i32) -> Tally {
 }
 
 // A file that cannot be opened counts as one that differs.
-fn file(path: &[u8]) -> Tally {
+fn tally(path: &[u8]) -> Tally {
     let fd = os::open_read(path);
     if fd < 0 {
         os::fail(path);
@@ -235,6 +235,11 @@ fn file(path: &[u8]) -> Tally {
     }
     let t = replay(fd);
     libc::close(fd);
+    t
+}
+
+fn file(path: &[u8]) -> Tally {
+    let t = tally(path);
     t.print(path);
     t
 }
@@ -254,4 +259,5 @@ fn main() {
         .plus(read)
         .plus(written)
         .print(b"total");
+    tally(b"wrong.list").print_told(b"wrong.list");
 }

@@ -38,6 +38,16 @@ impl Tally {
         io::print_decimal(STDOUT_FILENO, self.differ);
         io::write_all(STDOUT_FILENO, b" differ\n");
     }
+
+    // Of a list whose rows are wrong on purpose: how many they are, and how many were told to differ.
+    pub fn print_told(self, name: &[u8]) {
+        io::write_all(STDOUT_FILENO, name);
+        io::write_all(STDOUT_FILENO, b": ");
+        io::print_decimal(STDOUT_FILENO, self.ran);
+        io::write_all(STDOUT_FILENO, b" wrong on purpose, ");
+        io::print_decimal(STDOUT_FILENO, self.differ);
+        io::write_all(STDOUT_FILENO, b" told\n");
+    }
 }
 
 pub fn wide(x: u8) -> u32
