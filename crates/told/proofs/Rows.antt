@@ -28,8 +28,6 @@ pub in-front : (l t : List ℕ) (r : ℕ) (m : List ℕ) → Printed true l t r 
 unfolding put
 in-front l t r m h = ap (take r) (h .list) ∙ take-at t _ r (sym (h .bytes))
 
--- and the part of a list that holds it is as long as it says
-
 -- the two cases of a row
 module _ (n used : ℕ) (v : Row) (cells : List ℕ) where
   pub row-refused : (v .code ≡ 0 → ⊥) → refusedRing n (v .code) (v .corners) (v .k) ≡ rowText n used v cells
