@@ -1,2 +1,3 @@
--- Laws of the loop.
+-- Laws of the loop, and of the words.
 pub mod Reaching
+pub mod Saying

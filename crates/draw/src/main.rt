@@ -2,7 +2,8 @@
 //
 // The text is read byte by byte and stepped over by drawing, whose `drawn` says what comes out for every text. A pair of blocks
 // is written as soon as its ring is complete. Where a line is bad the run ends, and `line N: what is expected` stands on
-// standard error. The loop's invariant is that the state and the lists are those of the bytes read so far.
+// standard error, in the words that `said`, in specs/Said, has for its number. The loop's invariant is that the state and the
+// lists are those of the bytes read so far.
 
 ghost use mathlib.Core.Path.{_≡_};
 ghost use mathlib.Core.Bool.{true, false};
@@ -11,15 +12,16 @@ ghost use lib.ListN.{length};
 ghost use lib.Dec.{eqb};
 ghost use Rattle.drawing.specs.Page as Page;
 ghost use Rattle.draw.specs.Reached.{Reached, Sendable, Ends, ending, written};
+ghost use Rattle.draw.specs.Said.{cameTo, said};
 use drawing::State;
 use libc::STDERR_FILENO;
 use libc::STDIN_FILENO;
 use libc::STDOUT_FILENO;
 
-// Why a run can be cut short.
-const READING: u32 = 1;
+// Why a run can be cut short: numbers beside those of what is wrong with a drawing.
+const READING: u32 = 30;
 
-const WRITING: u32 = 2;
+const WRITING: u32 = 31;
 
 // How a run ended: cut short, and why; or what is wrong and in which line, 0 where nothing is, and how many bytes were written.
 struct Ended {
@@ -67,16 +69,23 @@ fn cut_short(why: u32) -> Ended
     }
 }
 
-// Reads the next byte, and answers how many there are: none where the input has ended, 2 where it cannot be read, so that part
-// of a drawing is not taken for the whole.
-fn read_byte(byte: &mut [u8]) -> usize
-    requires { ⌜ length (now byte) ≡ 1 ⌝ }
+// What a read of one byte came to: how many bytes there are, none where the input has ended, 2 where it cannot be read, so that
+// part of a drawing is not taken for the whole.
+fn came_to(got: isize, byte: &[u8]) -> usize
+    ensures { λ r. ⌜ r ≡ cameTo got (length (now (byte .entry))) ⌝ }
 {
-    let got = libc::read(STDIN_FILENO, byte);
     if got < 0 {
         return 2;
     }
     io::count(got, byte)
+}
+
+// Reads the next byte.
+fn read_byte(byte: &mut [u8]) -> usize
+    requires { ⌜ length (now byte) ≡ 1 ⌝ }
+{
+    let got = libc::read(STDIN_FILENO, byte);
+    came_to(got, byte)
 }
 
 // Writes the pair that the last step completed, if it did, after `sent` bytes.
@@ -167,50 +176,64 @@ fn draw() -> Ended
     end_of(s, sent)
 }
 
-fn say(words: &[u8]) {
+// Hands over the words of a number, and answers the number.
+fn say(wrong: u32, words: &[u8]) -> u32
+    requires { ⌜ now words ≡ said wrong ⌝ }
+    ensures { λ r. ⌜ r ≡ wrong ⌝ }
+{
     io::write_all(STDERR_FILENO, words);
+    wrong
 }
 
-// What is expected of a ring as a whole, and of a text.
-fn say_of_ring(code: u32) {
-    match code {
-        1 => say(b"expected 3 to 60 points in the ring that begins here\n"),
-        12 => say(b"expected no more than 32768 rings\n"),
-        24 => say(b"expected `ring SIZE` before the first point or `chain`\n"),
-        25 => say(b"expected no more than 60 points in a ring\n"),
-        26 => say(b"expected no more than 60 points in a chain\n"),
-        27 => say(b"expected no more than one `chain` in a ring\n"),
-        28 => say(b"expected no more than 80 characters beside a comment\n"),
-        _ => say(b"expected no more than 16777216 characters in a drawing\n"),
-    }
-}
-
-fn say_of_line(code: u32) {
-    match code {
-        21 => say(b"expected `ring SIZE`, `chain`, or a point `x y` in mm, such as 12.5 -3\n"),
-        22 => say(b"expected a sheet size after `ring`, a whole number from 1 to 2048\n"),
-        23 => say(b"expected coordinates from -1024 to 1024 mm\n"),
-        _ => say_of_ring(code),
-    }
-}
-
-fn say_failed(why: u32) {
-    match why {
-        READING => say(b"draw: standard input failed\n"),
-        _ => say(b"draw: standard output failed\n"),
+// Says what is wrong.
+fn say_wrong(wrong: u32) -> u32
+    ensures { λ r. ⌜ r ≡ wrong ⌝ }
+{
+    match wrong {
+        1 => say(
+            wrong,
+            b"expected 3 to 60 points in the ring that begins here\n",
+        ),
+        12 => say(wrong, b"expected no more than 32768 rings\n"),
+        21 => say(
+            wrong,
+            b"expected `ring SIZE`, `chain`, or a point `x y` in mm, such as 12.5 -3\n",
+        ),
+        22 => say(
+            wrong,
+            b"expected a sheet size after `ring`, a whole number from 1 to 2048\n",
+        ),
+        23 => say(wrong, b"expected coordinates from -1024 to 1024 mm\n"),
+        24 => say(
+            wrong,
+            b"expected `ring SIZE` before the first point or `chain`\n",
+        ),
+        25 => say(wrong, b"expected no more than 60 points in a ring\n"),
+        26 => say(wrong, b"expected no more than 60 points in a chain\n"),
+        27 => say(wrong, b"expected no more than one `chain` in a ring\n"),
+        28 => say(
+            wrong,
+            b"expected no more than 80 characters beside a comment\n",
+        ),
+        29 => say(
+            wrong,
+            b"expected no more than 16777216 characters in a drawing\n",
+        ),
+        READING => say(wrong, b"draw: standard input failed\n"),
+        _ => say(wrong, b"draw: standard output failed\n"),
     }
 }
 
 fn main() {
     let end = draw();
     if end.failed {
-        say_failed(end.wrong);
+        say_wrong(end.wrong);
         return;
     }
     if end.wrong > 0 {
-        say(b"line ");
+        io::write_all(STDERR_FILENO, b"line ");
         io::print_decimal(STDERR_FILENO, end.line as u64);
-        say(b": ");
-        say_of_line(end.wrong);
+        io::write_all(STDERR_FILENO, b": ");
+        say_wrong(end.wrong);
     }
 }
