@@ -2,9 +2,9 @@
 // ended. It stands above job, and below the programs.
 //
 // What an operating system call read or wrote has no contract. All else has: the loop's invariant is that the state, the node
-// list with its rim marks and the count of bytes written were reached by the bytes read so far, and a run that ends has written `printed` of
-// them. Left to the code's few lines is that the bytes stepped over are those that `libc::read` gave, and that `send` hands
-// the text to `io::write_all` once.
+// list with its rim marks and the count of bytes written were reached by the bytes read so far, and a run that ends has
+// written `printed` of them. Left to the code's few lines is that the bytes stepped over are those that `libc::read` gave,
+// and that `send` hands the text to `write_all` once.
 
 ghost use mathlib.Core.Path.{_≡_};
 ghost use mathlib.Core.Bool.{false, not};

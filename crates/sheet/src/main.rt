@@ -3,7 +3,8 @@
 //
 // The blocks are stepped over as in run, and what the steps tell is dropped. `sheeted`, in specs/Sheeted, says what comes out
 // for every input: the loop's invariant is that as many bytes were written as the lines so far have, and the line that is
-// handed over is the next node's. The lines are written one at a time: a whole sheet would not fit the controller.
+// handed over is the next node's. What is left to the operating system's calls is said in run. The lines are written one at
+// a time: a whole sheet would not fit the controller.
 
 ghost use mathlib.Core.Path.{_≡_};
 ghost use mathlib.Core.Bool.{false};
