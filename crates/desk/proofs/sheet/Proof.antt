@@ -38,8 +38,7 @@ array-share-prefix-nodes c = search needs
 slice-aggregate-node-sheet : tie.Need-slice-aggregate-node-sheet
 slice-aggregate-node-sheet c =
     let l = c .before .before .before .before .before .before .before .read-nodes in
-    part-length (c .before .before .before .before .before .before .before .before .before .before .count .result) 64 (l .last .1 .0) (l .kept .1 .0)
-    (omega arith)
+    part-length _ 64 _ (l .kept .1 .0) (omega arith)
 
 array-borrow-prefix-out : tie.Need-array-borrow-prefix-out
 array-borrow-prefix-out c = search needs
@@ -47,7 +46,7 @@ array-borrow-prefix-out c = search needs
 slice-aggregate-node-sheet-2 : tie.Need-slice-aggregate-node-sheet-2
 slice-aggregate-node-sheet-2 c =
     let l = c .before .before .before .fill in
-    part-length (c .before .before .before .before .before .before .before .before .before .before .count2 .result) 1536 (l .last .0) (l .kept .0) (omega arith)
+    part-length _ 1536 _ (l .kept .0) (omega arith)
 
 node-sheet-requires : tie.Need-node-sheet-requires
 node-sheet-requires c κs = search needs

@@ -37,8 +37,7 @@ slice-aggregate-wear-add : tie.Need-slice-aggregate-wear-add
 slice-aggregate-wear-add c =
     let l = c .before .before .before .read-bytes in
     let f = c .before .before .before .before .before .before .fill in
-    part-length (c .before .before .before .before .before .before .before .before .count .result) 1536 (l .last .1 .0) (l .kept .1 .0 ∙ f .kept .0)
-    (omega arith)
+    part-length _ 1536 _ (l .kept .1 .0 ∙ f .kept .0) (omega arith)
 
 wear-add-requires : tie.Need-wear-add-requires
 wear-add-requires c κs = search needs

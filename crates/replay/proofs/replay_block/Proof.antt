@@ -29,7 +29,7 @@ array-share-prefix-bytes c = search needs
 slice-aggregate-read-block : tie.Need-slice-aggregate-read-block
 slice-aggregate-read-block c =
     let b = c .before .before .before .read-bytes in
-    part-length (c .before .before .before .before .before .count .result) 1024 (b .last .1 .0) (b .kept .1 .0) (omega arith)
+    part-length _ 1024 _ (b .kept .1 .0) (omega arith)
 
 read-block-requires : tie.Need-read-block-requires
 read-block-requires c κs = search needs

@@ -61,8 +61,7 @@ array-share-prefix-ring c = search needs
 slice-aggregate-compared : tie.Need-slice-aggregate-compared
 slice-aggregate-compared c =
     let n = c .before .before .before .before .before .before .before .before .read-numbers in
-    part-length (c .before .before .before .before .before .before .before .before .before .before .before .count2 .result) 256 (n .last .1 .0)
-    (n .kept .1 .0) (omega arith)
+    part-length _ 256 _ (n .kept .1 .0) (omega arith)
 
 array-share-prefix-chain : tie.Need-array-share-prefix-chain
 array-share-prefix-chain c = search needs
@@ -70,17 +69,14 @@ array-share-prefix-chain c = search needs
 slice-aggregate-compared-2 : tie.Need-slice-aggregate-compared-2
 slice-aggregate-compared-2 c =
     let n = c .before .before .before .before .before .before .read-numbers2 in
-    part-length (c .before .before .before .before .before .before .before .before .before .before .before .count3 .result) 256 (n .last .1 .0)
-    (n .kept .1 .0) (omega arith)
+    part-length _ 256 _ (n .kept .1 .0) (omega arith)
 
 array-borrow-prefix-cells : tie.Need-array-borrow-prefix-cells
 array-borrow-prefix-cells c = search needs
 
 slice-aggregate-compared-3 : tie.Need-slice-aggregate-compared-3
 slice-aggregate-compared-3 c =
-    part-length
-    (c .before .before .before .before .before .before .before .before .before .before .before .before .before .before .before .before .before .count .result)
-    2048 (replicate {A = ℕ} 2048 65535) (length-replicate {A = ℕ} 2048 65535) (omega arith)
+    part-length _ 2048 (replicate {A = ℕ} 2048 65535) (length-replicate {A = ℕ} 2048 65535) (omega arith)
 
 compared-requires : tie.Need-compared-requires
 compared-requires c κs = search needs

@@ -62,8 +62,7 @@ array-share-prefix-ring c = search needs
 slice-aggregate-blocks-write : tie.Need-slice-aggregate-blocks-write
 slice-aggregate-blocks-write c =
     let l = c .before .before .before .before .before .before .before .before .before .before .before .read-numbers in
-    part-length (c .before .before .before .before .before .before .before .before .before .before .before .before .before .before .count2 .result) 520
-    (l .last .1 .0) (l .kept .1 .0) (omega arith)
+    part-length _ 520 _ (l .kept .1 .0) (omega arith)
 
 array-share-prefix-chain : tie.Need-array-share-prefix-chain
 array-share-prefix-chain c = search needs
@@ -71,8 +70,7 @@ array-share-prefix-chain c = search needs
 slice-aggregate-blocks-write-2 : tie.Need-slice-aggregate-blocks-write-2
 slice-aggregate-blocks-write-2 c =
     let l = c .before .before .before .before .before .before .before .before .before .read-numbers2 in
-    part-length (c .before .before .before .before .before .before .before .before .before .before .before .before .before .before .count3 .result) 520
-    (l .last .1 .0) (l .kept .1 .0) (omega arith)
+    part-length _ 520 _ (l .kept .1 .0) (omega arith)
 
 array-borrow-prefix-out : tie.Need-array-borrow-prefix-out
 array-borrow-prefix-out c = search needs
@@ -80,9 +78,7 @@ array-borrow-prefix-out c = search needs
 slice-aggregate-blocks-write-3 : tie.Need-slice-aggregate-blocks-write-3
 slice-aggregate-blocks-write-3 c =
     let l = c .before .before .before .before .fill in
-    part-length
-    (c .before .before .before .before .before .before .before .before .before .before .before .before .before .before .before .before .before .count .result)
-    1536 (l .last .0) (l .kept .0) (omega arith)
+    part-length _ 1536 _ (l .kept .0) (omega arith)
 
 blocks-write-requires : tie.Need-blocks-write-requires
 blocks-write-requires c κs = search needs

@@ -72,7 +72,7 @@ slice-aggregate-compared c =
     let h = c .before .before .before .before .before .before .before .before .before .before in
     let s = h .before .before .before .before .before .before .before .before .before .before in
     let n = c .before .before .before .before .before .before .before .before .before .before .before .before .before .before .read-numbers in
-    part-length (s .count-to2 .result) 256 (n .last .1 .0) (n .kept .1 .0) (s .count-to2 .ensures)
+    part-length _ 256 _ (n .kept .1 .0) (s .count-to2 .ensures)
 
 array-share-prefix-kinds : tie.Need-array-share-prefix-kinds
 array-share-prefix-kinds c = search needs
@@ -82,7 +82,7 @@ slice-aggregate-compared-2 c =
     let h = c .before .before .before .before .before .before .before .before .before .before in
     let s = h .before .before .before .before .before .before .before .before .before .before in
     let n = c .before .before .before .before .before .before .before .before .before .before .before .before .read-bytes in
-    part-length (s .count-to3 .result) 256 (n .last .1 .0) (n .kept .1 .0) (s .count-to3 .ensures)
+    part-length _ 256 _ (n .kept .1 .0) (s .count-to3 .ensures)
 
 array-share-prefix-snaps : tie.Need-array-share-prefix-snaps
 array-share-prefix-snaps c = search needs
@@ -92,7 +92,7 @@ slice-aggregate-compared-3 c =
     let h = c .before .before .before .before .before .before .before .before .before .before in
     let s = h .before .before .before .before .before .before .before .before .before .before in
     let n = c .before .before .before .before .before .before .before .before .before .before .read-nodes in
-    part-length (s .count-to4 .result) 512 (n .last .1 .0) (n .kept .1 .0) (s .count-to4 .ensures)
+    part-length _ 512 _ (n .kept .1 .0) (s .count-to4 .ensures)
 
 array-share-prefix-outline : tie.Need-array-share-prefix-outline
 array-share-prefix-outline c = search needs
@@ -102,7 +102,7 @@ slice-aggregate-compared-4 c =
     let h = c .before .before .before .before .before .before .before .before .before .before in
     let s = h .before .before .before .before .before .before .before .before .before .before in
     let n = c .before .before .before .before .before .before .before .before .read-numbers2 in
-    part-length (s .count-to5 .result) 256 (n .last .1 .0) (n .kept .1 .0) (s .count-to5 .ensures)
+    part-length _ 256 _ (n .kept .1 .0) (s .count-to5 .ensures)
 
 array-share-prefix-loops : tie.Need-array-share-prefix-loops
 array-share-prefix-loops c = search needs
@@ -112,7 +112,7 @@ slice-aggregate-compared-5 c =
     let h = c .before .before .before .before .before .before .before .before .before .before in
     let s = h .before .before .before .before .before .before .before .before .before .before in
     let n = c .before .before .before .before .before .before .read-words in
-    part-length (s .count-to6 .result) 64 (n .last .1 .0) (n .kept .1 .0) (s .count-to6 .ensures)
+    part-length _ 64 _ (n .kept .1 .0) (s .count-to6 .ensures)
 
 array-borrow-prefix-cells : tie.Need-array-borrow-prefix-cells
 array-borrow-prefix-cells c = search needs
@@ -121,7 +121,7 @@ slice-aggregate-compared-6 : tie.Need-slice-aggregate-compared-6
 slice-aggregate-compared-6 c =
     let h = c .before .before .before .before .before .before .before .before .before .before .before .before .before .before in
     let s = h .before .before .before .before .before .before .before .before .before .before .before .before .before .before .before in
-    part-length (s .count-to .result) 2048 (replicate {A = ℕ} 2048 65535) (length-replicate {A = ℕ} 2048 65535) (s .count-to .ensures)
+    part-length _ 2048 (replicate {A = ℕ} 2048 65535) (length-replicate {A = ℕ} 2048 65535) (s .count-to .ensures)
 
 compared-requires : tie.Need-compared-requires
 compared-requires c κs = search needs
