@@ -1,5 +1,4 @@
--- What is proved of a chain: the cosine's range and that it is the Rust's, its lengths, its snap points; and the laws of the loops over it.
-pub mod RustCosine
+-- What is proved of a chain: its lengths, its snap points; and the laws of the loops over it.
 pub mod Lengths
 pub mod Snaps
 pub mod Walk

@@ -22,7 +22,7 @@ use Rattle.vector.specs.declared.Point.{Point}
 use Rattle.vector.specs.Grid.{origin, sub, same}
 use Rattle.vector.specs.Plane.{inMm, lerp}
 use Rattle.root.specs.Norm.{gridDist}
-use Rattle.chain.specs.Cosine.{cosine}
+use Rattle.cosine.specs.Cosine.{cosine}
 use Rattle.chain.specs.Kept.{stepTo}
 use Rattle.chain.specs.Chain as Chain
 use Rattle.chain.specs.Chain.{pointAt}

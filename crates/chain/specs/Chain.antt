@@ -12,7 +12,7 @@ use Rattle.vector.specs.declared.Point.{Point}
 use Rattle.vector.specs.Grid.{origin, sub, same}
 use Rattle.vector.specs.Plane.{inMm, lerp}
 use Rattle.root.specs.Norm.{gridDist}
-use Rattle.chain.specs.Cosine.{cosine}
+use Rattle.cosine.specs.Cosine.{cosine}
 
 abbrev pub pointAt : List GridPoint → ℕ → GridPoint
 pointAt c i = getD c i origin

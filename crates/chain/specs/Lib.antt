@@ -1,5 +1,4 @@
--- The cosine of two steps, what simplify_chain makes of a drawn boundary run, and what is claimed of its snap points.
-pub mod Cosine
+-- What simplify_chain makes of a drawn boundary run, and what is claimed of its snap points.
 pub mod Chain
 pub mod Kept
 pub mod Range

@@ -1,7 +1,7 @@
 // The chain: the drawn boundary run is reduced to its corners, and each stretch kept has one snap point.
 //
-// It stands before the marks, which lay the kept stretches along the edges of the cleaned ring; its cosine also judges
-// the diagonals of the split. A chain is held as a ring is; its lengths are in mm.
+// It stands before the marks, which lay the kept stretches along the edges of the cleaned ring. A chain is held as a ring
+// is; its lengths are in mm.
 
 ghost use mathlib.Core.Path.{_≡_};
 ghost use mathlib.Core.Bool.{false, _||_, cond};
@@ -17,7 +17,7 @@ ghost use Rattle.vector.specs.Plane.{inMm, lerp};
 ghost use Rattle.vector.specs.Size.{OnSheet, Step};
 ghost use Rattle.vector.specs.Rings.{mostPoints, pointsOf, OnSheetRing};
 ghost use Rattle.root.specs.Norm as Norm;
-ghost use Rattle.chain.specs.Cosine as Cosine;
+ghost use Rattle.cosine.specs.Cosine as Cosine;
 ghost use Rattle.chain.specs.Chain as Chain;
 ghost use Rattle.chain.specs.Kept.{stepTo, Simplifies};
 use vector::GridPoint;
@@ -31,21 +31,6 @@ pub struct Simplified {
     pub points: [GridPoint; MOST_POINTS],
     pub snaps: [Point; MOST_POINTS],
     pub count: usize,
-}
-
-// The cosine of two steps. Their norms come in, so that a caller that compares one step with several computes its norm
-// once.
-pub fn cosine(a: GridPoint, na: f64, b: GridPoint, nb: f64) -> f64
-    requires { ⌜ Step a × Step b × (na ≡ Norm.gridNorm a) × (nb ≡ Norm.gridNorm b) ⌝ }
-    ensures { λ r. ⌜ r ≡ Cosine.cosine a b ⌝ }
-{
-    if a.is_zero() {
-        return 1.0;
-    }
-    if b.is_zero() {
-        return 1.0;
-    }
-    vector::clamp(vector::in_square_mm(a.dot(b)) / (na * nb), -1.0, 1.0)
 }
 
 // The length of the step to each point of a chain, and of the chain up to it.
@@ -126,7 +111,7 @@ fn stays(a: GridPoint, b: GridPoint, c: GridPoint, nu: f64, nv: f64, last: bool)
     if v.is_zero() {
         return true;
     }
-    cosine(u, nu, v, nv) < 0.9063077870366499
+    cosine::cosine(u, nu, v, nv) < 0.9063077870366499
 }
 
 // The points of the chain that stay, and the snap point of each stretch between them, at half its length.

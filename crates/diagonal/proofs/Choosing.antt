@@ -13,7 +13,7 @@ use Rattle.vector.specs.declared.GridPoint.{GridPoint}
 use Rattle.vector.specs.Grid.{origin, sub, same, at}
 use Rattle.vector.specs.Plane.{inMm, lerp}
 use Rattle.vector.proofs.Rings.{at-in, prev-first}
-use Rattle.chain.specs.Cosine.{cosine}
+use Rattle.cosine.specs.Cosine.{cosine}
 use Rattle.simple.specs.Simple.{pointInPolygon}
 use Rattle.corner.specs.declared.Limits.{Limits}
 use Rattle.diagonal.specs.Diagonal.{inRange, blocks, runsOver, cosineNext, cosinePrev, meetsRule, larger, score, better, bestTo}

@@ -11,7 +11,7 @@ use Rattle.laws.specs.Bounded.{any}
 use Rattle.vector.specs.declared.GridPoint.{GridPoint}
 use Rattle.vector.specs.Grid.{sub, same, at, prev}
 use Rattle.vector.specs.Plane.{inMm, lerp}
-use Rattle.chain.specs.Cosine.{cosine}
+use Rattle.cosine.specs.Cosine.{cosine}
 use Rattle.simple.specs.Simple.{segmentsCross, pointInPolygon}
 use Rattle.simple.specs.Meeting.{strictlyBetween}
 use Rattle.corner.specs.declared.Limits.{Limits}

@@ -14,7 +14,7 @@ ghost use Rattle.vector.specs.Grid.{sub, same};
 ghost use Rattle.vector.specs.Size.{OnSheet, Step};
 ghost use Rattle.vector.specs.Rings.{mostPoints, pointsOf, OnSheetRing};
 ghost use Rattle.root.specs.Norm.{gridNorm};
-ghost use Rattle.chain.specs.Cosine.{cosine};
+ghost use Rattle.cosine.specs.Cosine.{cosine};
 ghost use Rattle.diagonal.specs.Diagonal as Diagonals;
 ghost use Rattle.diagonal.specs.Answer.{answer, unobstructed};
 use corner::Limits;
@@ -68,8 +68,8 @@ fn judge(
 {
     let d = q.sub(o);
     let nd = root::grid_norm(d);
-    let x = chain::cosine(a, na, d, nd);
-    let y = chain::cosine(b, nb, d, nd);
+    let x = cosine::cosine(a, na, d, nd);
+    let y = cosine::cosine(b, nb, d, nd);
     let s = larger(x, y);
     if o.same(q) {
         return Judged {

@@ -7,7 +7,7 @@ use Rattle.vector.specs.Grid as Grid
 use Rattle.vector.specs.Plane as Plane
 use Rattle.root.specs.Root as Root
 use Rattle.root.specs.Norm as Norm
-use Rattle.chain.specs.Cosine as Cosine
+use Rattle.cosine.specs.Cosine as Cosine
 use Rattle.chain.specs.Chain as Chain
 use Rattle.clean.specs.Clean as Clean
 use Rattle.simple.specs.Simple as Simple

@@ -6,7 +6,7 @@ use Rattle.laws.specs.Double.{lit, _<f_}
 use Rattle.vector.specs.declared.GridPoint.{GridPoint}
 use Rattle.vector.specs.Grid as Grid
 use Rattle.root.specs.Norm.{gridNorm, gridDist}
-use Rattle.chain.specs.Cosine as Cosine
+use Rattle.cosine.specs.Cosine as Cosine
 use Rattle.chain.proofs.stays.Statement.{statement}
 use Rattle.chain.proofs.stays.Tie as tie
 

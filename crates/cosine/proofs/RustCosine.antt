@@ -39,7 +39,7 @@ use Rattle.root.specs.Norm.{norm, gridNorm}
 use Rattle.root.proofs.Length.{gridNorm-within}
 use Rattle.root.proofs.RustLengths.{norm-in-mm}
 use Rattle.root.proofs.ZeroLengths.{unit, unit-or-more, from-0, rust-short-is-zero}
-use Rattle.chain.specs.Cosine.{cosine}
+use Rattle.cosine.specs.Cosine.{cosine}
 
 -- ---- the product of two lengths of a unit or more
 product-above : (x y : Float) → T (finite x) → T (finite y) → T (le unit x) → T (le unit y) → T (le (fin false 1 (negsuc 25)) (x *f y))

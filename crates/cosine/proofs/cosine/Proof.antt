@@ -10,9 +10,9 @@ use Rattle.laws.specs.Units as Units
 use Rattle.vector.specs.Grid as Grid
 use Rattle.vector.specs.Plane as Plane
 use Rattle.root.specs.Norm.{gridNorm}
-use Rattle.chain.specs.Cosine as Cosine
-use Rattle.chain.proofs.cosine.Statement.{statement}
-use Rattle.chain.proofs.cosine.Tie as tie
+use Rattle.cosine.specs.Cosine as Cosine
+use Rattle.cosine.proofs.cosine.Statement.{statement}
+use Rattle.cosine.proofs.cosine.Tie as tie
 
 is-zero-requires : tie.Need-is-zero-requires
 is-zero-requires c κs = search needs

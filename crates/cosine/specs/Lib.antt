@@ -1,0 +1,2 @@
+-- The cosine of two steps.
+pub mod Cosine
