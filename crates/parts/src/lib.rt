@@ -92,17 +92,17 @@ pub fn piece_points(ring: [GridPoint; MOST_POINTS], pieces: PartList, i: usize) 
 {
     let a = pieces.ends[i] as usize;
     let n = pieces.ends[i + 1] as usize - a;
-    let mut out = [GridPoint::ORIGIN; MOST_POINTS];
+    let mut out = Ring {
+        points: [GridPoint::ORIGIN; MOST_POINTS],
+        count: n,
+    };
     for j in 0..n {
         let c = pieces.corners[a + j];
         let k = c.at as usize;
         let p = ring[k];
-        out[j] = p;
+        out.points[j] = p;
     }
-    Ring {
-        points: out,
-        count: n,
-    }
+    out
 }
 
 pub fn piece_marks(marks: [Edge; MOST_POINTS], pieces: PartList, i: usize) -> [Edge; MOST_POINTS]

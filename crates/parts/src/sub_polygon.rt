@@ -25,19 +25,19 @@ pub fn rotated_points(
     requires { ⌜ (n ≤ mostPoints) × (v < n) × Below vs × AllOnSheet ring ⌝ }
     ensures { λ r. ⌜ (pointsOf r ≡ tab (λ i. cornerPoint ring vs ((v + i) % n)) n) × OnSheetRing r × (r .count ≡ n) ⌝ }
 {
-    let mut out = [GridPoint::ORIGIN; MOST_POINTS];
+    let mut out = Ring {
+        points: [GridPoint::ORIGIN; MOST_POINTS],
+        count: n,
+    };
     let mut j = v;
     for i in 0..n {
         let c = vs[j];
         let k = c.at as usize;
         let p = ring[k];
-        out[i] = p;
+        out.points[i] = p;
         j = vector::next(j, n);
     }
-    Ring {
-        points: out,
-        count: n,
-    }
+    out
 }
 
 // m of n corners, counted from corner v. The last edge, the diagonal, is straight.

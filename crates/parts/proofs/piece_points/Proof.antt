@@ -1,6 +1,6 @@
 -- `piece_points`. The loop's invariant: the places filled are the points of the piece's first corners.
 use Prim.Native.Nat.{ℕ, _+_, _-_, _≤_}
-use mathlib.Core.Path.{_≡_, refl, _∙_}
+use mathlib.Core.Path.{_≡_, refl, ap, _∙_}
 use lib.ListN.{take, length, getD, length-set}
 use lib.Seq.{getD-set-other}
 use Rattle.laws.specs.Table.{tab}
@@ -19,8 +19,8 @@ use Rattle.parts.proofs.piece_points.Tie as tie
 
 abbrev Inv-loop : tie.InvT-loop
 Inv-loop i ring pieces a n out₀ j₀ out j =
-    (j ≤ n) × (n ≤ 60) × (a + n ≤ 124) × (length out ≡ 60) × (take j out ≡ tab (λ k. cornerPoint ring (pieces .corners) (a + k)) j) × AllOnSheet out
-    × ((k : ℕ) → j ≤ k → getD out k origin ≡ origin)
+    (j ≤ n) × (n ≤ 60) × (a + n ≤ 124) × (length (out .points) ≡ 60) × (take j (out .points) ≡ tab (λ k. cornerPoint ring (pieces .corners) (a + k)) j) × AllOnSheet (out .points)
+    × ((k : ℕ) → j ≤ k → getD (out .points) k origin ≡ origin) × (out .count ≡ n)
 
 abbrev μ-loop : tie.MeasureT-loop
 μ-loop i ring pieces a n out₀ j₀ out j = n - j
@@ -50,7 +50,7 @@ sub-n : tie.Need-sub-n Inv-loop μ-loop
 sub-n c = let z = placed (c .before .before) in omega arith
 
 loop-holds : tie.Need-loop-holds Inv-loop μ-loop
-loop-holds c = let z = placed (c .before .before) in (search needs, omega arith, omega arith, refl, tab-none _, all-same OnSheet origin 60 _ origin-on origin-on, λ k h. all-same (λ x. x ≡ origin) origin 60 origin refl refl k)
+loop-holds c = let z = placed (c .before .before) in (search needs, omega arith, omega arith, refl, tab-none _, all-same OnSheet origin 60 _ origin-on origin-on, λ k h. all-same (λ x. x ≡ origin) origin 60 origin refl refl k, refl)
 
 add-c : tie.Need-add-c Inv-loop μ-loop
 add-c c = search needs
@@ -70,11 +70,11 @@ mul-p c = let s = c .before .before .before .before .before .before in let h = s
 array-copy-out-p : tie.Need-array-copy-out-p Inv-loop μ-loop
 array-copy-out-p c = c .before .before .before .before .before .before .pre .0 .below _
 
-mul-out : tie.Need-mul-out Inv-loop μ-loop
-mul-out c = search needs
+mul-p-2 : tie.Need-mul-p-2 Inv-loop μ-loop
+mul-p-2 c = search needs
 
-array-set-from-out : tie.Need-array-set-from-out Inv-loop μ-loop
-array-set-from-out c = search needs
+element-set-from-p : tie.Need-element-set-from-p Inv-loop μ-loop
+element-set-from-p c = search needs
 
 add-j : tie.Need-add-j Inv-loop μ-loop
 add-j c = search needs
@@ -94,9 +94,10 @@ loop-again c =
       search needs,
       search needs,
       simp length-set (o .inv .3),
-      more (λ k. cornerPoint ring (p .corners) (a + k)) (o .out) (o .j) (cornerPoint ring (p .corners) (a + o .j)) (omega (arith, o .inv .3)) (o .inv .4) refl,
-      all-set OnSheet origin (o .out) (o .j) (cornerPoint ring (p .corners) (a + o .j)) (o .inv .5) (s .pre .2 _),
-      λ k h. getD-set-other (o .out) (o .j) k _ origin (λ e. omega (arith, e)) ∙ o .inv .6 k (omega arith),
+      more (λ k. cornerPoint ring (p .corners) (a + k)) (o .out .points) (o .j) (cornerPoint ring (p .corners) (a + o .j)) (omega (arith, o .inv .3)) (o .inv .4) refl,
+      all-set OnSheet origin (o .out .points) (o .j) (cornerPoint ring (p .corners) (a + o .j)) (o .inv .5) (s .pre .2 _),
+      λ k h. getD-set-other (o .out .points) (o .j) k _ origin (λ e. omega (arith, e)) ∙ o .inv .6 k (omega arith),
+      o .inv .7,
     )
 
 returns : tie.Need-returns Inv-loop μ-loop
@@ -105,13 +106,13 @@ returns c =
     let s = l .before .before .before in
     let z = placed s in
     let e : l .loop .j ≡ size (s .args .t2) (s .args .i) = omega (arith, z .3) in
-    let f : take (size (s .args .t2) (s .args .i)) (l .loop .out) ≡ tab (λ k. cornerPoint (s .args .t1) (s .args .t2 .corners) (end (s .args .t2) (s .args .i) + k)) (size (s .args .t2) (s .args .i)) =
+    let f : take (size (s .args .t2) (s .args .i)) (l .loop .out .points) ≡ tab (λ k. cornerPoint (s .args .t1) (s .args .t2 .corners) (end (s .args .t2) (s .args .i) + k)) (size (s .args .t2) (s .args .i)) =
     rw e at (l .loop .inv .4) in (
-      λ es. rw (z .3) (f ∙ Pieces.points-are (s .args .t2) (s .args .i) (s .pre .1) (s .args .t1) es),
-      record { count = omega arith; places = l .loop .inv .3; points = l .loop .inv .5 },
-      z .3,
-      omega arith,
-      λ j h. l .loop .inv .6 j (omega arith),
+      λ es. ap (λ (k : ℕ). take k (l .loop .out .points)) (l .loop .inv .7 ∙ z .3) ∙ f ∙ Pieces.points-are (s .args .t2) (s .args .i) (s .pre .1) (s .args .t1) es,
+      record { count = omega (arith, l .loop .inv .7); places = l .loop .inv .3; points = l .loop .inv .5 },
+      l .loop .inv .7 ∙ z .3,
+      omega (arith, l .loop .inv .7),
+      λ j h. l .loop .inv .6 j (omega (arith, l .loop .inv .7)),
     )
 
 pub piece-points-spec : {M : Type 1} → statement M
@@ -133,8 +134,8 @@ piece-points-spec =
     cast-k
     mul-p
     array-copy-out-p
-    mul-out
-    array-set-from-out
+    mul-p-2
+    element-set-from-p
     add-j
     loop-less
     loop-again
