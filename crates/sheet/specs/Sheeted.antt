@@ -1,5 +1,6 @@
--- Card 9, "a paper list of the nodes", of the nodes that a job lists: the program's sheet, from the bytes that go in to those that come out; what it owes, and when it has
--- ended. Of what was read and written no contract can speak, so the input stands for the bytes that were stepped over, and what was written for its length. Definitions only.
+-- Card 9, "Cutters pin a paper list beside the table", of the nodes that a job lists: the program's sheet, from the bytes that go in to those that come out;
+-- what it owes, and when it has ended. Of what was read and written no contract can speak, so the input stands for the bytes that were stepped over, and
+-- what was written for its length. Definitions only.
 use Prim.Native.Nat.{ℕ, _<_, _≤_}
 use mathlib.Core.Path.{_≡_}
 use mathlib.Core.List.{List}
