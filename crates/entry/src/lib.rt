@@ -213,15 +213,16 @@ pub fn points(l: &[i32], n: usize) -> Ring
     requires { ⌜ (n ≤ mostPoints) × (n * 2 ≤ length (now l)) × AllOnSheet (pointsIn (now l) n) ⌝ }
     ensures { λ r. ⌜ (r ≡ record { points = pointsIn (now (l .entry)) n ++ replicate (mostPoints - n) origin; count = n }) × OnSheetRing r ⌝ }
 {
-    let mut out = [GridPoint::ORIGIN; MOST_POINTS];
+    let mut out = Ring {
+        points: [GridPoint::ORIGIN; MOST_POINTS],
+        count: n,
+    };
     for i in 0..n {
-        out[i] = GridPoint {
+        let p = GridPoint {
             x: l[i * 2],
             y: l[i * 2 + 1],
         };
+        out.points[i] = p;
     }
-    Ring {
-        points: out,
-        count: n,
-    }
+    out
 }

@@ -16,7 +16,7 @@ ghost use Rattle.listing.specs.Sheet as Sheet;
 use nodes::MOST_PLACES;
 
 // p / 2^s to the nearest whole number, ties to even.
-fn half_even(p: u64, s: u64) -> u64
+pub fn half_even(p: u64, s: u64) -> u64
     requires { ⌜ (p < 2 ^ 63) × (s < 64) ⌝ }
     ensures { λ r. ⌜ r ≡ Rounded.halfEven p (2 ^ s) ⌝ }
 {
@@ -34,7 +34,7 @@ fn half_even(p: u64, s: u64) -> u64
 
 // How many ten-thousandths x has. With the field f and the digits t it is (2^52 + t) * 2^(f - 1075), and ten thousand times
 // that is (2^52 + t) * 625 over 2^(1071 - f). Where f is below 1008 that is less than a half.
-fn ten_thousandths(x: f64) -> u64
+pub fn ten_thousandths(x: f64) -> u64
     requires { ⌜ Within 1024 x ⌝ }
     ensures { λ r. ⌜ r ≡ Rounded.tenThousandths x ⌝ }
 {
@@ -48,7 +48,7 @@ fn ten_thousandths(x: f64) -> u64
 }
 
 // Whether x, which has n ten-thousandths, is shown with a minus.
-fn minus(x: f64, n: u64) -> bool
+pub fn minus(x: f64, n: u64) -> bool
     requires { ⌜ Within 1024 x × (n ≡ Rounded.tenThousandths x) ⌝ }
     ensures { λ r. ⌜ r ≡ Rounded.minus x ⌝ }
 {
@@ -92,7 +92,7 @@ fn put_number(out: &mut [u8], at: usize, i: u64) -> usize
 }
 
 // n ten-thousandths with four decimals.
-fn put_decimals(out: &mut [u8], at: usize, m: bool, n: u64) -> usize
+pub fn put_decimals(out: &mut [u8], at: usize, m: bool, n: u64) -> usize
     requires { ⌜ at + length (Sheet.decimals m n) ≤ length (now out) ⌝ }
     ensures { λ r. ⌜ Written (now (out .entry)) at (Sheet.decimals m n) r (now (out .exit)) ⌝ }
 {

@@ -1,0 +1,2 @@
+-- Laws that the function proofs cite.
+pub mod Drawing

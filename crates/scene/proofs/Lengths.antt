@@ -1,0 +1,119 @@
+-- Claim: a list of 72,000 bytes holds the text of every ring of at most 60 points and 124 cells, and one of 256 that of every node.
+use Prim.Native.Nat.{ℕ, zero, suc, _+_, _*_, _/_, _≤_}
+use mathlib.Core.Path.{_≡_, refl, sym, ap, _∙_}
+use mathlib.Core.Bool.{Bool, true, false, cond}
+use mathlib.Core.List.{List, [], _∷_, _++_}
+use native.Mathlib.Omega.{arith}
+use lib.ListN.{length, getD, length-append}
+use lib.Dec.{eqb}
+use lib.IntN.{ℤ}
+use lib.Ieee.{Float}
+use borrow.Author.Tests.{eq-eqb, ne-eqb}
+use Rattle.text.specs.Text.{bytes}
+use Rattle.table.specs.declared.Row.{Row}
+use Rattle.svg.specs.Place.{pointPlace}
+use Rattle.svg.specs.Form.{formed, marks, takes}
+use Rattle.svg.proofs.Forms.{length-formed}
+use Rattle.scene.specs.declared.Spot.{Spot}
+use Rattle.scene.specs.declared.Quad.{Quad}
+use Rattle.scene.specs.Scene.{spotOf, cellText, halfText, quadOf, quadText, quadsText, placed, pointsText, dividedText, halfway, refusedText, ringText, dotText, mostRing, mostNode}
+
+-- ---- by the mark
+module _ (mark : ℕ) (a b : Spot) where
+  pub half-cut : mark ≡ 0 → formed (bytes "<path class='cut' d='M@ @L@ @'/>\n") (a .x ∷ a .y ∷ b .x ∷ b .y ∷ []) ≡ halfText mark a b
+  unfolding halfText
+  half-cut h = rw (eq-eqb mark 0 h)
+
+  pub half-rim : (mark ≡ 0 → ⊥) → formed (bytes "<path class='rim' d='M@ @L@ @'/>\n") (a .x ∷ a .y ∷ b .x ∷ b .y ∷ []) ≡ halfText mark a b
+  unfolding halfText
+  half-rim h = rw (ne-eqb mark 0 h)
+
+  half-length : length (halfText mark a b) ≤ 133
+  unfolding halfText bytes marks takes
+  half-length = go (eqb mark 0)
+    where
+      ns : List ℕ
+      ns = a .x ∷ a .y ∷ b .x ∷ b .y ∷ []
+
+      go : (t : Bool) → length (formed (cond t (bytes "<path class='cut' d='M@ @L@ @'/>\n") (bytes "<path class='rim' d='M@ @L@ @'/>\n")) ns) ≤ 133
+      go true = length-formed (bytes "<path class='cut' d='M@ @L@ @'/>\n") ns
+      go false = length-formed (bytes "<path class='rim' d='M@ @L@ @'/>\n") ns
+
+cell-length : (a b c d : Spot) → length (cellText a b c d) ≤ 249
+unfolding cellText bytes marks takes
+cell-length a b c d = length-formed (bytes "<polygon class='cell' points='@,@ @,@ @,@ @,@'/>\n") (a .x ∷ a .y ∷ b .x ∷ b .y ∷ c .x ∷ c .y ∷ d .x ∷ d .y ∷ [])
+
+quad-length : (q : Quad) → length (quadText q) ≤ 515
+unfolding quadText
+quad-length q =
+    rw (length-append, length-append)
+    (omega (arith, cell-length (q .centre) (q .ahead) (q .corner) (q .behind), half-length (q .first) (q .corner) (q .ahead), half-length (q .second) (q .corner) (q .behind)))
+
+quads-length : (l : List Float) (rs cs : List ℕ) (n : ℕ) → length (quadsText l rs cs n) ≤ 515 * n
+unfolding quadsText
+quads-length l rs cs zero = omega arith
+quads-length l rs cs (suc n) = rw length-append (omega (arith, quads-length l rs cs n, quad-length (quadOf l rs cs n)))
+
+placed-length : (x y : ℕ) → length (placed x y) ≤ 54
+unfolding placed bytes marks takes
+placed-length x y = length-formed (bytes "@,@ ") (x ∷ y ∷ [])
+
+points-length : (ps : List ℤ) (n : ℕ) → length (pointsText ps n) ≤ 54 * n
+unfolding pointsText
+points-length ps zero = omega arith
+points-length ps (suc n) = rw length-append (omega (arith, points-length ps n, placed-length (pointPlace ps (n * 2)) (pointPlace ps (n * 2 + 1))))
+
+module _ (mark : ℕ) (p : Spot) (n : ℕ) where
+  pub dot-inside : mark ≡ 0 → formed (bytes "<g class='inside' transform='matrix(1 0 0 -1 @ @)'><circle r='.22em'/><text x='.3em' y='-.3em'>#</text></g>\n") (p .x ∷ p .y ∷ n ∷ []) ≡ dotText mark p n
+  unfolding dotText
+  dot-inside h = rw (eq-eqb mark 0 h)
+
+  pub dot-rim : (mark ≡ 0 → ⊥) → formed (bytes "<g class='node' transform='matrix(1 0 0 -1 @ @)'><circle r='.22em'/><text x='.3em' y='-.3em'>#</text></g>\n") (p .x ∷ p .y ∷ n ∷ []) ≡ dotText mark p n
+  unfolding dotText
+  dot-rim h = rw (ne-eqb mark 0 h)
+
+  pub inside-length : length (formed (bytes "<g class='inside' transform='matrix(1 0 0 -1 @ @)'><circle r='.22em'/><text x='.3em' y='-.3em'>#</text></g>\n") (p .x ∷ p .y ∷ n ∷ [])) ≤ mostNode
+  unfolding bytes marks takes
+  inside-length =
+      let h = length-formed (bytes "<g class='inside' transform='matrix(1 0 0 -1 @ @)'><circle r='.22em'/><text x='.3em' y='-.3em'>#</text></g>\n") (p .x ∷ p .y ∷ n ∷ []) in
+      omega (arith, h)
+
+  pub rim-length : length (formed (bytes "<g class='node' transform='matrix(1 0 0 -1 @ @)'><circle r='.22em'/><text x='.3em' y='-.3em'>#</text></g>\n") (p .x ∷ p .y ∷ n ∷ [])) ≤ mostNode
+  unfolding bytes marks takes
+  rim-length =
+      let h = length-formed (bytes "<g class='node' transform='matrix(1 0 0 -1 @ @)'><circle r='.22em'/><text x='.3em' y='-.3em'>#</text></g>\n") (p .x ∷ p .y ∷ n ∷ []) in
+      omega (arith, h)
+
+-- ---- a ring
+module _ (n : ℕ) (v : Row) (ps : List ℤ) (count : ℕ) (h : count ≤ 60) where
+  pub divided-length : (l : List Float) (rs cs : List ℕ) → length cs ≤ 496 → length (dividedText n v ps count l rs cs) ≤ mostRing
+  unfolding dividedText bytes marks takes
+  divided-length l rs cs k =
+      let ns : List ℕ = n ∷ v .corners ∷ v .cuts ∷ [] in
+      let a : length (formed (bytes "<g class='ring'><title>ring #: corners #, cuts #</title>\n<polygon class='outline' points='") ns) ≤ 165 =
+      length-formed (bytes "<g class='ring'><title>ring #: corners #, cuts #</title>\n<polygon class='outline' points='") ns in
+      let b : length (formed (bytes "'/>\n") []) ≤ 4 = length-formed (bytes "'/>\n") [] in
+      let d : length (formed (bytes "</g>\n") []) ≤ 5 = length-formed (bytes "</g>\n") [] in
+      rw (length-append, length-append, length-append, length-append)
+      (omega (arith, a, b, d, points-length ps count, quads-length l rs cs (length cs / 4)))
+
+  pub refused-length : length (refusedText n v ps count) ≤ mostRing
+  unfolding refusedText bytes marks takes
+  refused-length =
+      let ns : List ℕ = n ∷ v .code ∷ v .corners ∷ v .k ∷ [] in
+      let ms : List ℕ = halfway ps count 0 ∷ halfway ps count 1 ∷ v .code ∷ [] in
+      let a : length (formed (bytes "<g class='refused'><title>ring # refused # # #</title>\n<polygon points='") ns) ≤ 172 =
+      length-formed (bytes "<g class='refused'><title>ring # refused # # #</title>\n<polygon points='") ns in
+      let b : length (formed (bytes "'/>\n<text transform='matrix(1 0 0 -1 @ @)'>#</text></g>\n") ms) ≤ 131 =
+      length-formed (bytes "'/>\n<text transform='matrix(1 0 0 -1 @ @)'>#</text></g>\n") ms in
+      rw (length-append, length-append) (omega (arith, a, b, points-length ps count))
+
+  -- by its row
+  module _ (l : List Float) (rs cs : List ℕ) where
+    pub ring-divided : v .code ≡ 0 → dividedText n v ps count l rs cs ≡ ringText n v ps count l rs cs
+    unfolding ringText
+    ring-divided e = rw (eq-eqb (v .code) 0 e)
+
+    pub ring-refused : (v .code ≡ 0 → ⊥) → refusedText n v ps count ≡ ringText n v ps count l rs cs
+    unfolding ringText
+    ring-refused e = rw (ne-eqb (v .code) 0 e)

@@ -1,0 +1,3 @@
+-- Laws that the function proofs cite: how long a ring's text is at most.
+pub mod Lengths
+pub mod Chain

@@ -1,0 +1,2 @@
+-- What is drawn of a ring and of a node.
+pub mod Scene
