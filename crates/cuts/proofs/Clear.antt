@@ -17,8 +17,8 @@ use Rattle.laws.proofs.Search.{any-none}
 use Rattle.vector.specs.declared.GridPoint.{GridPoint}
 use Rattle.vector.specs.Grid.{at, origin, same}
 use Rattle.vector.specs.Plane.{inMm, lerp}
+use Rattle.segments.specs.Meeting.{strictlyBetween}
 use Rattle.simple.specs.Simple.{pointInPolygon}
-use Rattle.simple.specs.Meeting.{strictlyBetween}
 use Rattle.marks.specs.Part.{Part}
 use Rattle.corner.specs.declared.Limits.{Limits}
 use Rattle.diagonal.specs.Diagonal.{inRange, blocks, runsOver, cosineNext, cosinePrev, meetsRule}

@@ -7,7 +7,7 @@ use mathlib.Core.Bool.{not}
 use lib.ListN.{length}
 use lib.Dec.{T}
 use Rattle.vector.specs.Grid.{at}
-use Rattle.simple.specs.Meeting.{strictlyBetween}
+use Rattle.segments.specs.Meeting.{strictlyBetween}
 use Rattle.marks.specs.Part.{Part}
 use Rattle.corner.specs.declared.Limits.{Limits}
 use Rattle.corner.specs.Corner.{measureAt, bad, Worst}

@@ -3,7 +3,7 @@
 ghost use Prim.Native.Nat.{_^_, _≤_};
 ghost use lib.IntN.{natAbs};
 ghost use Rattle.vector.specs.Size.{OnSheet};
-use simple::Crossing;
+use segments::Crossing;
 use vector::GridPoint;
 
 // A signed coordinate of 32 bits; 0 where it is beyond the sheet.
@@ -42,5 +42,5 @@ pub fn crossing(fd: i32) -> bool {
     let b = point(fd);
     let c = point(fd);
     let d = point(fd);
-    told(simple::segments_meet(a, b, c, d)) == words::word(fd)
+    told(segments::segments_meet(a, b, c, d)) == words::word(fd)
 }

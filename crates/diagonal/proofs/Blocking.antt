@@ -13,8 +13,9 @@ use Rattle.vector.specs.declared.Point.{Point}
 use Rattle.vector.specs.Grid.{origin}
 use Rattle.vector.specs.Plane.{inMm, lerp}
 use Rattle.vector.proofs.Rings.{at-in, at-next}
-use Rattle.simple.specs.Simple.{segmentsCross, pointInPolygon}
-use Rattle.simple.specs.Meeting.{strictlyBetween}
+use Rattle.segments.specs.Segments.{segmentsCross}
+use Rattle.segments.specs.Meeting.{strictlyBetween}
+use Rattle.simple.specs.Simple.{pointInPolygon}
 use Rattle.diagonal.specs.Diagonal.{clearOf, blocks, runsOver}
 use Rattle.diagonal.specs.Answer.{unobstructed}
 

@@ -12,8 +12,9 @@ use Rattle.vector.specs.declared.GridPoint.{GridPoint}
 use Rattle.vector.specs.Grid.{sub, same, at, prev}
 use Rattle.vector.specs.Plane.{inMm, lerp}
 use Rattle.cosine.specs.Cosine.{cosine}
-use Rattle.simple.specs.Simple.{segmentsCross, pointInPolygon}
-use Rattle.simple.specs.Meeting.{strictlyBetween}
+use Rattle.segments.specs.Segments.{segmentsCross}
+use Rattle.segments.specs.Meeting.{strictlyBetween}
+use Rattle.simple.specs.Simple.{pointInPolygon}
 use Rattle.corner.specs.declared.Limits.{Limits}
 
 -- "both <= 0.9781476007338057 (12 degrees) and >= -0.9396926207859084 (160)"
@@ -29,7 +30,7 @@ unfoldable pub blocks : List GridPoint → ℕ → ℕ → Bool
 blocks r k e = clearOf (length r) k e && segmentsCross (at r 0) (at r k) (at r e) (at r (suc e))
 
 -- 02, Card 11: "a third corner of the part is strictly between its ends on the same line", corner j. No end is, by place or by position:
--- `first-end` and `second-end` of crate simple
+-- `first-end` and `second-end` of crate segments
 unfoldable pub runsOver : List GridPoint → ℕ → ℕ → Bool
 runsOver r k j = strictlyBetween (at r 0) (at r k) (at r j)
 

@@ -120,7 +120,7 @@ fn blocked(part: Ring, k: usize) -> bool
     let mut found = false;
     'scan: for e in 0..n {
         if clear_of(n, k, e) {
-            if simple::segments_cross(o, q, part.points[e], part.points[vector::next(e, n)]) {
+            if segments::segments_cross(o, q, part.points[e], part.points[vector::next(e, n)]) {
                 found = true;
                 break 'scan;
             }
@@ -139,7 +139,7 @@ fn runs_over(part: Ring, k: usize) -> bool
     let q = part.points[k];
     let mut found = false;
     'scan: for j in 0..n {
-        if simple::strictly_between(o, q, part.points[j]) {
+        if segments::strictly_between(o, q, part.points[j]) {
             found = true;
             break 'scan;
         }

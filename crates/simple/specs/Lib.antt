@@ -1,3 +1,3 @@
--- When two segments cross, how they meet, when a ring is simple, and when a point is inside one.
+-- When a ring is simple, also by what is told of its edges, and when a point is inside one.
 pub mod Simple
-pub mod Meeting
+pub mod Told

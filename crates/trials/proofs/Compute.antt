@@ -10,8 +10,9 @@ use Rattle.root.specs.Norm as Norm
 use Rattle.cosine.specs.Cosine as Cosine
 use Rattle.chain.specs.Chain as Chain
 use Rattle.clean.specs.Clean as Clean
+use Rattle.segments.specs.Segments as Segments
+use Rattle.segments.specs.Meeting as Meeting
 use Rattle.simple.specs.Simple as Simple
-use Rattle.simple.specs.Meeting as Meeting
 use Rattle.marks.specs.Marks as Marks
 use Rattle.corner.specs.Corner as Corner
 use Rattle.diagonal.specs.Diagonal as Diagonal
@@ -63,7 +64,7 @@ unfolding Clean.tolerance Clean.near Clean.spaced Clean.opened Clean.pointSegmen
 in-clean = tt
 
 unfoldable pub in-simple : Unit {0}
-unfolding Simple.interior Simple.ratio Simple.segmentsCross Simple.edgesCross Simple.polygonSimple Simple.rayMeets Simple.meetsEdge
+unfolding Segments.interior Segments.ratio Segments.segmentsCross Simple.edgesCross Simple.polygonSimple Simple.rayMeets Simple.meetsEdge
     Simple.pointInPolygon Meeting.onLine Meeting.strictlyBetween
 in-simple = tt
 

@@ -1,25 +1,20 @@
 -- THEOREM `never-both`. For points on the sheet no pair of segments is both touching, by exact whole numbers, and crossing, by the doubles:
 -- an end on the other segment makes the numerator of a parameter 0 or the denominator, and the double quotient is exactly 0 or 1.
 -- THEOREMS `told-touching`, `told-crossing`, `told-apart`. So each of the three answers is given where its own test holds.
--- THEOREM `crossing-alone`. The answer is Crossing exactly where the doubles cross, as before; so, for every ring, `same-rings`: its own
--- check accepts it exactly if no two of its edges are told to cross. Touching edges are accepted, and the same rings are refused with 6.
 -- THEOREMS `first-end`, `second-end`. An end is never strictly between the ends, nor is a corner that lies where an end does.
-use Prim.Native.Nat.{ℕ, zero, suc, _*_, _%_, _^_, _≤_, _<_}
+use Prim.Native.Nat.{ℕ, zero, suc, _*_, _^_, _≤_, _<_}
 use native.Mathlib.Nat.{mul-one, zero-lt-suc}
 use native.Mathlib.Omega.{arith}
 use mathlib.Core.Path.{_≡_, refl, sym, ap, _∙_, subst}
 use mathlib.Core.Logic.{_⊎_, inl, inr}
 use mathlib.Core.Bool.{Bool, true, false, _&&_, _||_, not, cond}
-use mathlib.Core.List.{List}
-use lib.ListN.{length}
 use lib.IntN.{ℤ, pos, negsuc, natAbs, _+ℤ_, _*ℤ_, zero-*ℤ, *ℤ-zero}
 use lib.Signed.{ltZ, leZ}
-use lib.Dec.{T, lit≤, leb, ltb, eqb}
+use lib.Dec.{T, lit≤}
 use lib.Ieee.{Float, binary64, prec, unlike, round, ofInt, add, sub, neg, sum, lt}
 use lib.Ieee.Fits.{and-l, and-r}
 use lib.Ieee.Scale.{round-same}
 use Rattle.laws.specs.Double.{lit}
-use Rattle.laws.specs.Bounded.{any}
 use Rattle.laws.specs.Integer.{eqZ}
 use Rattle.laws.proofs.Booleans.{or-split, is-false}
 use Rattle.laws.proofs.Exact.{div-at}
@@ -30,10 +25,10 @@ use Rattle.vector.specs.declared.GridPoint.{GridPoint}
 use Rattle.vector.specs.Grid as Grid
 use Rattle.vector.specs.Size.{OnSheet, Step}
 use Rattle.vector.proofs.Sheet.{step}
-use Rattle.simple.specs.Simple.{interior, ratio, segmentsCross, edgesCross, polygonSimple}
-use Rattle.simple.specs.declared.Crossing.the-variants as meets
-use Rattle.simple.specs.Meeting.{onLine, onSegment, strictlyBetween, touching, segmentsMeet, isCrossing, toldToCross, noneToldToCross}
-use Rattle.simple.proofs.Lines as lines
+use Rattle.segments.specs.Segments.{interior, ratio, segmentsCross}
+use Rattle.segments.specs.declared.Crossing.the-variants as meets
+use Rattle.segments.specs.Meeting.{onLine, onSegment, strictlyBetween, touching, segmentsMeet}
+use Rattle.segments.proofs.Lines as lines
 
 -- ---- the quotients 0 / den and den / den
 outside-zero : (s : Bool) → interior (round binary64 s 0 1) ≡ false
@@ -154,15 +149,6 @@ module _ (a b c d : GridPoint) where
     unfolding segmentsMeet
     told-touching e = let n = never-both (subst T (sym e) tt) in rw (n, e)
 
-  pub crossing-alone : isCrossing (segmentsMeet a b c d) ≡ segmentsCross a b c d
-  unfolding segmentsMeet
-  crossing-alone = go (segmentsCross a b c d) (touching a b c d)
-    where
-      go : (x y : Bool) → isCrossing (cond x meets.Crossing (cond y meets.Touching meets.Apart)) ≡ x
-      go true y = refl
-      go false true = refl
-      go false false = refl
-
   pub told-crossing : segmentsCross a b c d ≡ true → segmentsMeet a b c d ≡ meets.Crossing
   unfolding segmentsMeet
   told-crossing e = rw e
@@ -170,17 +156,6 @@ module _ (a b c d : GridPoint) where
   pub told-apart : segmentsCross a b c d ≡ false → touching a b c d ≡ false → segmentsMeet a b c d ≡ meets.Apart
   unfolding segmentsMeet
   told-apart e f = rw (e, f)
-
--- ---- the ring's own check
-pub same-rings : (r : List GridPoint) → polygonSimple r ≡ noneToldToCross r
-unfolding polygonSimple edgesCross noneToldToCross toldToCross
-same-rings r = λ k. leb 3 n && not (any (λ i. any (λ j. ltb (suc i) j && not (eqb (suc j % n) i) && told i j k) n) n)
-  where
-    n : ℕ
-    n = length r
-
-    told : (i j : ℕ) → segmentsCross (Grid.at r i) (Grid.at r (suc i)) (Grid.at r j) (Grid.at r (suc j)) ≡ isCrossing (segmentsMeet (Grid.at r i) (Grid.at r (suc i)) (Grid.at r j) (Grid.at r (suc j)))
-    told i j = sym (crossing-alone (Grid.at r i) (Grid.at r (suc i)) (Grid.at r j) (Grid.at r (suc j)))
 
 -- ---- an end is not strictly between the ends
 step-none : (p : GridPoint) → Grid.sub p p ≡ Grid.origin

@@ -1,18 +1,13 @@
 -- 02, Card 11: how two segments meet, apart, touching or crossing. Crossing is told in doubles by `segmentsCross`, touching by exact whole numbers.
-use Prim.Native.Nat.{ℕ, suc, _%_}
-use mathlib.Core.Bool.{Bool, true, false, _&&_, _||_, not, cond}
-use mathlib.Core.List.{List}
+use mathlib.Core.Bool.{Bool, _&&_, _||_, not, cond}
 use lib.IntN.{pos}
 use lib.Signed.{ltZ, leZ}
-use lib.ListN.{length}
-use lib.Dec.{leb, ltb, eqb}
 use Rattle.laws.specs.Integer.{eqZ}
-use Rattle.laws.specs.Bounded.{any}
 use Rattle.vector.specs.declared.GridPoint.{GridPoint}
-use Rattle.vector.specs.Grid.{sub, cross, dot, at}
-use Rattle.simple.specs.declared.Crossing.{Crossing}
-use Rattle.simple.specs.declared.Crossing.the-variants as meets
-use Rattle.simple.specs.Simple.{segmentsCross}
+use Rattle.vector.specs.Grid.{sub, cross, dot}
+use Rattle.segments.specs.declared.Crossing.{Crossing}
+use Rattle.segments.specs.declared.Crossing.the-variants as meets
+use Rattle.segments.specs.Segments.{segmentsCross}
 
 -- p, a and b are on one line
 unfoldable pub onLine : GridPoint → GridPoint → GridPoint → Bool
@@ -33,17 +28,3 @@ touching a b c d = onSegment a b c || onSegment a b d || onSegment c d a || onSe
 -- "Crossing stays as it was, and apart is all else"
 unfoldable pub segmentsMeet : GridPoint → GridPoint → GridPoint → GridPoint → Crossing
 segmentsMeet a b c d = cond (segmentsCross a b c d) meets.Crossing (cond (touching a b c d) meets.Touching meets.Apart)
-
--- "The ring's own check still rejects crossings alone": whether an answer is one
-abbrev pub isCrossing : Crossing → Bool
-isCrossing meets.Apart = false
-isCrossing meets.Touching = false
-isCrossing meets.Crossing = true
-
--- edge i and edge j, which comes after it and shares no end with it, are told to cross; and no two edges of a ring are
-unfoldable pub toldToCross : List GridPoint → ℕ → ℕ → Bool
-toldToCross r i j =
-    ltb (suc i) j && not (eqb (suc j % length r) i) && isCrossing (segmentsMeet (at r i) (at r (suc i)) (at r j) (at r (suc j)))
-
-unfoldable pub noneToldToCross : List GridPoint → Bool
-noneToldToCross r = leb 3 (length r) && not (any (λ i. any (toldToCross r i) (length r)) (length r))

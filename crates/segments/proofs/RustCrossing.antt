@@ -30,7 +30,7 @@ use Rattle.vector.specs.Plane as Plane
 use Rattle.vector.specs.Size.{OnSheet, Step}
 use Rattle.vector.proofs.RustDoubles as exact
 use Rattle.vector.proofs.Sheet.{step}
-use Rattle.simple.specs.Simple.{interior, ratio, segmentsCross}
+use Rattle.segments.specs.Segments.{interior, ratio, segmentsCross}
 
 -- ---- the Rust's function over points in mm, as it stands there
 abbrev pub denominator : Point → Point → Point → Point → Float

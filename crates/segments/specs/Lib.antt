@@ -1,0 +1,3 @@
+-- When two segments cross, and how they meet.
+pub mod Segments
+pub mod Meeting
