@@ -1,27 +1,19 @@
 -- Each case of the definitions as the code comes to it, and how long the head is at most.
-use Prim.Native.Nat.{ℕ, zero, suc, _+_, _-_, _*_, _/_, _≤_, _<_}
-use mathlib.Core.Path.{_≡_, refl, sym, ap, _∙_}
-use mathlib.Core.Bool.{Bool, true, false, cond}
-use mathlib.Core.List.{List, [], _∷_, _++_}
+use Prim.Native.Nat.{ℕ, _+_, _-_, _*_, _≤_, _<_}
+use mathlib.Core.Path.{_≡_, sym, ap, _∙_}
+use mathlib.Core.Bool.{true, false}
+use mathlib.Core.List.{List}
 use native.Mathlib.Omega.{arith}
-use lib.ListN.{length, take, drop, length-append, length-drop}
+use lib.ListN.{length, take, drop, length-drop}
 use lib.Seq.{take-all}
-use lib.Dec.{ltb}
 use lib.IntN.{ℤ}
 use Rattle.blocks.specs.declared.Block.{Block}
 use Rattle.blocks.specs.declared.Block.the-variants.{Ring, Chain, Refused}
 use borrow.Author.Tests.{lt-ltb, le-ltb}
-use Rattle.text.specs.Text.{bytes}
-use Rattle.svg.specs.Form.{formed, marks, takes}
-use Rattle.svg.proofs.Forms.{length-formed}
 use Rattle.job.specs.Run.{blockAt}
 use Rattle.frame.specs.declared.Extent.{Extent}
-use Rattle.frame.specs.declared.Frame.{Frame}
-use Rattle.frame.specs.declared.View.{View}
-use Rattle.frame.specs.declared.Axes.{Axes}
-use Rattle.frame.specs.Bounds.{least, most, grown, decadeTo, stepFor, filled, widened, stopped, met, extended}
+use Rattle.frame.specs.Bounds.{least, most, grown, decadeTo, stepFor, widened, stopped, met, extended}
 use Rattle.blocks.specs.Blocks.{readBlock}
-use Rattle.frame.specs.Head.{boxText, looks, axesText, headText, endedText, footText, viewOf, axesOf, mostHead}
 
 pub least-below : (a b : ℕ) → b < a → b ≡ least a b
 unfolding least

@@ -1,10 +1,10 @@
 -- Claim: a list of 4,096 bytes holds the head of every picture, the line of a refused block, and the end.
-use Prim.Native.Nat.{ℕ, _+_, _≤_}
-use mathlib.Core.List.{List, [], _∷_, _++_}
+use Prim.Native.Nat.{ℕ, _≤_}
+use mathlib.Core.List.{[], _∷_}
 use native.Mathlib.Omega.{arith}
 use lib.ListN.{length, length-append}
 use Rattle.text.specs.Text.{bytes}
-use Rattle.svg.specs.Form.{formed, marks, takes}
+use Rattle.svg.specs.Form.{marks, takes}
 use Rattle.svg.proofs.Forms.{length-formed}
 use Rattle.frame.specs.declared.Frame.{Frame}
 use Rattle.frame.specs.declared.View.{View}

@@ -1,6 +1,6 @@
 -- The extent of a job: the box of all points of its blocks, as places, up to the first block that is refused. Definitions only.
 use Prim.Native.Nat.{ℕ, zero, suc, _+_, _-_, _*_, _/_, _≤_, _<_}
-use mathlib.Core.Bool.{Bool, true, false, cond}
+use mathlib.Core.Bool.{true, false, cond}
 use mathlib.Core.List.{List}
 use lib.ListN.{length}
 use lib.Dec.{ltb}
@@ -20,8 +20,8 @@ unfoldable pub most : ℕ → ℕ → ℕ
 most a b = cond (ltb a b) b a
 
 -- before the first point
-unfoldable pub nothing : Extent
-nothing = record { left = 40000000; right = 0; bottom = 40000000; top = 0; going = true }
+unfoldable pub noPoint : Extent
+noPoint = record { left = 40000000; right = 0; bottom = 40000000; top = 0; going = true }
 
 unfoldable pub widen : Extent → ℕ → ℕ → Extent
 widen e x y = record { left = least (e .left) x; right = most (e .right) x; bottom = least (e .bottom) y; top = most (e .top) y; going = e .going }
@@ -47,7 +47,7 @@ extended e b n =
 
 -- with the first i blocks of a job, and with all
 unfoldable pub extentTo : List ℕ → ℕ → Extent
-extentTo l zero = nothing
+extentTo l zero = noPoint
 extentTo l (suc i) = extended (extentTo l i) (blockAt l i) i
 
 unfoldable pub extentOf : List ℕ → Extent
@@ -68,12 +68,13 @@ stepFor size =
     cond (ltb size (d * 8)) d (cond (ltb size (d * 16)) (d * 2) (d * 5))
 
 -- a job with no point is drawn as a bare sheet of 10 by 10 mm
-unfoldable pub filled : Extent → Extent
-filled e = cond (ltb (e .right) (e .left)) (record { left = origin; right = origin + 100000; bottom = origin; top = origin + 100000; going = e .going }) e
+unfoldable pub orBareSheet : Extent → Extent
+orBareSheet e = cond (ltb (e .right) (e .left)) (record { left = origin; right = origin + 100000; bottom = origin; top = origin + 100000; going = e .going }) e
 
--- in an SVG y grows downward: low and high are the bottom and the top turned over. The margin is an eighth of the size, and the em, by which letters and strokes go, a fortieth
-abbrev pub turned : ℕ → ℕ
-turned y = 40000000 - y
+-- in an SVG y grows downward: low and high are the bottom and the top upside down. The margin is an eighth of the size, and the em,
+-- by which letters and strokes go, a fortieth
+abbrev pub upsideDown : ℕ → ℕ
+upsideDown y = 40000000 - y
 
 unfoldable pub framed : Extent → Frame
 framed e =
@@ -82,15 +83,15 @@ framed e =
       left = e .left;
       right = e .right;
       bottom = e .bottom;
-      low = turned (e .bottom);
-      high = turned (e .top);
+      low = upsideDown (e .bottom);
+      high = upsideDown (e .top);
       margin = size / 8 + 10;
       em = size / 40 + 1;
       step = stepFor size;
     }
 
 unfoldable pub frameOf : Extent → Frame
-frameOf e = framed (filled e)
+frameOf e = framed (orBareSheet e)
 
 -- what bounds an extent, and a frame
 pub record Small (e : Extent) : Type 0 where
@@ -99,7 +100,7 @@ pub record Small (e : Extent) : Type 0 where
   pub bottom : e .bottom ≤ 40000000
   pub top : e .top ≤ 40000000
 
-pub record Fair (f : Frame) : Type 0 where
+pub record SmallFrame (f : Frame) : Type 0 where
   pub left : f .left ≤ 40000000
   pub right : f .right ≤ 40000000
   pub bottom : f .bottom ≤ 40000000

@@ -7,7 +7,7 @@ use Rattle.svg.specs.Form.{formed}
 use Rattle.frame.specs.declared.Frame.{Frame}
 use Rattle.frame.specs.declared.View.{View}
 use Rattle.frame.specs.declared.Axes.{Axes}
-use Rattle.frame.specs.Bounds.{turned}
+use Rattle.frame.specs.Bounds.{upsideDown}
 
 -- "prints to scale": width and height in mm, and the same in the units of the drawing
 unfoldable pub viewOf : Frame → View
@@ -48,14 +48,15 @@ axesOf f =
       east = last (f .right) (f .step);
       south = last (f .low) (f .step);
       north = first (f .high) (f .step);
-      lowest = turned (last (f .low) (f .step));
-      highest = turned (first (f .high) (f .step));
+      lowest = upsideDown (last (f .low) (f .step));
+      highest = upsideDown (first (f .high) (f .step));
       foot = f .low + f .em * 7 / 2;
       bar = origin + f .step;
       tip = f .left + f .step;
     }
 
--- the two axes, their ticks as dashes a step apart, the labels of their first and last tick, the scale bar, and the group of all that is drawn, in which y grows upward
+-- the two axes, their ticks as dashes a step apart, the labels of their first and last tick, the scale bar, and the group of all that
+-- is drawn, in which y grows upward
 unfoldable pub axesText : Frame → Axes → List ℕ
 axesText f a =
     formed (bytes "<path class='axis' d='M@ @H@M@ @V@'/>\n<path class='tick' stroke-dasharray='@ @' d='M@ @H@'/>\n<path class='tick' stroke-dasharray='@ @' d='M@ @V@'/>\n<g fill='gray' text-anchor='middle'><text x='@' y='@' dy='1.4em'>~</text><text x='@' y='@' dy='1.4em'>~</text></g>\n<g fill='gray' text-anchor='end'><text x='@' y='@' dx='-.6em' dy='.35em'>~</text><text x='@' y='@' dx='-.6em' dy='.35em'>~</text></g>\n<path class='bar' d='M@ @h@'/><text x='@' y='@' dx='.5em' dy='.35em'>~ mm</text>\n<g transform='scale(1 -1)'>\n")
@@ -71,7 +72,9 @@ headText f = boxText (viewOf f) ++ looks ++ axesText f (axesOf f)
 
 -- a refused block ends the run: its line, at the foot
 unfoldable pub endedText : Frame → ℕ → ℕ → List ℕ
-endedText f block code = formed (bytes "<text class='ended' transform='matrix(1 0 0 -1 @ @)' dy='4.8em'>block # refused #</text>\n") (f .left ∷ f .bottom ∷ block ∷ code ∷ [])
+endedText f block code =
+    formed (bytes "<text class='ended' transform='matrix(1 0 0 -1 @ @)' dy='4.8em'>block # refused #</text>\n")
+    (f .left ∷ f .bottom ∷ block ∷ code ∷ [])
 
 unfoldable pub footText : List ℕ
 footText = formed (bytes "</g>\n</svg>\n") []

@@ -207,7 +207,7 @@ fn step_for(size: u64) -> u64
 
 fn fill(e: Extent) -> Extent
     requires { ⌜ Bounds.Small e ⌝ }
-    ensures { λ r. ⌜ (r ≡ Bounds.filled e) × Bounds.Small r ⌝ }
+    ensures { λ r. ⌜ (r ≡ Bounds.orBareSheet e) × Bounds.Small r ⌝ }
 {
     if e.right < e.left {
         return Extent {
@@ -223,7 +223,7 @@ fn fill(e: Extent) -> Extent
 
 fn surround(e: Extent) -> Frame
     requires { ⌜ Bounds.Small e ⌝ }
-    ensures { λ r. ⌜ (r ≡ Bounds.framed e) × Bounds.Fair r ⌝ }
+    ensures { λ r. ⌜ (r ≡ Bounds.framed e) × Bounds.SmallFrame r ⌝ }
 {
     let size = most(less(e.right, e.left), less(e.top, e.bottom));
     let step = step_for(size);
@@ -242,7 +242,7 @@ fn surround(e: Extent) -> Frame
 // The frame of a box.
 pub fn frame_of(e: Extent) -> Frame
     requires { ⌜ Bounds.Small e ⌝ }
-    ensures { λ r. ⌜ (r ≡ Bounds.frameOf e) × Bounds.Fair r ⌝ }
+    ensures { λ r. ⌜ (r ≡ Bounds.frameOf e) × Bounds.SmallFrame r ⌝ }
 {
     surround(fill(e))
 }
@@ -276,7 +276,7 @@ pub struct Axes {
 }
 
 fn view_of(f: Frame) -> View
-    requires { ⌜ Bounds.Fair f ⌝ }
+    requires { ⌜ Bounds.SmallFrame f ⌝ }
     ensures { λ r. ⌜ r ≡ Head.viewOf f ⌝ }
 {
     View {
@@ -304,7 +304,7 @@ fn last(x: u64, step: u64) -> u64
 }
 
 fn axes_of(f: Frame) -> Axes
-    requires { ⌜ Bounds.Fair f ⌝ }
+    requires { ⌜ Bounds.SmallFrame f ⌝ }
     ensures { λ r. ⌜ r ≡ Head.axesOf f ⌝ }
 {
     let line = f.em / 8;
@@ -406,7 +406,7 @@ fn put_axes(out: &mut [u8], at: usize, f: Frame, a: Axes) -> usize
 
 // The head of a picture, up to where its rings begin.
 pub fn put_head(out: &mut [u8], f: Frame) -> usize
-    requires { ⌜ Bounds.Fair f × (Head.mostHead ≤ length (now out)) ⌝ }
+    requires { ⌜ Bounds.SmallFrame f × (Head.mostHead ≤ length (now out)) ⌝ }
     ensures { λ r. ⌜ Written (now (out .entry)) 0 (Head.headText f) r (now (out .exit)) × (r ≤ Head.mostHead) ⌝ }
 {
     let looks = put_box(out, view_of(f));

@@ -1,10 +1,10 @@
 -- Claim: a list of 72,000 bytes holds the text of every ring of at most 60 points and 124 cells, and one of 256 that of every node.
 use Prim.Native.Nat.{ℕ, zero, suc, _+_, _*_, _/_, _≤_}
-use mathlib.Core.Path.{_≡_, refl, sym, ap, _∙_}
+use mathlib.Core.Path.{_≡_}
 use mathlib.Core.Bool.{Bool, true, false, cond}
-use mathlib.Core.List.{List, [], _∷_, _++_}
+use mathlib.Core.List.{List, [], _∷_}
 use native.Mathlib.Omega.{arith}
-use lib.ListN.{length, getD, length-append}
+use lib.ListN.{length, length-append}
 use lib.Dec.{eqb}
 use lib.IntN.{ℤ}
 use lib.Ieee.{Float}
@@ -16,7 +16,7 @@ use Rattle.svg.specs.Form.{formed, marks, takes}
 use Rattle.svg.proofs.Forms.{length-formed}
 use Rattle.scene.specs.declared.Spot.{Spot}
 use Rattle.scene.specs.declared.Quad.{Quad}
-use Rattle.scene.specs.Scene.{spotOf, cellText, halfText, quadOf, quadText, quadsText, placed, pointsText, dividedText, halfway, refusedText, ringText, dotText, mostRing, mostNode}
+use Rattle.scene.specs.Scene.{cellText, halfText, quadOf, quadText, quadsText, placed, pointsText, dividedText, halfway, refusedText, ringText, dotText, mostRing, mostNode}
 
 -- ---- by the mark
 module _ (mark : ℕ) (a b : Spot) where

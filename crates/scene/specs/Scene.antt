@@ -1,9 +1,9 @@
--- What is drawn of a ring: its outline, one polygon a cell, one line for each half of an edge; or its outline greyed with the number that refuses it. And of a node: a dot
--- and its number. Definitions only.
+-- What is drawn of a ring: its outline, one polygon a cell, one line for each half of an edge; or its outline greyed with the number that
+-- refuses it. And of a node: a dot and its number. Definitions only.
 use Prim.Native.Nat.{ℕ, zero, suc, _+_, _*_, _/_}
 use mathlib.Core.Bool.{cond}
 use mathlib.Core.List.{List, [], _∷_, _++_}
-use lib.ListN.{length, getD, take}
+use lib.ListN.{length, getD}
 use lib.Dec.{eqb}
 use lib.IntN.{ℤ}
 use lib.Ieee.{Float, nan}
@@ -24,7 +24,9 @@ cellText a b c d = formed (bytes "<polygon class='cell' points='@,@ @,@ @,@ @,@'
 
 -- half of an edge, from a corner to the edge's middle, whose rim mark says whether it is a ring's edge or a cut
 unfoldable pub halfText : ℕ → Spot → Spot → List ℕ
-halfText mark a b = formed (cond (eqb mark 0) (bytes "<path class='cut' d='M@ @L@ @'/>\n") (bytes "<path class='rim' d='M@ @L@ @'/>\n")) (a .x ∷ a .y ∷ b .x ∷ b .y ∷ [])
+halfText mark a b =
+    formed (cond (eqb mark 0) (bytes "<path class='cut' d='M@ @L@ @'/>\n") (bytes "<path class='rim' d='M@ @L@ @'/>\n"))
+    (a .x ∷ a .y ∷ b .x ∷ b .y ∷ [])
 
 -- cell i of a list of four node numbers a cell, its nodes looked up
 unfoldable pub quadOf : List Float → List ℕ → List ℕ → ℕ → Quad

@@ -7,7 +7,6 @@ ghost use mathlib.Core.Path.{_≡_};
 ghost use Prim.Native.Nat.{_+_, _*_, _/_, _≤_, _<_};
 ghost use lib.ListN.{length, getD};
 ghost use Rattle.text.specs.Text.{Written};
-ghost use Rattle.svg.specs.Place.{pointPlace};
 ghost use Rattle.scene.specs.Scene as Scene;
 use nodes::NodeNumber;
 use table::Row;

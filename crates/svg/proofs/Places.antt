@@ -1,8 +1,8 @@
--- Places: how far from the origin they are, and each case of the code; and the claim that ties them to the sheet, `sheet-decimals`: the place of a coordinate in range is
--- shown as the cell sheet shows the coordinate.
-use Prim.Native.Nat.{ℕ, _+_, _-_, _*_, _/_, _%_, _≤_, _<_}
+-- Places: how far from the origin they are, and each case of the code; and the claim that ties them to the sheet, `sheet-decimals`: the
+-- place of a coordinate in range is shown as the cell sheet shows the coordinate.
+use Prim.Native.Nat.{ℕ, _+_, _-_, _*_, _≤_, _<_}
 use mathlib.Core.Path.{_≡_, refl, sym, ap, _∙_, subst}
-use mathlib.Core.Bool.{Bool, true, false, true≢false, _&&_, cond}
+use mathlib.Core.Bool.{Bool, true, false, true≢false, _&&_}
 use mathlib.Core.List.{List}
 use native.Mathlib.Omega.{arith}
 use lib.Dec.{T, ltb}

@@ -1,10 +1,9 @@
--- A text and what it is made of: a text that is the same has the same room and is written alike; two, and more, texts written one after the other.
+-- A text that is the same has the same room and is written alike.
 use Prim.Native.Nat.{ℕ, _+_, _≤_}
-use mathlib.Core.Path.{_≡_, sym, subst, ap}
-use mathlib.Core.List.{List, _++_}
+use mathlib.Core.Path.{_≡_, sym, subst}
+use mathlib.Core.List.{List}
 use lib.ListN.{length}
 use Rattle.text.specs.Text.{Written}
-use Rattle.text.proofs.Writing.{shorter, join, room}
 
 module _ {t u : List ℕ} (e : t ≡ u) where
   pub room-as : (at n : ℕ) → at + length u ≤ n → at + length t ≤ n

@@ -18,7 +18,8 @@ origin = 20000000
 unfoldable pub placeOf : Float → ℕ
 placeOf x = cond (held x) (cond (minus x) (origin - tenThousandths x) (origin + tenThousandths x)) origin
 
--- m units of 1/8192 mm in ten-thousandths, ties to even as on the sheet: 10000 / 8192 is 625 / 512. Beyond 1,024 mm they are those of 1,024 mm: such a ring is refused and drawn at the limit.
+-- m units of 1/8192 mm in ten-thousandths, ties to even as on the sheet: 10000 / 8192 is 625 / 512. Beyond 1,024 mm they are those of
+-- 1,024 mm: such a ring is refused and drawn at the limit.
 unfoldable pub rounded : ℕ → ℕ
 rounded m = cond (ltb 8388608 m) 10240000 (halfEven (m * 625) 512)
 

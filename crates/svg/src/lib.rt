@@ -7,7 +7,6 @@
 ghost use mathlib.Core.Path.{_≡_};
 ghost use Prim.Native.Nat.{_+_, _≤_, _<_};
 ghost use lib.ListN.{length, getD};
-ghost use lib.IntN.{pos};
 ghost use lib.Ieee.{nan};
 ghost use Rattle.text.specs.Text.{Written};
 ghost use Rattle.blocks.specs.Writing as Writing;

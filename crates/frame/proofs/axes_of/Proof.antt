@@ -1,8 +1,6 @@
 -- `axes_of`: field by field.
-use Prim.Native.Nat.{ℕ, _+_, _-_, _*_, _/_, _≤_, _<_}
-use mathlib.Core.Path.{_≡_, refl, sym, ap, _∙_}
-use native.Mathlib.Numerals.{add-one}
-use lib.ListN.{length}
+use Prim.Native.Nat.{_+_, _-_, _*_, _/_}
+use mathlib.Core.Path.{ap, _∙_}
 use Rattle.frame.specs.Bounds as Bounds
 use Rattle.frame.specs.Head as Head
 use native.Mathlib.Omega.{arith}
@@ -72,8 +70,8 @@ returns c =
     let east = c .before .before .before .before .before .before .last2 .ensures in
     let south = c .before .before .before .before .before .before .before .before .before .before .before .before .before .before .last .ensures in
     let north = c .before .before .before .before .before .before .before .before .before .before .before .before .before .first .ensures in
-    let lowest = c .before .before .before .before .before .less4 .ensures .0 ∙ ap Bounds.turned south in
-    let highest = c .before .before .before .before .less5 .ensures .0 ∙ ap Bounds.turned north in
+    let lowest = c .before .before .before .before .before .less4 .ensures .0 ∙ ap Bounds.upsideDown south in
+    let highest = c .before .before .before .before .less5 .ensures .0 ∙ ap Bounds.upsideDown north in
     λ j. record { under = f .low + f .em; beside = beside j; line = 20000000 + f .em / 8; gap = 20000000 + gap j; eastern = f .right + f .em / 8; northern = northern j; west = west j; east = east j; south = south j; north = north j; lowest = lowest j; highest = highest j; foot = f .low + f .em * 7 / 2; bar = 20000000 + f .step; tip = f .left + f .step }
 
 pub axes-of-spec : {M : Type 1} → statement M

@@ -1,10 +1,8 @@
 -- `decade`, the loop's invariant: i times grown.
-use Prim.Native.Nat.{ℕ, _+_, _-_, _*_, _/_, _≤_, _<_}
+use Prim.Native.Nat.{_-_, _≤_, _<_}
 use mathlib.Core.Path.{_≡_, refl, sym, ap, _∙_}
 use native.Mathlib.Numerals.{add-one}
-use lib.ListN.{length}
 use Rattle.frame.specs.Bounds as Bounds
-use Rattle.frame.specs.Head as Head
 use borrow.Author.Needs.{needs}
 use native.Mathlib.Omega.{arith}
 use Rattle.frame.proofs.decade.Statement.{statement}

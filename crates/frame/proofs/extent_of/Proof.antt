@@ -1,10 +1,9 @@
 -- `extent_of`, the loop's invariant: the extent of the first i blocks.
-use Prim.Native.Nat.{ℕ, _+_, _-_, _*_, _/_, _≤_, _<_}
+use Prim.Native.Nat.{_-_, _/_, _≤_, _<_}
 use mathlib.Core.Path.{_≡_, refl, sym, ap, _∙_}
 use native.Mathlib.Numerals.{add-one}
 use lib.ListN.{length}
 use Rattle.frame.specs.Bounds as Bounds
-use Rattle.frame.specs.Head as Head
 use borrow.Author.Needs.{needs}
 use native.Mathlib.Omega.{arith}
 use Rattle.frame.proofs.extent_of.Statement.{statement}
@@ -18,7 +17,7 @@ abbrev μ-loop : tie.MeasureT-loop
 μ-loop job n e₀ i₀ e i = n - i
 
 loop-holds : tie.Need-loop-holds Inv-loop μ-loop
-unfolding Bounds.extentTo Bounds.nothing
+unfolding Bounds.extentTo Bounds.noPoint
 loop-holds c = (search needs, refl, c .before .pre, refl, record { left = omega arith; right = omega arith; bottom = omega arith; top = omega arith })
 
 block-at-requires : tie.Need-block-at-requires Inv-loop μ-loop

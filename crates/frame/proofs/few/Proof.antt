@@ -1,5 +1,4 @@
 use Rattle.frame.proofs.Cases.{least-below, least-above}
-use borrow.Author.Needs.{needs}
 use native.Mathlib.Omega.{arith}
 use Rattle.frame.proofs.few.Statement.{statement}
 use Rattle.frame.proofs.few.Tie as tie

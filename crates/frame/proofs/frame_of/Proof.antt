@@ -1,11 +1,7 @@
 -- `frame_of`: the frame of the box, or of the bare sheet.
-use Prim.Native.Nat.{ℕ, _+_, _-_, _*_, _/_, _≤_, _<_}
-use mathlib.Core.Path.{_≡_, refl, sym, ap, _∙_}
-use native.Mathlib.Numerals.{add-one}
-use lib.ListN.{length}
+use Prim.Native.Nat.{_-_}
+use mathlib.Core.Path.{ap, _∙_}
 use Rattle.frame.specs.Bounds as Bounds
-use Rattle.frame.specs.Head as Head
-use native.Mathlib.Omega.{arith}
 use borrow.Author.Needs.{needs}
 use Rattle.frame.proofs.frame_of.Statement.{statement}
 use Rattle.frame.proofs.frame_of.Tie as tie

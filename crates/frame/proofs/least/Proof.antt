@@ -1,7 +1,5 @@
 use native.Mathlib.Omega.{arith}
-use Rattle.frame.proofs.Cases.{least-below, least-above, most-above, most-below}
-use borrow.Author.Needs.{needs}
-use native.Mathlib.Omega.{arith}
+use Rattle.frame.proofs.Cases.{least-below, least-above}
 use Rattle.frame.proofs.least.Statement.{statement}
 use Rattle.frame.proofs.least.Tie as tie
 

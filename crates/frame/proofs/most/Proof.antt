@@ -1,7 +1,4 @@
-use native.Mathlib.Omega.{arith}
-use Rattle.frame.proofs.Cases.{least-below, least-above, most-above, most-below}
-use borrow.Author.Needs.{needs}
-use native.Mathlib.Omega.{arith}
+use Rattle.frame.proofs.Cases.{most-above, most-below}
 use Rattle.frame.proofs.most.Statement.{statement}
 use Rattle.frame.proofs.most.Tie as tie
 

@@ -1,12 +1,7 @@
 -- `put_axes`: the form filled with the frame and the places of the axes.
 use Rattle.text.specs.Text.{bytes}
-use Prim.Native.Nat.{ℕ, _+_, _-_, _*_, _/_, _≤_, _<_}
-use mathlib.Core.Path.{_≡_, refl, sym, ap, _∙_}
-use native.Mathlib.Numerals.{add-one}
-use lib.ListN.{length}
-use Rattle.frame.specs.Bounds as Bounds
+use Prim.Native.Nat.{_-_}
 use Rattle.frame.specs.Head as Head
-use native.Mathlib.Omega.{arith}
 use borrow.Author.Needs.{needs}
 use Rattle.frame.proofs.put_axes.Statement.{statement}
 use Rattle.frame.proofs.put_axes.Tie as tie

@@ -1,13 +1,11 @@
 -- `put_head`: three texts one after the other, which have room by proofs/Lengths.
-use mathlib.Core.List.{List, _++_}
+use mathlib.Core.List.{_++_}
 use Rattle.svg.proofs.Sums.{room-as, written-as}
-use Rattle.scene.proofs.Chain.{room-second, room-third, three}
+use Rattle.svg.proofs.Chain.{room-second, room-third, three}
 use Rattle.frame.proofs.Lengths.{head-length}
-use Prim.Native.Nat.{ℕ, _+_, _-_, _*_, _/_, _≤_, _<_}
-use mathlib.Core.Path.{_≡_, refl, sym, ap, _∙_}
-use native.Mathlib.Numerals.{add-one}
+use Prim.Native.Nat.{_+_, _-_, _≤_}
+use mathlib.Core.Path.{ap}
 use lib.ListN.{length}
-use Rattle.frame.specs.Bounds as Bounds
 use Rattle.frame.specs.Head as Head
 use native.Mathlib.Omega.{arith}
 use borrow.Author.Needs.{needs}

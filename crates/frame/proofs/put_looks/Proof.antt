@@ -1,7 +1,6 @@
 -- `put_looks`: a form with no mark.
 use Rattle.text.specs.Text.{bytes}
 use Rattle.frame.specs.Head as Head
-use native.Mathlib.Omega.{arith}
 use borrow.Author.Needs.{needs}
 use Rattle.frame.proofs.put_looks.Statement.{statement}
 use Rattle.frame.proofs.put_looks.Tie as tie

@@ -1,7 +1,5 @@
 use mathlib.Core.Path.{refl}
 use Rattle.frame.specs.Bounds as Bounds
-use borrow.Author.Needs.{needs}
-use native.Mathlib.Omega.{arith}
 use Rattle.frame.proofs.stop.Statement.{statement}
 use Rattle.frame.proofs.stop.Tie as tie
 

@@ -1,11 +1,6 @@
 -- `view_of`: field by field.
-use Prim.Native.Nat.{ℕ, _+_, _-_, _*_, _/_, _≤_, _<_}
-use mathlib.Core.Path.{_≡_, refl, sym, ap, _∙_}
-use native.Mathlib.Numerals.{add-one}
-use lib.ListN.{length}
-use Rattle.frame.specs.Bounds as Bounds
+use Prim.Native.Nat.{_+_, _-_, _*_}
 use Rattle.frame.specs.Head as Head
-use native.Mathlib.Omega.{arith}
 use borrow.Author.Needs.{needs}
 use Rattle.frame.proofs.view_of.Statement.{statement}
 use Rattle.frame.proofs.view_of.Tie as tie

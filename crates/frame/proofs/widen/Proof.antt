@@ -1,4 +1,3 @@
-use mathlib.Core.Path.{_≡_}
 use Rattle.frame.specs.Bounds as Bounds
 use native.Mathlib.Omega.{arith}
 use borrow.Author.Needs.{needs}

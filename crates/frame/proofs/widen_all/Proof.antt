@@ -1,7 +1,7 @@
 use native.Mathlib.Numerals.{add-one}
 use mathlib.Core.Path.{sym}
 -- `widen_all`, the loop's invariant: the box with the first i points.
-use Prim.Native.Nat.{ℕ, _-_, _≤_}
+use Prim.Native.Nat.{_-_, _≤_}
 use mathlib.Core.Path.{_≡_, refl, ap, _∙_}
 use Rattle.frame.specs.Bounds as Bounds
 use borrow.Author.Needs.{needs}

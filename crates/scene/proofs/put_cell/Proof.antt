@@ -1,7 +1,6 @@
 -- `put_cell`: the form filled with the four places.
 use Rattle.text.specs.Text.{bytes}
 use Rattle.scene.specs.Scene as Scene
-use native.Mathlib.Omega.{arith}
 use borrow.Author.Needs.{needs}
 use Rattle.scene.proofs.put_cell.Statement.{statement}
 use Rattle.scene.proofs.put_cell.Tie as tie

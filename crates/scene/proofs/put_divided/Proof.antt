@@ -1,13 +1,13 @@
 -- `put_divided`: five texts one after the other, which have room by proofs/Lengths.
-use Prim.Native.Nat.{ℕ, _+_, _/_, _≤_}
+use Prim.Native.Nat.{_+_, _/_, _≤_}
 use mathlib.Core.Path.{_∙_}
-use mathlib.Core.List.{List, [], _∷_, _++_}
+use mathlib.Core.List.{[], _∷_, _++_}
 use lib.ListN.{length}
 use Rattle.text.specs.Text.{bytes}
 use Rattle.svg.specs.Form.{formed}
 use Rattle.scene.specs.Scene as Scene
 use Rattle.scene.proofs.Lengths.{divided-length}
-use Rattle.scene.proofs.Chain.{room-first, room-second, room-third, both, three, front-three}
+use Rattle.svg.proofs.Chain.{room-first, room-second, room-third, three, front-three}
 use native.Mathlib.Omega.{arith}
 use borrow.Author.Needs.{needs}
 use Rattle.scene.proofs.put_divided.Statement.{statement}

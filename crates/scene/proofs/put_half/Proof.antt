@@ -1,11 +1,7 @@
 -- `put_half`: the form of a cut, or of a ring's edge, filled with the two places.
-use mathlib.Core.Path.{_≡_, sym, refl}
-use borrow.Author.Tests.{eq-eqb, ne-eqb}
 use Rattle.text.specs.Text.{bytes}
 use Rattle.svg.proofs.Sums.{room-as, written-as}
-use Rattle.scene.specs.Scene as Scene
 use Rattle.scene.proofs.Lengths.{half-cut, half-rim}
-use native.Mathlib.Omega.{arith}
 use borrow.Author.Needs.{needs}
 use Rattle.scene.proofs.put_half.Statement.{statement}
 use Rattle.scene.proofs.put_half.Tie as tie

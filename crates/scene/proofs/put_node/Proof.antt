@@ -1,7 +1,6 @@
 -- `put_node`: the node's place and mark, looked up.
 use Rattle.svg.proofs.Sums.{written-as}
 use Rattle.scene.specs.Scene as Scene
-use native.Mathlib.Omega.{arith}
 use borrow.Author.Needs.{needs}
 use Rattle.scene.proofs.put_node.Statement.{statement}
 use Rattle.scene.proofs.put_node.Tie as tie

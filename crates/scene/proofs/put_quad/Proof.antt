@@ -3,8 +3,6 @@ use mathlib.Core.List.{_++_}
 use mathlib.Core.Path.{_∙_}
 use Rattle.text.proofs.Writing.{join, room, shorter}
 use Rattle.scene.specs.Scene as Scene
-use native.Mathlib.Omega.{arith}
-use borrow.Author.Needs.{needs}
 use Rattle.scene.proofs.put_quad.Statement.{statement}
 use Rattle.scene.proofs.put_quad.Tie as tie
 

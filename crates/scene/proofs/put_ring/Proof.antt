@@ -1,7 +1,6 @@
 -- `put_ring`: divided, or refused.
 use Rattle.svg.proofs.Sums.{written-as}
 use Rattle.scene.proofs.Lengths.{ring-divided, ring-refused}
-use native.Mathlib.Omega.{arith}
 use borrow.Author.Needs.{needs}
 use Rattle.scene.proofs.put_ring.Statement.{statement}
 use Rattle.scene.proofs.put_ring.Tie as tie

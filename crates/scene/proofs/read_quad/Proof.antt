@@ -3,7 +3,6 @@ use Prim.Native.Nat.{ℕ}
 -- `read_quad`: each field is the place of a listed node, or its mark.
 use mathlib.Core.Path.{_∙_, ap}
 use Rattle.scene.specs.Scene as Scene
-use native.Mathlib.Omega.{arith}
 use borrow.Author.Needs.{needs}
 use Rattle.scene.proofs.read_quad.Statement.{statement}
 use Rattle.scene.proofs.read_quad.Tie as tie

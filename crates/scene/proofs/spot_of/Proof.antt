@@ -1,5 +1,4 @@
 use Rattle.scene.specs.Scene as Scene
-use native.Mathlib.Omega.{arith}
 use borrow.Author.Needs.{needs}
 use Rattle.scene.proofs.spot_of.Statement.{statement}
 use Rattle.scene.proofs.spot_of.Tie as tie

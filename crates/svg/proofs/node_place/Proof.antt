@@ -1,5 +1,4 @@
 use Rattle.svg.proofs.Places.{past-node}
-use native.Mathlib.Omega.{arith}
 use borrow.Author.Needs.{needs}
 use Rattle.svg.proofs.node_place.Statement.{statement}
 use Rattle.svg.proofs.node_place.Tie as tie

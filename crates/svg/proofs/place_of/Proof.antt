@@ -1,6 +1,6 @@
 use borrow.Author.Tests.{not-true, not-false}
 -- `place_of`: the cases of the definition, laws in proofs/Places.
-use mathlib.Core.Path.{_≡_, sym, ap, _∙_}
+use mathlib.Core.Path.{sym, ap, _∙_}
 use Prim.Native.Nat.{ℕ, _+_, _-_}
 use native.Mathlib.Omega.{arith}
 use borrow.Author.Needs.{needs}

@@ -4,7 +4,6 @@ use Rattle.blocks.specs.Writing.{bits}
 use mathlib.Core.Path.{ap, _∙_}
 use Rattle.svg.specs.Place.{unitPlace, pointPlace}
 use Rattle.svg.proofs.Places.{past-point}
-use native.Mathlib.Omega.{arith}
 use borrow.Author.Needs.{needs}
 use Rattle.svg.proofs.point_place.Statement.{statement}
 use Rattle.svg.proofs.point_place.Tie as tie

@@ -2,7 +2,6 @@
 use Rattle.svg.proofs.Forms.{exact-below, exact-above}
 use Rattle.svg.proofs.Sums.{room-as, written-as}
 use mathlib.Core.Path.{sym}
-use native.Mathlib.Omega.{arith}
 use borrow.Author.Needs.{needs}
 use Rattle.svg.proofs.put_exact.Statement.{statement}
 use Rattle.svg.proofs.put_exact.Tie as tie

@@ -1,7 +1,6 @@
 -- `put_part`: a mark of the form is a number, a place or a plain place, and any other byte is itself.
-use Prim.Native.Nat.{ℕ, _-_}
-use mathlib.Core.Path.{sym, ap}
-use lib.ListN.{length}
+use Prim.Native.Nat.{_-_}
+use mathlib.Core.Path.{sym}
 use Rattle.svg.proofs.Forms.{part-number, part-exact, part-plain, part-byte}
 use Rattle.svg.proofs.Sums.{room-as, written-as}
 use native.Mathlib.Omega.{arith}

@@ -1,7 +1,7 @@
 -- `put_plain`: the exact place where it is not whole; a minus and the number below the origin, and the number alone from it on.
-use Prim.Native.Nat.{ℕ, _-_, _/_}
+use Prim.Native.Nat.{_-_, _/_}
 use mathlib.Core.Path.{sym, _∙_}
-use mathlib.Core.List.{List, [], _∷_}
+use mathlib.Core.List.{[], _∷_}
 use Rattle.text.specs.Text.{decimal}
 use Rattle.text.proofs.Writing.{join, room, shorter}
 use Rattle.svg.specs.Place.{origin}
