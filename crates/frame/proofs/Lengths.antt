@@ -13,11 +13,14 @@ use Rattle.frame.specs.Head.{boxText, looks, axesText, headText, endedTe
 
 pub box-length : (v : View) → length (boxText v) ≤ 298
 unfolding boxText bytes marks takes
-box-length v = length-formed (bytes "<svg xmlns='http://www.w3.org/2000/svg' width='@mm' height='@mm' viewBox='@ @ @ @' font-size='@' font-family='sans-serif'>\n") (v .wide ∷ v .tall ∷ v .x ∷ v .y ∷ v .wide ∷ v .tall ∷ v .letters ∷ [])
+box-length v =
+    length-formed (bytes "<svg xmlns='http://www.w3.org/2000/svg' width='@mm' height='@mm' viewBox='@ @ @ @' font-size='@' font-family='sans-serif'>\n")
+    (v .wide ∷ v .tall ∷ v .x ∷ v .y ∷ v .wide ∷ v .tall ∷ v .letters ∷ [])
 
 looks-length : length looks ≤ 709
 unfolding looks bytes marks takes
-looks-length = length-formed (bytes "<style>path{fill:none}.outline{fill:aliceblue}.cell{fill:none;stroke:lightsteelblue;stroke-width:.07em}.rim{stroke:darkslategray;stroke-width:.15em;stroke-linecap:round}.cut{stroke:firebrick;stroke-width:.13em;stroke-dasharray:.45em .3em}.refused polygon{fill:gainsboro;fill-opacity:.6;stroke:gray;stroke-width:.1em}.refused text{fill:dimgray;font-size:1.5em;text-anchor:middle}.node circle{fill:darkslategray}.inside circle{fill:steelblue}.node text,.inside text{font-size:.8em;fill:black;stroke:white;stroke-width:.2em;paint-order:stroke}.inside text{fill:steelblue}.axis{stroke:gray;stroke-width:.06em}.tick{stroke:gray;stroke-width:.6em}.bar{stroke:black;stroke-width:.25em}.ended{fill:firebrick}</style>\n") []
+looks-length =
+    length-formed (bytes "<style>path{fill:none}.outline{fill:aliceblue}.cell{fill:none;stroke:lightsteelblue;stroke-width:.07em}.rim{stroke:darkslategray;stroke-width:.15em;stroke-linecap:round}.cut{stroke:firebrick;stroke-width:.13em;stroke-dasharray:.45em .3em}.refused polygon{fill:gainsboro;fill-opacity:.6;stroke:gray;stroke-width:.1em}.refused text{fill:dimgray;font-size:1.5em;text-anchor:middle}.node circle{fill:darkslategray}.inside circle{fill:steelblue}.node text,.inside text{font-size:.8em;fill:black;stroke:white;stroke-width:.2em;paint-order:stroke}.inside text{fill:steelblue}.axis{stroke:gray;stroke-width:.06em}.tick{stroke:gray;stroke-width:.6em}.bar{stroke:black;stroke-width:.25em}.ended{fill:firebrick}</style>\n") []
 
 axes-length : (f : Frame) (a : Axes) → length (axesText f a) ≤ 1356
 unfolding axesText bytes marks takes
@@ -32,7 +35,8 @@ axes-length f a =
 
 pub ended-length : (f : Frame) (block code : ℕ) → length (endedText f block code) ≤ 189
 unfolding endedText bytes marks takes
-ended-length f block code = length-formed (bytes "<text class='ended' transform='matrix(1 0 0 -1 @ @)' dy='4.8em'>block # refused #</text>\n") (f .left ∷ f .bottom ∷ block ∷ code ∷ [])
+ended-length f block code =
+    length-formed (bytes "<text class='ended' transform='matrix(1 0 0 -1 @ @)' dy='4.8em'>block # refused #</text>\n") (f .left ∷ f .bottom ∷ block ∷ code ∷ [])
 
 pub foot-length : length footText ≤ 12
 unfolding footText bytes marks takes

@@ -16,7 +16,8 @@ use Rattle.svg.specs.Form.{formed, marks, takes}
 use Rattle.svg.proofs.Forms.{length-formed}
 use Rattle.scene.specs.declared.Spot.{Spot}
 use Rattle.scene.specs.declared.Quad.{Quad}
-use Rattle.scene.specs.Scene.{cellText, halfText, quadOf, quadText, quadsText, placed, pointsText, dividedText, halfway, refusedText, ringText, dotText, mostRing, mostNode}
+use Rattle.scene.specs.Scene.{cellText, halfText, quadOf, quadText, quadsText, placed, pointsText, dividedText}
+use Rattle.scene.specs.Scene.{halfway, refusedText, ringText, dotText, mostRing, mostNode}
 
 -- ---- by the mark
 module _ (mark : ℕ) (a b : Spot) where
@@ -47,7 +48,12 @@ quad-length : (q : Quad) → length (quadText q) ≤ 515
 unfolding quadText
 quad-length q =
     rw (length-append, length-append)
-    (omega (arith, cell-length (q .centre) (q .ahead) (q .corner) (q .behind), half-length (q .first) (q .corner) (q .ahead), half-length (q .second) (q .corner) (q .behind)))
+    (omega (
+      arith,
+      cell-length (q .centre) (q .ahead) (q .corner) (q .behind),
+      half-length (q .first) (q .corner) (q .ahead),
+      half-length (q .second) (q .corner) (q .behind),
+    ))
 
 quads-length : (l : List Float) (rs cs : List ℕ) (n : ℕ) → length (quadsText l rs cs n) ≤ 515 * n
 unfolding quadsText
@@ -64,24 +70,36 @@ points-length ps zero = omega arith
 points-length ps (suc n) = rw length-append (omega (arith, points-length ps n, placed-length (pointPlace ps (n * 2)) (pointPlace ps (n * 2 + 1))))
 
 module _ (mark : ℕ) (p : Spot) (n : ℕ) where
-  pub dot-inside : mark ≡ 0 → formed (bytes "<g class='inside' transform='matrix(1 0 0 -1 @ @)'><circle r='.22em'/><text x='.3em' y='-.3em'>#</text></g>\n") (p .x ∷ p .y ∷ n ∷ []) ≡ dotText mark p n
+  abbrev insideDot : List ℕ
+  insideDot =
+      formed (bytes "<g class='inside' transform='matrix(1 0 0 -1 @ @)'><circle r='.22em'/><text x='.3em' y='-.3em'>#</text></g>\n")
+      (p .x ∷ p .y ∷ n ∷ [])
+
+  pub dot-inside : mark ≡ 0 → insideDot ≡ dotText mark p n
   unfolding dotText
   dot-inside h = rw (eq-eqb mark 0 h)
 
-  pub dot-rim : (mark ≡ 0 → ⊥) → formed (bytes "<g class='node' transform='matrix(1 0 0 -1 @ @)'><circle r='.22em'/><text x='.3em' y='-.3em'>#</text></g>\n") (p .x ∷ p .y ∷ n ∷ []) ≡ dotText mark p n
+  abbrev rimDot : List ℕ
+  rimDot =
+      formed (bytes "<g class='node' transform='matrix(1 0 0 -1 @ @)'><circle r='.22em'/><text x='.3em' y='-.3em'>#</text></g>\n")
+      (p .x ∷ p .y ∷ n ∷ [])
+
+  pub dot-rim : (mark ≡ 0 → ⊥) → rimDot ≡ dotText mark p n
   unfolding dotText
   dot-rim h = rw (ne-eqb mark 0 h)
 
-  pub inside-length : length (formed (bytes "<g class='inside' transform='matrix(1 0 0 -1 @ @)'><circle r='.22em'/><text x='.3em' y='-.3em'>#</text></g>\n") (p .x ∷ p .y ∷ n ∷ [])) ≤ mostNode
+  pub inside-length : length insideDot ≤ mostNode
   unfolding bytes marks takes
   inside-length =
-      let h = length-formed (bytes "<g class='inside' transform='matrix(1 0 0 -1 @ @)'><circle r='.22em'/><text x='.3em' y='-.3em'>#</text></g>\n") (p .x ∷ p .y ∷ n ∷ []) in
+      let h = length-formed (bytes "<g class='inside' transform='matrix(1 0 0 -1 @ @)'><circle r='.22em'/><text x='.3em' y='-.3em'>#</text></g>\n")
+      (p .x ∷ p .y ∷ n ∷ []) in
       omega (arith, h)
 
-  pub rim-length : length (formed (bytes "<g class='node' transform='matrix(1 0 0 -1 @ @)'><circle r='.22em'/><text x='.3em' y='-.3em'>#</text></g>\n") (p .x ∷ p .y ∷ n ∷ [])) ≤ mostNode
+  pub rim-length : length rimDot ≤ mostNode
   unfolding bytes marks takes
   rim-length =
-      let h = length-formed (bytes "<g class='node' transform='matrix(1 0 0 -1 @ @)'><circle r='.22em'/><text x='.3em' y='-.3em'>#</text></g>\n") (p .x ∷ p .y ∷ n ∷ []) in
+      let h = length-formed (bytes "<g class='node' transform='matrix(1 0 0 -1 @ @)'><circle r='.22em'/><text x='.3em' y='-.3em'>#</text></g>\n")
+      (p .x ∷ p .y ∷ n ∷ []) in
       omega (arith, h)
 
 -- ---- a ring

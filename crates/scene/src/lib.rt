@@ -128,7 +128,8 @@ fn put_quad(out: &mut [u8], at: usize, q: Quad) -> usize
 
 fn put_quads(out: &mut [u8], at: usize, nodes: &[f64], rims: &[u8], cells: &[NodeNumber]) -> usize
     requires { ⌜ (length (now cells) ≤ 496) × (at + length (Scene.quadsText (now nodes) (now rims) (now cells) (length (now cells) / 4)) ≤ length (now out)) ⌝ }
-    ensures { λ r. ⌜ Written (now (out .entry)) at (Scene.quadsText (now (nodes .entry)) (now (rims .entry)) (now (cells .entry)) (length (now (cells .entry)) / 4)) r (now (out .exit)) ⌝ }
+    ensures { λ r. ⌜ Written (now (out .entry)) at
+        (Scene.quadsText (now (nodes .entry)) (now (rims .entry)) (now (cells .entry)) (length (now (cells .entry)) / 4)) r (now (out .exit)) ⌝ }
 {
     let n = cells.len() / 4;
     let mut next = at;
@@ -172,7 +173,8 @@ fn put_divided(
     cells: &[NodeNumber],
 ) -> usize
     requires { ⌜ (count ≤ 60) × (length (now cells) ≤ 496) × (Scene.mostRing ≤ length (now out)) ⌝ }
-    ensures { λ r. ⌜ Written (now (out .entry)) 0 (Scene.dividedText ring v (now (points .entry)) count (now (nodes .entry)) (now (rims .entry)) (now (cells .entry))) r (now (out .exit)) ⌝ }
+    ensures { λ r. ⌜ Written (now (out .entry)) 0
+        (Scene.dividedText ring v (now (points .entry)) count (now (nodes .entry)) (now (rims .entry)) (now (cells .entry))) r (now (out .exit)) ⌝ }
 {
     let numbers = [ring, v.corners, v.cuts];
     let none = [0u64; 0];
@@ -230,7 +232,8 @@ pub fn put_ring(
     cells: &[NodeNumber],
 ) -> usize
     requires { ⌜ (count ≤ 60) × (length (now cells) ≤ 496) × (Scene.mostRing ≤ length (now out)) ⌝ }
-    ensures { λ r. ⌜ Written (now (out .entry)) 0 (Scene.ringText ring v (now (points .entry)) count (now (nodes .entry)) (now (rims .entry)) (now (cells .entry))) r (now (out .exit)) ⌝ }
+    ensures { λ r. ⌜ Written (now (out .entry)) 0
+        (Scene.ringText ring v (now (points .entry)) count (now (nodes .entry)) (now (rims .entry)) (now (cells .entry))) r (now (out .exit)) ⌝ }
 {
     if v.code == 0 {
         return put_divided(out, ring, v, points, count, nodes, rims, cells);

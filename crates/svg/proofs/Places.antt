@@ -11,14 +11,13 @@ use lib.IntN.{ℤ, pos}
 use lib.Ieee.{Float, nan, inf, fin, up, down, le}
 use lib.Ieee.Fits.{down-pos}
 use borrow.Author.Tests.{lt-ltb, le-ltb, ltb-true}
-use Rattle.nodes.proofs.Ranged.{held-is}
+use Rattle.nodes.proofs.Ranged.{held-is, held-within}
 use Rattle.laws.specs.Within.{Within}
 use Rattle.nodes.specs.Flat.{held}
 use Rattle.blocks.specs.Writing.{bits}
 use Rattle.listing.specs.Rounded.{halfEven, tenThousandths, negative, minus}
 use Rattle.listing.specs.Sheet.{decimals, shown}
 use Rattle.listing.proofs.Rounding.{half-le}
-use Rattle.nodes.proofs.Ranged.{held-within}
 use Rattle.svg.specs.Place.{origin, placeOf, rounded, unitPlace, pointPlace}
 use Rattle.svg.specs.Form.{exact}
 use Rattle.svg.proofs.Forms.{exact-below, exact-above}

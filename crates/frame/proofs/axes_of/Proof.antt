@@ -57,22 +57,42 @@ add-t19 : tie.Need-add-t19
 add-t19 c = omega (arith, c .before .before .before .before .before .before .before .before .before .before .before .before .before .before .before .pre .step)
 
 add-t20 : tie.Need-add-t20
-add-t20 c = omega (arith, c .before .before .before .before .before .before .before .before .before .before .before .before .before .before .before .before .pre .step, c .before .before .before .before .before .before .before .before .before .before .before .before .before .before .before .before .pre .left)
+add-t20 c =
+    let c₁₆ = c .before .before .before .before .before .before .before .before .before .before .before .before .before .before .before .before in
+    omega (arith, c₁₆ .pre .step, c₁₆ .pre .left)
 
 returns : tie.Need-returns
 unfolding Head.axesOf
 returns c =
-    let f = c .before .before .before .before .before .before .before .before .before .before .before .before .before .before .before .before .args .f in
-    let beside = c .before .before .before .before .before .before .before .before .before .before .before .less .ensures .0 in
-    let gap = c .before .before .before .before .before .before .before .before .before .before .less2 .ensures .0 in
-    let northern = c .before .before .before .before .before .before .before .before .less3 .ensures .0 in
+    let c₈ = c .before .before .before .before .before .before .before .before in
+    let c₁₆ = c₈ .before .before .before .before .before .before .before .before in
+    let f = c₁₆ .args .f in
+    let beside = c₈ .before .before .before .less .ensures .0 in
+    let gap = c₈ .before .before .less2 .ensures .0 in
+    let northern = c₈ .less3 .ensures .0 in
     let west = c .before .before .before .before .before .before .before .first2 .ensures in
     let east = c .before .before .before .before .before .before .last2 .ensures in
-    let south = c .before .before .before .before .before .before .before .before .before .before .before .before .before .before .last .ensures in
-    let north = c .before .before .before .before .before .before .before .before .before .before .before .before .before .first .ensures in
+    let south = c₈ .before .before .before .before .before .before .last .ensures in
+    let north = c₈ .before .before .before .before .before .first .ensures in
     let lowest = c .before .before .before .before .before .less4 .ensures .0 ∙ ap Bounds.upsideDown south in
     let highest = c .before .before .before .before .less5 .ensures .0 ∙ ap Bounds.upsideDown north in
-    λ j. record { under = f .low + f .em; beside = beside j; line = 20000000 + f .em / 8; gap = 20000000 + gap j; eastern = f .right + f .em / 8; northern = northern j; west = west j; east = east j; south = south j; north = north j; lowest = lowest j; highest = highest j; foot = f .low + f .em * 7 / 2; bar = 20000000 + f .step; tip = f .left + f .step }
+    λ j. record {
+      under = f .low + f .em;
+      beside = beside j;
+      line = 20000000 + f .em / 8;
+      gap = 20000000 + gap j;
+      eastern = f .right + f .em / 8;
+      northern = northern j;
+      west = west j;
+      east = east j;
+      south = south j;
+      north = north j;
+      lowest = lowest j;
+      highest = highest j;
+      foot = f .low + f .em * 7 / 2;
+      bar = 20000000 + f .step;
+      tip = f .left + f .step;
+    }
 
 pub axes-of-spec : {M : Type 1} → statement M
 axes-of-spec =

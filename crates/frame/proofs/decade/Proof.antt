@@ -33,8 +33,13 @@ unfolding Bounds.decadeTo
 loop-again c =
     let l = c .before .before .loop in
     let e = l .inv .2 in
-    let size = c .before .before .before .args .size in
-    (search needs, l .inv .1, c .grow .ensures .0 ∙ (λ j. Bounds.grown (e j) size) ∙ sym (ap (Bounds.decadeTo size) (add-one (l .i))), c .grow .ensures .1, c .grow .ensures .2)
+    let size = c .before .before .before .args .size in (
+      search needs,
+      l .inv .1,
+      c .grow .ensures .0 ∙ (λ j. Bounds.grown (e j) size) ∙ sym (ap (Bounds.decadeTo size) (add-one (l .i))),
+      c .grow .ensures .1,
+      c .grow .ensures .2,
+    )
 
 returns : tie.Need-returns Inv-loop μ-loop
 returns c =

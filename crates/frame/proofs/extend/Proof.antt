@@ -16,8 +16,11 @@ meet-requires c κs = search needs
 returns : tie.Need-returns
 returns c =
     let s = c .before .before .before .before .before .before .before in
-    let q = c .before .before .before .before .read-block .ensures in
-    (c .meet .ensures .0 ∙ (λ j. Bounds.met (s .args .e) (q j .points) (q j .block)) ∙ extended-goes (s .args .e) (s .args .bytes .now) (s .args .number) (c .before .before .before .before .before .if1 .taken), c .meet .ensures .1)
+    let q = c .before .before .before .before .read-block .ensures in (
+      c .meet .ensures .0 ∙ (λ j. Bounds.met (s .args .e) (q j .points) (q j .block)) ∙ extended-goes (s .args .e) (s .args .bytes .now) (s .args .number)
+          (c .before .before .before .before .before .if1 .taken),
+      c .meet .ensures .1,
+    )
 
 returns-2 : tie.Need-returns-2
 returns-2 c = let s = c .before .before in (extended-stays (s .args .e) (s .args .bytes .now) (s .args .number) (c .if1 .left), s .pre)

@@ -41,8 +41,14 @@ loop-again c =
     let s = c .before .before .before .before .before .args in
     let l = c .before .before .before .loop in
     let e = l .inv .3 in
-    let b = c .before .block-at .ensures in
-    (omega arith, refl, l .inv .2, c .extend .ensures .0 ∙ (λ j. Bounds.extended (e j) (b j) (l .i)) ∙ sym (ap (Bounds.extentTo (s .job .now)) (add-one (l .i))), c .extend .ensures .1)
+    let b = c .before .block-at .ensures in (
+      omega arith,
+      refl,
+      l .inv .2,
+      c .extend .ensures .0 ∙ (λ j. Bounds.extended (e j) (b j) (l .i)) ∙ sym
+          (ap (Bounds.extentTo (s .job .now)) (add-one (l .i))),
+      c .extend .ensures .1,
+    )
 
 returns : tie.Need-returns Inv-loop μ-loop
 unfolding Bounds.extentOf

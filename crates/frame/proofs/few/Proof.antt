@@ -1,3 +1,4 @@
+-- `few`: 60 points at most.
 use Rattle.frame.proofs.Cases.{least-below, least-above}
 use native.Mathlib.Omega.{arith}
 use Rattle.frame.proofs.few.Statement.{statement}

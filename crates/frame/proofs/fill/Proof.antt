@@ -1,3 +1,4 @@
+-- `fill`: the bare sheet where the box is empty.
 use mathlib.Core.Path.{refl}
 use borrow.Author.Tests.{lt-ltb, le-ltb}
 use Rattle.frame.specs.Bounds as Bounds
@@ -14,7 +15,10 @@ add-t4 c = search needs
 
 returns : tie.Need-returns
 unfolding Bounds.orBareSheet
-returns c = (rw (lt-ltb (c .before .before .args .e .right) (c .before .before .args .e .left) (c .if1 .taken)) refl, record { left = omega arith; right = omega arith; bottom = omega arith; top = omega arith })
+returns c = (
+  rw (lt-ltb (c .before .before .args .e .right) (c .before .before .args .e .left) (c .if1 .taken)) refl,
+  record { left = omega arith; right = omega arith; bottom = omega arith; top = omega arith },
+)
 
 returns-2 : tie.Need-returns-2
 unfolding Bounds.orBareSheet

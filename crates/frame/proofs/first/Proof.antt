@@ -1,3 +1,4 @@
+-- `first`: nothing overflows.
 use Prim.Native.Nat.{_+_, _-_}
 use native.Mathlib.Nat.{div-mul-le-self}
 use Rattle.frame.specs.Head as Head

@@ -1,3 +1,4 @@
+-- `grow`: ten times as much while that is small beside the size.
 use Rattle.frame.proofs.Cases.{grown-stays, grown-more}
 use native.Mathlib.Omega.{arith}
 use borrow.Author.Needs.{needs}
@@ -14,7 +15,8 @@ mul-result : tie.Need-mul-result
 mul-result c = search needs
 
 returns-2 : tie.Need-returns-2
-returns-2 c = (grown-more (c .before .args .d) (c .before .args .size) (c .if1 .left), omega (arith, c .before .pre .0), omega (arith, c .before .pre .2, c .if1 .left))
+returns-2 c =
+    (grown-more (c .before .args .d) (c .before .args .size) (c .if1 .left), omega (arith, c .before .pre .0), omega (arith, c .before .pre .2, c .if1 .left))
 
 pub grow-spec : {M : Type 1} → statement M
 grow-spec = tie.close (tie.spec mul-if1 returns mul-result returns-2)

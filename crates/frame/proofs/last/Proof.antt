@@ -1,3 +1,4 @@
+-- `last`: nothing overflows.
 use native.Mathlib.Nat.{div-mul-le-self}
 use Rattle.frame.specs.Head as Head
 use mathlib.Core.Path.{refl}

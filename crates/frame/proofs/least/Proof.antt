@@ -1,3 +1,4 @@
+-- `least`: the one or the other.
 use native.Mathlib.Omega.{arith}
 use Rattle.frame.proofs.Cases.{least-below, least-above}
 use Rattle.frame.proofs.least.Statement.{statement}

@@ -33,16 +33,24 @@ stop-requires c κs = search needs
 
 returns : tie.Need-returns
 returns c =
-    let a = c .before .before .before .before .before .args in
-    (c .widen-all .ensures .0 ∙ ap (Bounds.widened (a .e) (a .points .now)) (c .before .few .ensures .0) ∙ met-ring (a .e) (a .points .now) (a .block) _ _ (c .before .before .before .block .given .1), c .widen-all .ensures .1)
+    let a = c .before .before .before .before .before .args in (
+      c .widen-all .ensures .0 ∙ ap (Bounds.widened (a .e) (a .points .now)) (c .before .few .ensures .0) ∙ met-ring (a .e) (a .points .now) (a .block) _ _
+          (c .before .before .before .block .given .1),
+      c .widen-all .ensures .1,
+    )
 
 returns-2 : tie.Need-returns-2
 returns-2 c =
-    let a = c .before .before .before .before .before .args in
-    (c .widen-all2 .ensures .0 ∙ ap (Bounds.widened (a .e) (a .points .now)) (c .before .few2 .ensures .0) ∙ met-chain (a .e) (a .points .now) (a .block) _ (c .before .before .before .block2 .given .1), c .widen-all2 .ensures .1)
+    let a = c .before .before .before .before .before .args in (
+      c .widen-all2 .ensures .0 ∙ ap (Bounds.widened (a .e) (a .points .now)) (c .before .few2 .ensures .0) ∙ met-chain (a .e) (a .points .now) (a .block) _
+          (c .before .before .before .block2 .given .1),
+      c .widen-all2 .ensures .1,
+    )
 
 returns-3 : tie.Need-returns-3
-returns-3 c = let a = c .before .before .before .before .args in (c .stop .ensures .0 ∙ met-end (a .e) (a .points .now) (a .block) _ _ (c .before .before .block3 .given .1), c .stop .ensures .1)
+returns-3 c =
+    let a = c .before .before .before .before .args in
+    (c .stop .ensures .0 ∙ met-end (a .e) (a .points .now) (a .block) _ _ (c .before .before .block3 .given .1), c .stop .ensures .1)
 
 pub meet-spec : {M : Type 1} → statement M
 meet-spec =

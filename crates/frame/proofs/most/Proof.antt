@@ -1,3 +1,4 @@
+-- `most`: the one or the other.
 use Rattle.frame.proofs.Cases.{most-above, most-below}
 use Rattle.frame.proofs.most.Statement.{statement}
 use Rattle.frame.proofs.most.Tie as tie

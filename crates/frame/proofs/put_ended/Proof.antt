@@ -15,7 +15,13 @@ slice-aggregate-put-form-2 c = search needs
 
 put-form-requires : tie.Need-put-form-requires
 unfolding Head.endedText bytes
-put-form-requires c κs = omega (arith, c .before .before .before .before .pre, ended-length (c .before .before .before .before .args .f) (c .before .before .before .before .args .block) (c .before .before .before .before .args .code))
+put-form-requires c κs =
+    omega (
+      arith,
+      c .before .before .before .before .pre,
+      ended-length (c .before .before .before .before .args .f)
+          (c .before .before .before .before .args .block) (c .before .before .before .before .args .code),
+    )
 
 same-length : tie.Need-same-length
 same-length c = search needs

@@ -27,7 +27,8 @@ put-looks-requires c κs =
     let a = Head.boxText (Head.viewOf f) in
     let d = Head.axesText f (Head.axesOf f) in
     let h : 0 + length (a ++ Head.looks ++ d) ≤ length out = omega (arith, s .pre .1, head-length f) in
-    room-second out 0 a Head.looks d h (written-as (ap Head.boxText (c .before .before .before .before .view-of .ensures)) (c .before .before .before .put-box .ensures))
+    room-second out 0 a Head.looks d h
+    (written-as (ap Head.boxText (c .before .before .before .before .view-of .ensures)) (c .before .before .before .put-box .ensures))
 
 axes-of-requires : tie.Need-axes-of-requires
 axes-of-requires c κs = search needs
@@ -35,14 +36,16 @@ axes-of-requires c κs = search needs
 put-axes-requires : tie.Need-put-axes-requires
 unfolding Head.headText
 put-axes-requires c κs =
-    let s = c .before .before .before .before .before .before .before .before .before .before .before .before in
+    let c₈ = c .before .before .before .before .before .before .before .before in
+    let s = c₈ .before .before .before .before in
     let f = s .args .f in
     let out = s .args .out .now in
     let a = Head.boxText (Head.viewOf f) in
     let d = Head.axesText f (Head.axesOf f) in
     let h : 0 + length (a ++ Head.looks ++ d) ≤ length out = omega (arith, s .pre .1, head-length f) in
     room-as (ap (Head.axesText f) (c .axes-of .ensures)) (c .before .before .before .before .put-looks .result) _
-    (room-third out 0 a Head.looks d h (written-as (ap Head.boxText (c .before .before .before .before .before .before .before .before .before .view-of .ensures)) (c .before .before .before .before .before .before .before .before .put-box .ensures)) (c .before .before .before .before .put-looks .ensures))
+    (room-third out 0 a Head.looks d h (written-as (ap Head.boxText (c₈ .before .view-of .ensures)) (c₈ .put-box .ensures))
+    (c .before .before .before .before .put-looks .ensures))
 
 same-length : tie.Need-same-length
 same-length c = search needs
@@ -50,13 +53,17 @@ same-length c = search needs
 returns : tie.Need-returns
 unfolding Head.headText
 returns c =
-    let s = c .before .before .before .before .before .before .before .before .before .before .before .before .before .before .before in
+    let c₈ = c .before .before .before .before .before .before .before .before in
+    let s = c₈ .before .before .before .before .before .before .before in
     let f = s .args .f in
     let out = s .args .out .now in
     let a = Head.boxText (Head.viewOf f) in
     let d = Head.axesText f (Head.axesOf f) in
     let h : 0 + length (a ++ Head.looks ++ d) ≤ length out = omega (arith, s .pre .1, head-length f) in
-    let w = three out 0 a Head.looks d h (written-as (ap Head.boxText (c .before .before .before .before .before .before .before .before .before .before .before .before .view-of .ensures)) (c .before .before .before .before .before .before .before .before .before .before .before .put-box .ensures)) (c .before .before .before .before .before .before .before .put-looks .ensures) (written-as (ap (Head.axesText f) (c .before .before .before .axes-of .ensures)) (c .before .before .put-axes .ensures)) in
+    let w = three out 0 a Head.looks d h
+    (written-as (ap Head.boxText (c₈ .before .before .before .before .view-of .ensures)) (c₈ .before .before .before .put-box .ensures))
+    (c .before .before .before .before .before .before .before .put-looks .ensures)
+    (written-as (ap (Head.axesText f) (c .before .before .before .axes-of .ensures)) (c .before .before .put-axes .ensures)) in
     (w, omega (arith, w .place, head-length f))
 
 pub put-head-spec : {M : Type 1} → statement M

@@ -13,7 +13,9 @@ mul-if1 : tie.Need-mul-if1
 mul-if1 c = search needs
 
 returns : tie.Need-returns
-returns c = let d = c .before .decade in (step-one (c .before .before .args .size) (d .result) (d .ensures .0) (c .if1 .taken), d .ensures .1, omega (arith, d .ensures .2))
+returns c =
+    let d = c .before .decade in
+    (step-one (c .before .before .args .size) (d .result) (d .ensures .0) (c .if1 .taken), d .ensures .1, omega (arith, d .ensures .2))
 
 mul-if2 : tie.Need-mul-if2
 mul-if2 c = search needs
@@ -22,13 +24,23 @@ mul-result : tie.Need-mul-result
 mul-result c = search needs
 
 returns-2 : tie.Need-returns-2
-returns-2 c = let d = c .before .before .decade in (step-two (c .before .before .before .args .size) (d .result) (d .ensures .0) (c .before .if1 .left) (c .if2 .taken), omega (arith, d .ensures .1), omega (arith, d .ensures .2))
+returns-2 c =
+    let d = c .before .before .decade in (
+      step-two (c .before .before .before .args .size) (d .result) (d .ensures .0) (c .before .if1 .left) (c .if2 .taken),
+      omega (arith, d .ensures .1),
+      omega (arith, d .ensures .2),
+    )
 
 mul-result-2 : tie.Need-mul-result-2
 mul-result-2 c = search needs
 
 returns-3 : tie.Need-returns-3
-returns-3 c = let d = c .before .before .decade in (step-five (c .before .before .before .args .size) (d .result) (d .ensures .0) (c .before .if1 .left) (c .if2 .left), omega (arith, d .ensures .1), omega (arith, d .ensures .2))
+returns-3 c =
+    let d = c .before .before .decade in (
+      step-five (c .before .before .before .args .size) (d .result) (d .ensures .0) (c .before .if1 .left) (c .if2 .left),
+      omega (arith, d .ensures .1),
+      omega (arith, d .ensures .2),
+    )
 
 pub step-for-spec : {M : Type 1} → statement M
 step-for-spec =

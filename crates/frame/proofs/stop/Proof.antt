@@ -1,3 +1,4 @@
+-- `stop`: the same box.
 use mathlib.Core.Path.{refl}
 use Rattle.frame.specs.Bounds as Bounds
 use Rattle.frame.proofs.stop.Statement.{statement}

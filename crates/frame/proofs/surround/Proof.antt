@@ -41,8 +41,27 @@ returns c =
     let z = c .before .before .before .most .ensures .0 ∙ (λ j. Bounds.most (a j) (b j)) in
     let t = c .before .before .step-for .ensures .0 ∙ ap Bounds.stepFor z in
     let m = c .before .before .before .most .ensures .1 in (
-      λ j. record { left = e .left; right = e .right; bottom = e .bottom; low = 40000000 - e .bottom; high = 40000000 - e .top; margin = z j / 8 + 10; em = z j / 40 + 1; step = t j },
-      record { left = s .pre .left; right = s .pre .right; bottom = s .pre .bottom; low = omega arith; high = omega arith; margin = omega (arith, m); em = omega (arith, m); some = c .before .before .step-for .ensures .1; step = c .before .before .step-for .ensures .2 },
+      λ j. record {
+        left = e .left;
+        right = e .right;
+        bottom = e .bottom;
+        low = 40000000 - e .bottom;
+        high = 40000000 - e .top;
+        margin = z j / 8 + 10;
+        em = z j / 40 + 1;
+        step = t j;
+      },
+      record {
+        left = s .pre .left;
+        right = s .pre .right;
+        bottom = s .pre .bottom;
+        low = omega arith;
+        high = omega arith;
+        margin = omega (arith, m);
+        em = omega (arith, m);
+        some = c .before .before .step-for .ensures .1;
+        step = c .before .before .step-for .ensures .2;
+      },
     )
 
 pub surround-spec : {M : Type 1} → statement M

@@ -1,3 +1,4 @@
+-- `widen`: side by side, each of them bounded.
 use Rattle.frame.specs.Bounds as Bounds
 use native.Mathlib.Omega.{arith}
 use borrow.Author.Needs.{needs}
@@ -23,8 +24,10 @@ returns c =
     let l = c .before .before .before .least .ensures in
     let r = c .before .before .most .ensures in
     let b = c .before .least2 .ensures in
-    let t = c .most2 .ensures in
-    (λ j. record { left = l .0 j; right = r .0 j; bottom = b .0 j; top = t .0 j; going = s .args .e .going }, record { left = omega (arith, l .1, s .pre .0 .left); right = r .1; bottom = omega (arith, b .1, s .pre .0 .bottom); top = t .1 })
+    let t = c .most2 .ensures in (
+      λ j. record { left = l .0 j; right = r .0 j; bottom = b .0 j; top = t .0 j; going = s .args .e .going },
+      record { left = omega (arith, l .1, s .pre .0 .left); right = r .1; bottom = omega (arith, b .1, s .pre .0 .bottom); top = t .1 },
+    )
 
 pub widen-spec : {M : Type 1} → statement M
 widen-spec =

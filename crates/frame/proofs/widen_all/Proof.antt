@@ -1,8 +1,7 @@
-use native.Mathlib.Numerals.{add-one}
-use mathlib.Core.Path.{sym}
 -- `widen_all`, the loop's invariant: the box with the first i points.
+use native.Mathlib.Numerals.{add-one}
+use mathlib.Core.Path.{sym, _≡_, refl, ap, _∙_}
 use Prim.Native.Nat.{_-_, _≤_}
-use mathlib.Core.Path.{_≡_, refl, ap, _∙_}
 use Rattle.frame.specs.Bounds as Bounds
 use borrow.Author.Needs.{needs}
 use native.Mathlib.Omega.{arith}
@@ -51,8 +50,13 @@ loop-again c =
     let l = c .before .before .before .before .loop in
     let e = l .inv .2 in
     let x = c .before .before .point-place .ensures .0 in
-    let y = c .before .point-place2 .ensures .0 in
-    (search needs, l .inv .1, c .widen .ensures .0 ∙ (λ j. Bounds.widen (e j) (x j) (y j)) ∙ sym (ap (Bounds.widened (s .e) (s .points .now)) (add-one (l .i))), c .widen .ensures .1)
+    let y = c .before .point-place2 .ensures .0 in (
+      search needs,
+      l .inv .1,
+      c .widen .ensures .0 ∙ (λ j. Bounds.widen (e j) (x j) (y j)) ∙ sym
+          (ap (Bounds.widened (s .e) (s .points .now)) (add-one (l .i))),
+      c .widen .ensures .1,
+    )
 
 returns : tie.Need-returns Inv-loop μ-loop
 returns c =

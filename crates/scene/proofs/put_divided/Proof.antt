@@ -23,29 +23,42 @@ put-form-requires : tie.Need-put-form-requires
 unfolding Scene.dividedText bytes
 put-form-requires c κs =
     let s = c .before .before .before .before .before .before .before in
-    let a = formed (bytes "<g class='ring'><title>ring #: corners #, cuts #</title>\n<polygon class='outline' points='") (s .args .ring ∷ s .args .v .corners ∷ s .args .v .cuts ∷ []) in
+    let a = formed (bytes "<g class='ring'><title>ring #: corners #, cuts #</title>\n<polygon class='outline' points='")
+    (s .args .ring ∷ s .args .v .corners ∷ s .args .v .cuts ∷ []) in
     let b = Scene.pointsText (s .args .points .now) (s .args .count) in
     let m = formed (bytes "'/>\n") [] in
     let d = Scene.quadsText (s .args .nodes .now) (s .args .rims .now) (s .args .cells .now) (length (s .args .cells .now) / 4) in
     let e = formed (bytes "</g>\n") [] in
     let out = s .args .out .now in
     let h : 0 + length (a ++ b ++ m ++ d ++ e) ≤ length out =
-    omega (arith, s .pre .2, divided-length (s .args .ring) (s .args .v) (s .args .points .now) (s .args .count) (s .pre .0) (s .args .nodes .now) (s .args .rims .now) (s .args .cells .now) (s .pre .1)) in
+    omega (
+      arith,
+      s .pre .2,
+      divided-length (s .args .ring) (s .args .v) (s .args .points .now) (s .args .count) (s .pre .0) (s .args .nodes .now)
+          (s .args .rims .now) (s .args .cells .now) (s .pre .1),
+    ) in
     let f = front-three out 0 a b m d e h in
     room-first out 0 a b m f
 
 put-points-requires : tie.Need-put-points-requires
 unfolding Scene.dividedText bytes
 put-points-requires c κs =
-    let s = c .before .before .before .before .before .before .before .before .before .before .before in
-    let a = formed (bytes "<g class='ring'><title>ring #: corners #, cuts #</title>\n<polygon class='outline' points='") (s .args .ring ∷ s .args .v .corners ∷ s .args .v .cuts ∷ []) in
+    let c₈ = c .before .before .before .before .before .before .before .before in
+    let s = c₈ .before .before .before in
+    let a = formed (bytes "<g class='ring'><title>ring #: corners #, cuts #</title>\n<polygon class='outline' points='")
+    (s .args .ring ∷ s .args .v .corners ∷ s .args .v .cuts ∷ []) in
     let b = Scene.pointsText (s .args .points .now) (s .args .count) in
     let m = formed (bytes "'/>\n") [] in
     let d = Scene.quadsText (s .args .nodes .now) (s .args .rims .now) (s .args .cells .now) (length (s .args .cells .now) / 4) in
     let e = formed (bytes "</g>\n") [] in
     let out = s .args .out .now in
     let h : 0 + length (a ++ b ++ m ++ d ++ e) ≤ length out =
-    omega (arith, s .pre .2, divided-length (s .args .ring) (s .args .v) (s .args .points .now) (s .args .count) (s .pre .0) (s .args .nodes .now) (s .args .rims .now) (s .args .cells .now) (s .pre .1)) in
+    omega (
+      arith,
+      s .pre .2,
+      divided-length (s .args .ring) (s .args .v) (s .args .points .now) (s .args .count) (s .pre .0) (s .args .nodes .now)
+          (s .args .rims .now) (s .args .cells .now) (s .pre .1),
+    ) in
     let f = front-three out 0 a b m d e h in
     (s .pre .0, room-second out 0 a b m f (c .before .before .before .put-form .ensures))
 
@@ -58,32 +71,52 @@ slice-aggregate-put-form-4 c = search needs
 put-form-requires-2 : tie.Need-put-form-requires-2
 unfolding Scene.dividedText bytes
 put-form-requires-2 c κs =
-    let s = c .before .before .before .before .before .before .before .before .before .before .before .before .before .before .before .before .before in
-    let a = formed (bytes "<g class='ring'><title>ring #: corners #, cuts #</title>\n<polygon class='outline' points='") (s .args .ring ∷ s .args .v .corners ∷ s .args .v .cuts ∷ []) in
+    let c₈ = c .before .before .before .before .before .before .before .before in
+    let c₁₆ = c₈ .before .before .before .before .before .before .before .before in
+    let s = c₁₆ .before in
+    let a = formed (bytes "<g class='ring'><title>ring #: corners #, cuts #</title>\n<polygon class='outline' points='")
+    (s .args .ring ∷ s .args .v .corners ∷ s .args .v .cuts ∷ []) in
     let b = Scene.pointsText (s .args .points .now) (s .args .count) in
     let m = formed (bytes "'/>\n") [] in
     let d = Scene.quadsText (s .args .nodes .now) (s .args .rims .now) (s .args .cells .now) (length (s .args .cells .now) / 4) in
     let e = formed (bytes "</g>\n") [] in
     let out = s .args .out .now in
     let h : 0 + length (a ++ b ++ m ++ d ++ e) ≤ length out =
-    omega (arith, s .pre .2, divided-length (s .args .ring) (s .args .v) (s .args .points .now) (s .args .count) (s .pre .0) (s .args .nodes .now) (s .args .rims .now) (s .args .cells .now) (s .pre .1)) in
+    omega (
+      arith,
+      s .pre .2,
+      divided-length (s .args .ring) (s .args .v) (s .args .points .now) (s .args .count) (s .pre .0) (s .args .nodes .now)
+          (s .args .rims .now) (s .args .cells .now) (s .pre .1),
+    ) in
     let f = front-three out 0 a b m d e h in
-    room-third out 0 a b m f (c .before .before .before .before .before .before .before .before .before .put-form .ensures) (c .before .before .before .before .before .put-points .ensures)
+    room-third out 0 a b m f (c₈ .before .put-form .ensures) (c .before .before .before .before .before .put-points .ensures)
 
 put-quads-requires : tie.Need-put-quads-requires
 unfolding Scene.dividedText bytes
 put-quads-requires c κs =
-    let s = c .before .before .before .before .before .before .before .before .before .before .before .before .before .before .before .before .before .before .before .before .before in
-    let a = formed (bytes "<g class='ring'><title>ring #: corners #, cuts #</title>\n<polygon class='outline' points='") (s .args .ring ∷ s .args .v .corners ∷ s .args .v .cuts ∷ []) in
+    let c₈ = c .before .before .before .before .before .before .before .before in
+    let c₁₆ = c₈ .before .before .before .before .before .before .before .before in
+    let s = c₁₆ .before .before .before .before .before in
+    let a = formed (bytes "<g class='ring'><title>ring #: corners #, cuts #</title>\n<polygon class='outline' points='")
+    (s .args .ring ∷ s .args .v .corners ∷ s .args .v .cuts ∷ []) in
     let b = Scene.pointsText (s .args .points .now) (s .args .count) in
     let m = formed (bytes "'/>\n") [] in
     let d = Scene.quadsText (s .args .nodes .now) (s .args .rims .now) (s .args .cells .now) (length (s .args .cells .now) / 4) in
     let e = formed (bytes "</g>\n") [] in
     let out = s .args .out .now in
     let h : 0 + length (a ++ b ++ m ++ d ++ e) ≤ length out =
-    omega (arith, s .pre .2, divided-length (s .args .ring) (s .args .v) (s .args .points .now) (s .args .count) (s .pre .0) (s .args .nodes .now) (s .args .rims .now) (s .args .cells .now) (s .pre .1)) in
-    let f = front-three out 0 a b m d e h in
-    (s .pre .1, room-second out 0 (a ++ b ++ m) d e h (three out 0 a b m f (c .before .before .before .before .before .before .before .before .before .before .before .before .before .put-form .ensures) (c .before .before .before .before .before .before .before .before .before .put-points .ensures) (c .before .before .before .put-form2 .ensures)))
+    omega (
+      arith,
+      s .pre .2,
+      divided-length (s .args .ring) (s .args .v) (s .args .points .now) (s .args .count) (s .pre .0) (s .args .nodes .now)
+          (s .args .rims .now) (s .args .cells .now) (s .pre .1),
+    ) in
+    let f = front-three out 0 a b m d e h in (
+      s .pre .1,
+      room-second out 0 (a ++ b ++ m) d e h
+          (three out 0 a b m f (c₈ .before .before .before .before .before .put-form .ensures) (c₈ .before .put-points .ensures)
+          (c .before .before .before .put-form2 .ensures)),
+    )
 
 slice-aggregate-put-form-5 : tie.Need-slice-aggregate-put-form-5
 slice-aggregate-put-form-5 c = search needs
@@ -94,35 +127,61 @@ slice-aggregate-put-form-6 c = search needs
 put-form-requires-3 : tie.Need-put-form-requires-3
 unfolding Scene.dividedText bytes
 put-form-requires-3 c κs =
-    let s = c .before .before .before .before .before .before .before .before .before .before .before .before .before .before .before .before .before .before .before .before .before .before .before .before .before .before .before in
-    let a = formed (bytes "<g class='ring'><title>ring #: corners #, cuts #</title>\n<polygon class='outline' points='") (s .args .ring ∷ s .args .v .corners ∷ s .args .v .cuts ∷ []) in
+    let c₈ = c .before .before .before .before .before .before .before .before in
+    let c₁₆ = c₈ .before .before .before .before .before .before .before .before in
+    let c₂₄ = c₁₆ .before .before .before .before .before .before .before .before in
+    let s = c₂₄ .before .before .before in
+    let a = formed (bytes "<g class='ring'><title>ring #: corners #, cuts #</title>\n<polygon class='outline' points='")
+    (s .args .ring ∷ s .args .v .corners ∷ s .args .v .cuts ∷ []) in
     let b = Scene.pointsText (s .args .points .now) (s .args .count) in
     let m = formed (bytes "'/>\n") [] in
     let d = Scene.quadsText (s .args .nodes .now) (s .args .rims .now) (s .args .cells .now) (length (s .args .cells .now) / 4) in
     let e = formed (bytes "</g>\n") [] in
     let out = s .args .out .now in
     let h : 0 + length (a ++ b ++ m ++ d ++ e) ≤ length out =
-    omega (arith, s .pre .2, divided-length (s .args .ring) (s .args .v) (s .args .points .now) (s .args .count) (s .pre .0) (s .args .nodes .now) (s .args .rims .now) (s .args .cells .now) (s .pre .1)) in
+    omega (
+      arith,
+      s .pre .2,
+      divided-length (s .args .ring) (s .args .v) (s .args .points .now) (s .args .count) (s .pre .0) (s .args .nodes .now)
+          (s .args .rims .now) (s .args .cells .now) (s .pre .1),
+    ) in
     let f = front-three out 0 a b m d e h in
-    room-third out 0 (a ++ b ++ m) d e h (three out 0 a b m f (c .before .before .before .before .before .before .before .before .before .before .before .before .before .before .before .before .before .before .before .put-form .ensures) (c .before .before .before .before .before .before .before .before .before .before .before .before .before .before .before .put-points .ensures) (c .before .before .before .before .before .before .before .before .before .put-form2 .ensures)) (c .before .before .before .before .before .put-quads .ensures)
+    room-third out 0 (a ++ b ++ m) d e h
+    (three out 0 a b m f (c₁₆ .before .before .before .put-form .ensures) (c₈ .before .before .before .before .before .before .before .put-points .ensures)
+    (c₈ .before .put-form2 .ensures)) (c .before .before .before .before .before .put-quads .ensures)
 
 same-length : tie.Need-same-length
-same-length c = c .before .before .put-form3 .kept .0 ∙ c .before .before .before .before .before .before .before .before .put-quads .kept .0 ∙ c .before .before .before .before .before .before .before .before .before .before .before .before .put-form2 .kept .0 ∙ c .before .before .before .before .before .before .before .before .before .before .before .before .before .before .before .before .before .before .put-points .kept .0 ∙ c .before .before .before .before .before .before .before .before .before .before .before .before .before .before .before .before .before .before .before .before .before .before .put-form .kept .0
+same-length c =
+    let c₈ = c .before .before .before .before .before .before .before .before in
+    let c₁₆ = c₈ .before .before .before .before .before .before .before .before in
+    c .before .before .put-form3 .kept .0 ∙ c₈ .put-quads .kept .0 ∙ c₈ .before .before .before .before .put-form2 .kept .0
+    ∙ c₁₆ .before .before .put-points .kept .0 ∙ c₁₆ .before .before .before .before .before .before .put-form .kept .0
 
 returns : tie.Need-returns
 unfolding Scene.dividedText bytes
 returns c =
-    let s = c .before .before .before .before .before .before .before .before .before .before .before .before .before .before .before .before .before .before .before .before .before .before .before .before .before .before .before .before .before .before in
-    let a = formed (bytes "<g class='ring'><title>ring #: corners #, cuts #</title>\n<polygon class='outline' points='") (s .args .ring ∷ s .args .v .corners ∷ s .args .v .cuts ∷ []) in
+    let c₈ = c .before .before .before .before .before .before .before .before in
+    let c₁₆ = c₈ .before .before .before .before .before .before .before .before in
+    let c₂₄ = c₁₆ .before .before .before .before .before .before .before .before in
+    let s = c₂₄ .before .before .before .before .before .before in
+    let a = formed (bytes "<g class='ring'><title>ring #: corners #, cuts #</title>\n<polygon class='outline' points='")
+    (s .args .ring ∷ s .args .v .corners ∷ s .args .v .cuts ∷ []) in
     let b = Scene.pointsText (s .args .points .now) (s .args .count) in
     let m = formed (bytes "'/>\n") [] in
     let d = Scene.quadsText (s .args .nodes .now) (s .args .rims .now) (s .args .cells .now) (length (s .args .cells .now) / 4) in
     let e = formed (bytes "</g>\n") [] in
     let out = s .args .out .now in
     let h : 0 + length (a ++ b ++ m ++ d ++ e) ≤ length out =
-    omega (arith, s .pre .2, divided-length (s .args .ring) (s .args .v) (s .args .points .now) (s .args .count) (s .pre .0) (s .args .nodes .now) (s .args .rims .now) (s .args .cells .now) (s .pre .1)) in
+    omega (
+      arith,
+      s .pre .2,
+      divided-length (s .args .ring) (s .args .v) (s .args .points .now) (s .args .count) (s .pre .0) (s .args .nodes .now)
+          (s .args .rims .now) (s .args .cells .now) (s .pre .1),
+    ) in
     let f = front-three out 0 a b m d e h in
-    three out 0 (a ++ b ++ m) d e h (three out 0 a b m f (c .before .before .before .before .before .before .before .before .before .before .before .before .before .before .before .before .before .before .before .before .before .before .put-form .ensures) (c .before .before .before .before .before .before .before .before .before .before .before .before .before .before .before .before .before .before .put-points .ensures) (c .before .before .before .before .before .before .before .before .before .before .before .before .put-form2 .ensures)) (c .before .before .before .before .before .before .before .before .put-quads .ensures) (c .before .before .put-form3 .ensures)
+    three out 0 (a ++ b ++ m) d e h
+    (three out 0 a b m f (c₁₆ .before .before .before .before .before .before .put-form .ensures) (c₁₆ .before .before .put-points .ensures)
+    (c₈ .before .before .before .before .put-form2 .ensures)) (c₈ .put-quads .ensures) (c .before .before .put-form3 .ensures)
 
 pub put-divided-spec : {M : Type 1} → statement M
 put-divided-spec =

@@ -22,7 +22,10 @@ same-length c = search needs
 
 returns : tie.Need-returns
 unfolding bytes
-returns c = let s = c .before .before .before .before .before .before .before .before in written-as (dot-inside (s .args .mark) (s .args .p) (s .args .n) (c .before .before .before .before .before .before .if1 .taken)) (c .before .before .put-form .ensures)
+returns c =
+    let s = c .before .before .before .before .before .before .before .before in
+    written-as (dot-inside (s .args .mark) (s .args .p) (s .args .n) (c .before .before .before .before .before .before .if1 .taken))
+    (c .before .before .put-form .ensures)
 
 slice-aggregate-put-form-3 : tie.Need-slice-aggregate-put-form-3
 slice-aggregate-put-form-3 c = search needs
@@ -39,7 +42,10 @@ same-length-2 c = search needs
 
 returns-2 : tie.Need-returns-2
 unfolding bytes
-returns-2 c = let s = c .before .before .before .before .before .before .before .before in written-as (dot-rim (s .args .mark) (s .args .p) (s .args .n) (c .before .before .before .before .before .before .if1 .left)) (c .before .before .put-form2 .ensures)
+returns-2 c =
+    let s = c .before .before .before .before .before .before .before .before in
+    written-as (dot-rim (s .args .mark) (s .args .p) (s .args .n) (c .before .before .before .before .before .before .if1 .left))
+    (c .before .before .put-form2 .ensures)
 
 pub put-dot-spec : {M : Type 1} → statement M
 put-dot-spec =

@@ -14,14 +14,19 @@ slice-aggregate-put-form-2 c = search needs
 
 put-form-requires : tie.Need-put-form-requires
 unfolding bytes
-put-form-requires c κs = let s = c .before .before .before .before .before in room-as (half-cut (s .args .mark) (s .args .a) (s .args .b) (c .before .before .before .if1 .taken)) (s .args .at) _ (s .pre)
+put-form-requires c κs =
+    let s = c .before .before .before .before .before in
+    room-as (half-cut (s .args .mark) (s .args .a) (s .args .b) (c .before .before .before .if1 .taken)) (s .args .at) _ (s .pre)
 
 same-length : tie.Need-same-length
 same-length c = search needs
 
 returns : tie.Need-returns
 unfolding bytes
-returns c = let s = c .before .before .before .before .before .before .before .before in written-as (half-cut (s .args .mark) (s .args .a) (s .args .b) (c .before .before .before .before .before .before .if1 .taken)) (c .before .before .put-form .ensures)
+returns c =
+    let s = c .before .before .before .before .before .before .before .before in
+    written-as (half-cut (s .args .mark) (s .args .a) (s .args .b) (c .before .before .before .before .before .before .if1 .taken))
+    (c .before .before .put-form .ensures)
 
 slice-aggregate-put-form-3 : tie.Need-slice-aggregate-put-form-3
 slice-aggregate-put-form-3 c = search needs
@@ -31,14 +36,19 @@ slice-aggregate-put-form-4 c = search needs
 
 put-form-requires-2 : tie.Need-put-form-requires-2
 unfolding bytes
-put-form-requires-2 c κs = let s = c .before .before .before .before .before in room-as (half-rim (s .args .mark) (s .args .a) (s .args .b) (c .before .before .before .if1 .left)) (s .args .at) _ (s .pre)
+put-form-requires-2 c κs =
+    let s = c .before .before .before .before .before in
+    room-as (half-rim (s .args .mark) (s .args .a) (s .args .b) (c .before .before .before .if1 .left)) (s .args .at) _ (s .pre)
 
 same-length-2 : tie.Need-same-length-2
 same-length-2 c = search needs
 
 returns-2 : tie.Need-returns-2
 unfolding bytes
-returns-2 c = let s = c .before .before .before .before .before .before .before .before in written-as (half-rim (s .args .mark) (s .args .a) (s .args .b) (c .before .before .before .before .before .before .if1 .left)) (c .before .before .put-form2 .ensures)
+returns-2 c =
+    let s = c .before .before .before .before .before .before .before .before in
+    written-as (half-rim (s .args .mark) (s .args .a) (s .args .b) (c .before .before .before .before .before .before .if1 .left))
+    (c .before .before .put-form2 .ensures)
 
 pub put-half-spec : {M : Type 1} → statement M
 put-half-spec =

@@ -20,9 +20,11 @@ same-length c = search needs
 returns : tie.Need-returns
 unfolding Scene.nodeText
 returns c =
+    let c₄ = c .before .before .before .before in
+    let c₈ = c₄ .before .before .before .before in
     let m = c .before .before .before .mark .ensures in
-    let p = c .before .before .before .before .before .spot-of .ensures in
-    written-as (λ j. Scene.dotText (m j) (p j) (c .before .before .before .before .before .before .before .before .before .args .i)) (c .before .before .put-dot .ensures)
+    let p = c₄ .before .spot-of .ensures in
+    written-as (λ j. Scene.dotText (m j) (p j) (c₈ .before .args .i)) (c .before .before .put-dot .ensures)
 
 pub put-node-spec : {M : Type 1} → statement M
 put-node-spec =

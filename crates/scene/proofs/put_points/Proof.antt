@@ -13,7 +13,8 @@ use Rattle.scene.proofs.put_points.Tie as tie
 
 abbrev Inv-loop : tie.InvT-loop
 Inv-loop out₀ at ring count next₀ i₀ out next i =
-    (i ≤ count) × (count ≤ 60) × (at + length (Scene.pointsText ring count) ≤ length out₀) × (length out ≡ length out₀) × Written out₀ at (Scene.pointsText ring i) next out
+    (i ≤ count) × (count ≤ 60) × (at + length (Scene.pointsText ring count) ≤ length out₀) × (length out ≡ length out₀) × Written out₀ at
+    (Scene.pointsText ring i) next out
 
 abbrev μ-loop : tie.MeasureT-loop
 μ-loop out₀ at ring count next₀ i₀ out next i = count - i
@@ -47,7 +48,8 @@ put-point-requires c κs =
     let x = c .before .before .point-place .ensures .0 in
     let y = c .before .point-place2 .ensures .0 in
     room-as (λ j. Scene.placed (x j) (y j)) (l .next) _
-    (turn-room (Scene.pointsText (s .ring .now)) (Scene.pointText (s .ring .now)) (λ i. refl) (s .out .now) (s .at) (l .i) (s .count) (l .inv .2) (omega arith) (l .next) (l .out) (l .inv .4))
+    (turn-room (Scene.pointsText (s .ring .now)) (Scene.pointText (s .ring .now)) (λ i. refl) (s .out .now) (s .at) (l .i) (s .count) (l .inv .2)
+    (omega arith) (l .next) (l .out) (l .inv .4))
 
 add-i : tie.Need-add-i Inv-loop μ-loop
 add-i c = search needs
@@ -58,16 +60,19 @@ loop-less c = search needs
 loop-again : tie.Need-loop-again Inv-loop μ-loop
 unfolding Scene.pointsText
 loop-again c =
-    let s = c .before .before .before .before .before .before .before .before .before .args in
-    let l = c .before .before .before .before .before .before .before .loop in
-    let x = c .before .before .before .before .before .point-place .ensures .0 in
-    let y = c .before .before .before .before .point-place2 .ensures .0 in
+    let c₄ = c .before .before .before .before in
+    let c₈ = c₄ .before .before .before .before in
+    let s = c₈ .before .args in
+    let l = c₄ .before .before .before .loop in
+    let x = c₄ .before .point-place .ensures .0 in
+    let y = c₄ .point-place2 .ensures .0 in
     let p = c .before .before .put-point in (
       search needs,
       l .inv .1,
       l .inv .2,
       p .kept .0 ∙ l .inv .3,
-      turn-written (Scene.pointsText (s .ring .now)) (Scene.pointText (s .ring .now)) (λ i. refl) (s .out .now) (s .at) (l .i) (s .count) (l .inv .2) (omega arith) (l .next) (l .out)
+      turn-written (Scene.pointsText (s .ring .now)) (Scene.pointText (s .ring .now)) (λ i. refl) (s .out .now) (s .at) (l .i) (s .count) (l .inv .2)
+          (omega arith) (l .next) (l .out)
           (l .inv .4) (p .result) (p .last .0) (written-as (λ j. Scene.placed (x j) (y j)) (p .ensures)),
     )
 

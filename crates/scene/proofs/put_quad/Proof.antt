@@ -1,5 +1,5 @@
-use mathlib.Core.List.{_++_}
 -- `put_quad`: three texts one after the other.
+use mathlib.Core.List.{_++_}
 use mathlib.Core.Path.{_∙_}
 use Rattle.text.proofs.Writing.{join, room, shorter}
 use Rattle.scene.specs.Scene as Scene
@@ -22,32 +22,42 @@ put-half-requires c κs =
     let q = s .args .q in
     let a = Scene.cellText (q .centre) (q .ahead) (q .corner) (q .behind) in
     let b = Scene.halfText (q .first) (q .corner) (q .ahead) in
-    room (s .args .out .now) (s .args .at) a b (shorter (s .args .at) _ (a ++ b) (Scene.halfText (q .second) (q .corner) (q .behind)) (s .pre)) (c .before .before .before .put-cell .ensures)
+    room (s .args .out .now) (s .args .at) a b (shorter (s .args .at) _ (a ++ b) (Scene.halfText (q .second) (q .corner) (q .behind)) (s .pre))
+    (c .before .before .before .put-cell .ensures)
 
 put-half-requires-2 : tie.Need-put-half-requires-2
 unfolding Scene.quadText
 put-half-requires-2 c κs =
-    let s = c .before .before .before .before .before .before .before .before .before .before in
+    let c₄ = c .before .before .before .before in
+    let c₈ = c₄ .before .before .before .before in
+    let s = c₈ .before .before in
     let q = s .args .q in
     let a = Scene.cellText (q .centre) (q .ahead) (q .corner) (q .behind) in
     let b = Scene.halfText (q .first) (q .corner) (q .ahead) in
     let d = Scene.halfText (q .second) (q .corner) (q .behind) in
     let h = shorter (s .args .at) _ (a ++ b) d (s .pre) in
-    room (s .args .out .now) (s .args .at) (a ++ b) d (s .pre) (join (s .args .out .now) (s .args .at) a b h (c .before .before .before .before .before .before .before .put-cell .ensures) (c .before .before .before .put-half .ensures))
+    room (s .args .out .now) (s .args .at) (a ++ b) d (s .pre)
+    (join (s .args .out .now) (s .args .at) a b h (c₄ .before .before .before .put-cell .ensures) (c .before .before .before .put-half .ensures))
 
 same-length : tie.Need-same-length
-same-length c = c .before .before .put-half2 .kept .0 ∙ c .before .before .before .before .before .before .put-half .kept .0 ∙ c .before .before .before .before .before .before .before .before .before .before .put-cell .kept .0
+same-length c =
+    let c₄ = c .before .before .before .before in
+    let c₈ = c₄ .before .before .before .before in
+    c .before .before .put-half2 .kept .0 ∙ c₄ .before .before .put-half .kept .0 ∙ c₈ .before .before .put-cell .kept .0
 
 returns : tie.Need-returns
 unfolding Scene.quadText
 returns c =
-    let s = c .before .before .before .before .before .before .before .before .before .before .before .before .before in
+    let c₈ = c .before .before .before .before .before .before .before .before in
+    let s = c₈ .before .before .before .before .before in
     let q = s .args .q in
     let a = Scene.cellText (q .centre) (q .ahead) (q .corner) (q .behind) in
     let b = Scene.halfText (q .first) (q .corner) (q .ahead) in
     let d = Scene.halfText (q .second) (q .corner) (q .behind) in
     let h = shorter (s .args .at) _ (a ++ b) d (s .pre) in
-    join (s .args .out .now) (s .args .at) (a ++ b) d (s .pre) (join (s .args .out .now) (s .args .at) a b h (c .before .before .before .before .before .before .before .before .before .before .put-cell .ensures) (c .before .before .before .before .before .before .put-half .ensures)) (c .before .before .put-half2 .ensures)
+    join (s .args .out .now) (s .args .at) (a ++ b) d (s .pre)
+    (join (s .args .out .now) (s .args .at) a b h (c₈ .before .before .put-cell .ensures)
+    (c .before .before .before .before .before .before .put-half .ensures)) (c .before .before .put-half2 .ensures)
 
 pub put-quad-spec : {M : Type 1} → statement M
 put-quad-spec =

@@ -24,7 +24,8 @@ put-form-requires : tie.Need-put-form-requires
 unfolding Scene.refusedText bytes
 put-form-requires c κs =
     let s = c .before .before .before .before in
-    let a = formed (bytes "<g class='refused'><title>ring # refused # # #</title>\n<polygon points='") (s .args .ring ∷ s .args .v .code ∷ s .args .v .corners ∷ s .args .v .k ∷ []) in
+    let a = formed (bytes "<g class='refused'><title>ring # refused # # #</title>\n<polygon points='")
+    (s .args .ring ∷ s .args .v .code ∷ s .args .v .corners ∷ s .args .v .k ∷ []) in
     let b = Scene.pointsText (s .args .points .now) (s .args .count) in
     let x = Scene.halfway (s .args .points .now) (s .args .count) 0 in
     let y = Scene.halfway (s .args .points .now) (s .args .count) 1 in
@@ -38,7 +39,8 @@ put-points-requires : tie.Need-put-points-requires
 unfolding Scene.refusedText bytes
 put-points-requires c κs =
     let s = c .before .before .before .before .before .before .before .before in
-    let a = formed (bytes "<g class='refused'><title>ring # refused # # #</title>\n<polygon points='") (s .args .ring ∷ s .args .v .code ∷ s .args .v .corners ∷ s .args .v .k ∷ []) in
+    let a = formed (bytes "<g class='refused'><title>ring # refused # # #</title>\n<polygon points='")
+    (s .args .ring ∷ s .args .v .code ∷ s .args .v .corners ∷ s .args .v .k ∷ []) in
     let b = Scene.pointsText (s .args .points .now) (s .args .count) in
     let x = Scene.halfway (s .args .points .now) (s .args .count) 0 in
     let y = Scene.halfway (s .args .points .now) (s .args .count) 1 in
@@ -63,8 +65,11 @@ slice-aggregate-put-form-4 c = search needs
 put-form-requires-2 : tie.Need-put-form-requires-2
 unfolding Scene.refusedText bytes
 put-form-requires-2 c κs =
-    let s = c .before .before .before .before .before .before .before .before .before .before .before .before .before .before .before .before in
-    let a = formed (bytes "<g class='refused'><title>ring # refused # # #</title>\n<polygon points='") (s .args .ring ∷ s .args .v .code ∷ s .args .v .corners ∷ s .args .v .k ∷ []) in
+    let c₈ = c .before .before .before .before .before .before .before .before in
+    let c₁₆ = c₈ .before .before .before .before .before .before .before .before in
+    let s = c₁₆ in
+    let a = formed (bytes "<g class='refused'><title>ring # refused # # #</title>\n<polygon points='")
+    (s .args .ring ∷ s .args .v .code ∷ s .args .v .corners ∷ s .args .v .k ∷ []) in
     let b = Scene.pointsText (s .args .points .now) (s .args .count) in
     let x = Scene.halfway (s .args .points .now) (s .args .count) 0 in
     let y = Scene.halfway (s .args .points .now) (s .args .count) 1 in
@@ -74,16 +79,23 @@ put-form-requires-2 c κs =
     omega (arith, s .pre .1, refused-length (s .args .ring) (s .args .v) (s .args .points .now) (s .args .count) (s .pre .0)) in
     let p = c .before .before .before .before .halfway .ensures in
     let q = c .before .before .before .halfway2 .ensures in
-    room-as (λ j. formed (bytes "'/>\n<text transform='matrix(1 0 0 -1 @ @)'>#</text></g>\n") (p j ∷ q j ∷ s .args .v .code ∷ [])) (c .before .before .before .before .before .before .before .put-points .result) _ (room-third out 0 a b m h (c .before .before .before .before .before .before .before .before .before .before .before .put-form .ensures) (c .before .before .before .before .before .before .before .put-points .ensures))
+    room-as (λ j. formed (bytes "'/>\n<text transform='matrix(1 0 0 -1 @ @)'>#</text></g>\n") (p j ∷ q j ∷ s .args .v .code ∷ []))
+    (c .before .before .before .before .before .before .before .put-points .result) _
+    (room-third out 0 a b m h (c₈ .before .before .before .put-form .ensures) (c .before .before .before .before .before .before .before .put-points .ensures))
 
 same-length : tie.Need-same-length
-same-length c = c .before .before .put-form2 .kept .0 ∙ c .before .before .before .before .before .before .before .before .before .before .put-points .kept .0 ∙ c .before .before .before .before .before .before .before .before .before .before .before .before .before .before .put-form .kept .0
+same-length c =
+    let c₈ = c .before .before .before .before .before .before .before .before in
+    c .before .before .put-form2 .kept .0 ∙ c₈ .before .before .put-points .kept .0 ∙ c₈ .before .before .before .before .before .before .put-form .kept .0
 
 returns : tie.Need-returns
 unfolding Scene.refusedText bytes
 returns c =
-    let s = c .before .before .before .before .before .before .before .before .before .before .before .before .before .before .before .before .before .before .before in
-    let a = formed (bytes "<g class='refused'><title>ring # refused # # #</title>\n<polygon points='") (s .args .ring ∷ s .args .v .code ∷ s .args .v .corners ∷ s .args .v .k ∷ []) in
+    let c₈ = c .before .before .before .before .before .before .before .before in
+    let c₁₆ = c₈ .before .before .before .before .before .before .before .before in
+    let s = c₁₆ .before .before .before in
+    let a = formed (bytes "<g class='refused'><title>ring # refused # # #</title>\n<polygon points='")
+    (s .args .ring ∷ s .args .v .code ∷ s .args .v .corners ∷ s .args .v .k ∷ []) in
     let b = Scene.pointsText (s .args .points .now) (s .args .count) in
     let x = Scene.halfway (s .args .points .now) (s .args .count) 0 in
     let y = Scene.halfway (s .args .points .now) (s .args .count) 1 in
@@ -93,7 +105,9 @@ returns c =
     omega (arith, s .pre .1, refused-length (s .args .ring) (s .args .v) (s .args .points .now) (s .args .count) (s .pre .0)) in
     let p = c .before .before .before .before .before .before .before .halfway .ensures in
     let q = c .before .before .before .before .before .before .halfway2 .ensures in
-    three out 0 a b m h (c .before .before .before .before .before .before .before .before .before .before .before .before .before .before .put-form .ensures) (c .before .before .before .before .before .before .before .before .before .before .put-points .ensures) (written-as (λ j. formed (bytes "'/>\n<text transform='matrix(1 0 0 -1 @ @)'>#</text></g>\n") (p j ∷ q j ∷ s .args .v .code ∷ [])) (c .before .before .put-form2 .ensures))
+    three out 0 a b m h (c₈ .before .before .before .before .before .before .put-form .ensures) (c₈ .before .before .put-points .ensures)
+    (written-as (λ j. formed (bytes "'/>\n<text transform='matrix(1 0 0 -1 @ @)'>#</text></g>\n") (p j ∷ q j ∷ s .args .v .code ∷ []))
+    (c .before .before .put-form2 .ensures))
 
 pub put-refused-spec : {M : Type 1} → statement M
 put-refused-spec =

@@ -13,9 +13,12 @@ same-length c = search needs
 
 returns : tie.Need-returns
 returns c =
-    let s = c .before .before .before .before .before .before .before .before .before .before in
+    let c₄ = c .before .before .before .before in
+    let c₈ = c₄ .before .before .before .before in
+    let s = c₈ .before .before in
     let a = s .args in
-    written-as (ring-divided (a .ring) (a .v) (a .points .now) (a .count) (s .pre .0) (a .nodes .now) (a .rims .now) (a .cells .now) (c .before .before .before .before .if1 .taken)) (c .before .before .put-divided .ensures)
+    written-as (ring-divided (a .ring) (a .v) (a .points .now) (a .count) (s .pre .0) (a .nodes .now) (a .rims .now) (a .cells .now) (c₄ .if1 .taken))
+    (c .before .before .put-divided .ensures)
 
 put-refused-requires : tie.Need-put-refused-requires
 put-refused-requires c κs = search needs
@@ -25,9 +28,12 @@ same-length-2 c = search needs
 
 returns-2 : tie.Need-returns-2
 returns-2 c =
-    let s = c .before .before .before .before .before .before .before .before .before .before in
+    let c₄ = c .before .before .before .before in
+    let c₈ = c₄ .before .before .before .before in
+    let s = c₈ .before .before in
     let a = s .args in
-    written-as (ring-refused (a .ring) (a .v) (a .points .now) (a .count) (s .pre .0) (a .nodes .now) (a .rims .now) (a .cells .now) (c .before .before .before .before .if1 .left)) (c .before .before .put-refused .ensures)
+    written-as (ring-refused (a .ring) (a .v) (a .points .now) (a .count) (s .pre .0) (a .nodes .now) (a .rims .now) (a .cells .now) (c₄ .if1 .left))
+    (c .before .before .put-refused .ensures)
 
 pub put-ring-spec : {M : Type 1} → statement M
 put-ring-spec =

@@ -1,6 +1,6 @@
+-- `read_quad`: each field is the place of a listed node, or its mark.
 use lib.ListN.{getD}
 use Prim.Native.Nat.{ℕ}
--- `read_quad`: each field is the place of a listed node, or its mark.
 use mathlib.Core.Path.{_∙_, ap}
 use Rattle.scene.specs.Scene as Scene
 use borrow.Author.Needs.{needs}
@@ -52,14 +52,16 @@ mark-requires-2 c κs = search needs
 returns : tie.Need-returns
 unfolding Scene.quadOf
 returns c =
-    let l = c .before .before .before .before .before .before .before .before .before .before .before .before .before .args .nodes .now in
-    let rs = c .before .before .before .before .before .before .before .before .before .before .before .before .before .args .rims .now in
-    let centre = c .before .before .before .before .before .before .spot-of .ensures ∙ ap (Scene.spotOf l) (c .before .before .before .before .before .before .before .listed3 .ensures .0) in
-    let ahead = c .before .before .before .before .before .spot-of2 .ensures ∙ ap (Scene.spotOf l) (c .before .before .before .before .before .before .before .before .before .listed .ensures .0) in
+    let c₈ = c .before .before .before .before .before .before .before .before in
+    let l = c₈ .before .before .before .before .before .args .nodes .now in
+    let rs = c₈ .before .before .before .before .before .args .rims .now in
+    let centre = c .before .before .before .before .before .before .spot-of .ensures ∙ ap (Scene.spotOf l)
+    (c .before .before .before .before .before .before .before .listed3 .ensures .0) in
+    let ahead = c .before .before .before .before .before .spot-of2 .ensures ∙ ap (Scene.spotOf l) (c₈ .before .listed .ensures .0) in
     let corner = c .before .before .before .spot-of3 .ensures ∙ ap (Scene.spotOf l) (c .before .before .before .before .listed4 .ensures .0) in
-    let behind = c .before .before .spot-of4 .ensures ∙ ap (Scene.spotOf l) (c .before .before .before .before .before .before .before .before .listed2 .ensures .0) in
-    let first = c .before .mark .ensures ∙ ap (λ (n : ℕ). getD rs n 0) (c .before .before .before .before .before .before .before .before .before .listed .ensures .0) in
-    let second = c .mark2 .ensures ∙ ap (λ (n : ℕ). getD rs n 0) (c .before .before .before .before .before .before .before .before .listed2 .ensures .0) in
+    let behind = c .before .before .spot-of4 .ensures ∙ ap (Scene.spotOf l) (c₈ .listed2 .ensures .0) in
+    let first = c .before .mark .ensures ∙ ap (λ (n : ℕ). getD rs n 0) (c₈ .before .listed .ensures .0) in
+    let second = c .mark2 .ensures ∙ ap (λ (n : ℕ). getD rs n 0) (c₈ .listed2 .ensures .0) in
     λ j. record { centre = centre j; ahead = ahead j; corner = corner j; behind = behind j; first = first j; second = second j }
 
 pub read-quad-spec : {M : Type 1} → statement M

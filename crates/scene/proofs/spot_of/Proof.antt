@@ -1,3 +1,4 @@
+-- `spot_of`: the two coordinates stand side by side in the list.
 use Rattle.scene.specs.Scene as Scene
 use borrow.Author.Needs.{needs}
 use Rattle.scene.proofs.spot_of.Statement.{statement}

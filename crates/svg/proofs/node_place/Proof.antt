@@ -1,3 +1,4 @@
+-- `node_place`: the place of a listed number, and the origin past the list.
 use Rattle.svg.proofs.Places.{past-node}
 use borrow.Author.Needs.{needs}
 use Rattle.svg.proofs.node_place.Statement.{statement}

@@ -1,5 +1,5 @@
-use borrow.Author.Tests.{not-true, not-false}
 -- `place_of`: the cases of the definition, laws in proofs/Places.
+use borrow.Author.Tests.{not-true, not-false}
 use mathlib.Core.Path.{sym, ap, _∙_}
 use Prim.Native.Nat.{ℕ, _+_, _-_}
 use native.Mathlib.Omega.{arith}
@@ -19,13 +19,22 @@ ten-thousandths-requires : tie.Need-ten-thousandths-requires
 ten-thousandths-requires c κs = within (c .before .before .args .x) (sym (c .before .is-held .ensures) ∙ not-false (c .before .is-held .result) (c .if1 .left))
 
 minus-requires : tie.Need-minus-requires
-minus-requires c κs = (within (c .before .before .before .args .x) (sym (c .before .before .is-held .ensures) ∙ not-false (c .before .before .is-held .result) (c .before .if1 .left)), c .ten-thousandths .ensures)
+minus-requires c κs = (
+  within (c .before .before .before .args .x)
+      (sym (c .before .before .is-held .ensures) ∙ not-false (c .before .before .is-held .result) (c .before .if1 .left)),
+  c .ten-thousandths .ensures,
+)
 
 sub-result : tie.Need-sub-result
 sub-result c =
     let h = c .before .before .before .before .is-held in
     let x = c .before .before .before .before .before .args .x in
-    omega (arith, c .before .before .ten-thousandths .ensures, few-thousandths x (within x (sym (h .ensures) ∙ not-false (h .result) (c .before .before .before .if1 .left))))
+    omega (
+      arith,
+      c .before .before .ten-thousandths .ensures,
+      few-thousandths x
+          (within x (sym (h .ensures) ∙ not-false (h .result) (c .before .before .before .if1 .left))),
+    )
 
 returns-2 : tie.Need-returns-2
 returns-2 c =
@@ -38,7 +47,12 @@ add-result : tie.Need-add-result
 add-result c =
     let h = c .before .before .before .before .is-held in
     let x = c .before .before .before .before .before .args .x in
-    omega (arith, c .before .before .ten-thousandths .ensures, few-thousandths x (within x (sym (h .ensures) ∙ not-false (h .result) (c .before .before .before .if1 .left))))
+    omega (
+      arith,
+      c .before .before .ten-thousandths .ensures,
+      few-thousandths x
+          (within x (sym (h .ensures) ∙ not-false (h .result) (c .before .before .before .if1 .left))),
+    )
 
 returns-3 : tie.Need-returns-3
 returns-3 c =

@@ -22,7 +22,10 @@ unit-place-requires c κs = search needs
 
 returns : tie.Need-returns
 unfolding pointPlace
-returns c = (c .unit-place .ensures .0 ∙ ap unitPlace (c .before .bits .ensures ∙ ap bits (toZ-ofZ (record { sfits = c .before .before .bits-arg .given }))), c .unit-place .ensures .1)
+returns c = (
+  c .unit-place .ensures .0 ∙ ap unitPlace (c .before .bits .ensures ∙ ap bits (toZ-ofZ (record { sfits = c .before .before .bits-arg .given }))),
+  c .unit-place .ensures .1,
+)
 
 returns-2 : tie.Need-returns-2
 returns-2 c = (past-point (c .before .args .points .now) (c .before .args .k) (c .if1 .left), search needs)

@@ -9,7 +9,8 @@ use Rattle.svg.proofs.put_part.Statement.{statement}
 use Rattle.svg.proofs.put_part.Tie as tie
 
 put-decimal-requires : tie.Need-put-decimal-requires
-put-decimal-requires c κs = let s = c .before .before .before in room-as (sym (part-number (s .args .b) (s .args .n) (c .before .if1 .taken))) (s .args .at) _ (s .pre)
+put-decimal-requires c κs =
+    let s = c .before .before .before in room-as (sym (part-number (s .args .b) (s .args .n) (c .before .if1 .taken))) (s .args .at) _ (s .pre)
 
 same-length : tie.Need-same-length
 same-length c = search needs
@@ -30,12 +31,14 @@ same-length-2 c = search needs
 returns-2 : tie.Need-returns-2
 returns-2 c =
     let s = c .before .before .before .before .before .before .before in
-    written-as (sym (part-exact (s .args .b) (s .args .n) (c .before .before .before .before .before .if1 .left) (c .before .before .before .before .if2 .taken))) (c .before .before .put-exact .ensures)
+    written-as (sym (part-exact (s .args .b) (s .args .n) (c .before .before .before .before .before .if1 .left)
+    (c .before .before .before .before .if2 .taken))) (c .before .before .put-exact .ensures)
 
 put-plain-requires : tie.Need-put-plain-requires
 put-plain-requires c κs =
     let s = c .before .before .before .before .before in
-    room-as (sym (part-plain (s .args .b) (s .args .n) (c .before .before .before .if1 .left) (c .before .before .if2 .left) (c .before .if3 .taken))) (s .args .at) _ (s .pre)
+    room-as (sym (part-plain (s .args .b) (s .args .n) (c .before .before .before .if1 .left) (c .before .before .if2 .left) (c .before .if3 .taken)))
+    (s .args .at) _ (s .pre)
 
 same-length-3 : tie.Need-same-length-3
 same-length-3 c = search needs
@@ -43,7 +46,8 @@ same-length-3 c = search needs
 returns-3 : tie.Need-returns-3
 returns-3 c =
     let s = c .before .before .before .before .before .before .before .before in
-    written-as (sym (part-plain (s .args .b) (s .args .n) (c .before .before .before .before .before .before .if1 .left) (c .before .before .before .before .before .if2 .left) (c .before .before .before .before .if3 .taken))) (c .before .before .put-plain .ensures)
+    written-as (sym (part-plain (s .args .b) (s .args .n) (c .before .before .before .before .before .before .if1 .left)
+    (c .before .before .before .before .before .if2 .left) (c .before .before .before .before .if3 .taken))) (c .before .before .put-plain .ensures)
 
 put-byte-requires : tie.Need-put-byte-requires
 put-byte-requires c κs =
@@ -57,7 +61,8 @@ same-length-4 c = search needs
 returns-4 : tie.Need-returns-4
 returns-4 c =
     let s = c .before .before .before .before .before .before .before .before in
-    written-as (sym (part-byte (s .args .b) (s .args .n) (c .before .before .before .before .before .before .if1 .left) (c .before .before .before .before .before .if2 .left) (c .before .before .before .before .if3 .left))) (c .before .before .put-byte .ensures)
+    written-as (sym (part-byte (s .args .b) (s .args .n) (c .before .before .before .before .before .before .if1 .left)
+    (c .before .before .before .before .before .if2 .left) (c .before .before .before .before .if3 .left))) (c .before .before .put-byte .ensures)
 
 pub put-part-spec : {M : Type 1} → statement M
 put-part-spec =

@@ -19,7 +19,9 @@ same-length : tie.Need-same-length
 same-length c = search needs
 
 returns : tie.Need-returns
-returns c = let s = c .before .before .before .before .before .before in written-as (sym (plain-part (s .args .n) (c .before .before .before .before .if1 .taken))) (c .before .before .put-exact .ensures)
+returns c =
+    let s = c .before .before .before .before .before .before in
+    written-as (sym (plain-part (s .args .n) (c .before .before .before .before .if1 .taken))) (c .before .before .put-exact .ensures)
 
 put-byte-requires : tie.Need-put-byte-requires
 put-byte-requires c κs =
@@ -33,7 +35,8 @@ sub-put-decimal c = search needs
 put-decimal-requires : tie.Need-put-decimal-requires
 put-decimal-requires c κs =
     let s = c .before .before .before .before .before .before .before .before in
-    let h = room-as (sym (plain-below (s .args .n) (c .before .before .before .before .before .before .if1 .left) (c .before .before .before .before .before .if2 .taken))) (s .args .at) _ (s .pre) in
+    let h = room-as (sym (plain-below (s .args .n) (c .before .before .before .before .before .before .if1 .left)
+    (c .before .before .before .before .before .if2 .taken))) (s .args .at) _ (s .pre) in
     room (s .args .out .now) (s .args .at) (45 ∷ []) (decimal ((origin - s .args .n) / 10000)) h (c .before .before .before .put-byte .ensures)
 
 same-length-2 : tie.Need-same-length-2
@@ -41,19 +44,27 @@ same-length-2 c = c .before .before .put-decimal .kept .0 ∙ c .before .before 
 
 returns-2 : tie.Need-returns-2
 returns-2 c =
-    let s = c .before .before .before .before .before .before .before .before .before .before .before in
-    let e = plain-below (s .args .n) (c .before .before .before .before .before .before .before .before .before .if1 .left) (c .before .before .before .before .before .before .before .before .if2 .taken) in
+    let c₄ = c .before .before .before .before in
+    let c₈ = c₄ .before .before .before .before in
+    let s = c₈ .before .before .before in
+    let e = plain-below (s .args .n) (c₈ .before .if1 .left) (c₈ .if2 .taken) in
     let h = room-as (sym e) (s .args .at) _ (s .pre) in
-    written-as (sym e) (join (s .args .out .now) (s .args .at) (45 ∷ []) (decimal ((origin - s .args .n) / 10000)) h (c .before .before .before .before .before .before .put-byte .ensures) (c .before .before .put-decimal .ensures))
+    written-as (sym e) (join (s .args .out .now) (s .args .at) (45 ∷ []) (decimal ((origin - s .args .n) / 10000)) h
+    (c₄ .before .before .put-byte .ensures) (c .before .before .put-decimal .ensures))
 
 put-decimal-requires-2 : tie.Need-put-decimal-requires-2
-put-decimal-requires-2 c κs = let s = c .before .before .before .before in room-as (sym (plain-above (s .args .n) (c .before .before .if1 .left) (c .before .if2 .left))) (s .args .at) _ (s .pre)
+put-decimal-requires-2 c κs =
+    let s = c .before .before .before .before in
+    room-as (sym (plain-above (s .args .n) (c .before .before .if1 .left) (c .before .if2 .left))) (s .args .at) _ (s .pre)
 
 same-length-3 : tie.Need-same-length-3
 same-length-3 c = search needs
 
 returns-3 : tie.Need-returns-3
-returns-3 c = let s = c .before .before .before .before .before .before .before in written-as (sym (plain-above (s .args .n) (c .before .before .before .before .before .if1 .left) (c .before .before .before .before .if2 .left))) (c .before .before .put-decimal2 .ensures)
+returns-3 c =
+    let s = c .before .before .before .before .before .before .before in
+    written-as (sym (plain-above (s .args .n) (c .before .before .before .before .before .if1 .left) (c .before .before .before .before .if2 .left)))
+    (c .before .before .put-decimal2 .ensures)
 
 pub put-plain-spec : {M : Type 1} → statement M
 put-plain-spec =

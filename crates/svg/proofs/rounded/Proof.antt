@@ -17,8 +17,10 @@ half-even-requires c κs = search needs
 
 returns-2 : tie.Need-returns-2
 returns-2 c =
-    let s = c .before .before in
-    (c .half-even .ensures ∙ rounded-near (s .args .m) (c .before .if1 .left), omega (arith, c .half-even .ensures, few-rounded (s .args .m) (c .before .if1 .left)))
+    let s = c .before .before in (
+      c .half-even .ensures ∙ rounded-near (s .args .m) (c .before .if1 .left),
+      omega (arith, c .half-even .ensures, few-rounded (s .args .m) (c .before .if1 .left)),
+    )
 
 pub rounded-spec : {M : Type 1} → statement M
 rounded-spec = tie.close (tie.spec returns mul-half-even half-even-requires returns-2)

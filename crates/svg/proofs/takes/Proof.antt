@@ -1,3 +1,4 @@
+-- `takes`: a mark takes one number, any other byte none.
 use Rattle.svg.proofs.Forms.{takes-number, takes-exact, takes-plain, takes-none}
 use borrow.Author.Needs.{needs}
 use Rattle.svg.proofs.takes.Statement.{statement}

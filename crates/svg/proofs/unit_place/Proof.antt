@@ -15,7 +15,10 @@ add-result : tie.Need-add-result
 add-result c = omega (arith, c .rounded .ensures .1)
 
 returns : tie.Need-returns
-returns c = (ap (λ (k : ℕ). origin + k) (c .rounded .ensures .0) ∙ unit-high (c .before .before .args .n) (c .before .if1 .taken), omega (arith, c .rounded .ensures .1))
+returns c = (
+  ap (λ (k : ℕ). origin + k) (c .rounded .ensures .0) ∙ unit-high (c .before .before .args .n) (c .before .if1 .taken),
+  omega (arith, c .rounded .ensures .1),
+)
 
 sub-rounded : tie.Need-sub-rounded
 sub-rounded c = search needs
@@ -27,7 +30,10 @@ sub-result : tie.Need-sub-result
 sub-result c = omega (arith, c .rounded2 .ensures .1)
 
 returns-2 : tie.Need-returns-2
-returns-2 c = (ap (λ (k : ℕ). origin - k) (c .rounded2 .ensures .0) ∙ unit-low (c .before .before .args .n) (c .before .if1 .left), omega (arith, c .rounded2 .ensures .1))
+returns-2 c = (
+  ap (λ (k : ℕ). origin - k) (c .rounded2 .ensures .0) ∙ unit-low (c .before .before .args .n) (c .before .if1 .left),
+  omega (arith, c .rounded2 .ensures .1),
+)
 
 pub unit-place-spec : {M : Type 1} → statement M
 unit-place-spec =
