@@ -1,5 +1,5 @@
-// Svg: the text of an element, a form with numbers and places put in. It stands above text and listing, and below the scene
-// that is drawn.
+// Svg: the text of an element, a form with numbers and places put in. It stands above text and listing, and below scene and
+// frame.
 //
 // A place is a coordinate as a whole number of ten-thousandths of a mm, ORIGIN that of 0 mm: those of a listed node are what
 // the cell sheet shows of it, and a ring's points are rounded as the sheet rounds.
