@@ -26,7 +26,8 @@ use Rattle.quads.specs.Flat.{ListedTo}
 pub nodes-ranged : {l : List Float} {u : ℕ} → Usable l u → EachNode InRange (nodesIn l u)
 nodes-ranged {l} {u} g j b = let h : j < u = omega (arith, b, length-in l u) in subst InRange (sym (node-in l u j h)) (g .ranged j h)
 
-pub over-usable : (l : List Float) (ns : List Point) {m : List Float} {v : ℕ} → m ≡ over l ns → v ≡ length ns → EachNode InRange ns → length ns ≤ mostPlaces → length ns * 2 ≤ length l → Usable m v
+pub over-usable : (l : List Float) (ns : List Point) {m : List Float} {v : ℕ} → m ≡ over l ns → v ≡ length ns → EachNode InRange ns → length ns ≤ mostPlaces
+    → length ns * 2 ≤ length l → Usable m v
 over-usable l ns e f h a b =
     record {
       room = omega (arith, f, b, ap length e ∙ length-over l ns b);
@@ -50,7 +51,8 @@ module _ (l : List Float) (u : ℕ) (p : ℕ → Point) where
   up i zero = let e : i + zero ≡ i = omega arith in subst (λ (k : ℕ). length (E i .nodes) ≤ length (E k .nodes)) (sym e) (le-refl (length (E i .nodes)))
   up i (suc d) =
       let e : i + suc d ≡ suc (i + d) = omega arith in
-      subst (λ (k : ℕ). length (E i .nodes) ≤ length (E k .nodes)) (sym e) (le-trans (up i d) (addNode-grown {P = Anything} (E (i + d) .nodes) (p (i + d)) tt .longer))
+      subst (λ (k : ℕ). length (E i .nodes) ≤ length (E k .nodes)) (sym e)
+      (le-trans (up i d) (addNode-grown {P = Anything} (E (i + d) .nodes) (p (i + d)) tt .longer))
 
   rise : (i n : ℕ) → i ≤ n → length (E i .nodes) ≤ length (E n .nodes)
   rise i n h = let e : i + (n - i) ≡ n = omega arith in subst (λ (k : ℕ). length (E i .nodes) ≤ length (E k .nodes)) e (up i (n - i))
@@ -64,14 +66,16 @@ module _ {l : List Float} {u : ℕ} {p : ℕ → Point} where
   pub now-is : {i : ℕ} {m : List Float} {v : ℕ} {ks : List ℕ} → Adds l u p i m v ks → nodesIn m v ≡ E l u p i .nodes
   now-is {i} s = (λ j. nodesIn (s .nodes j) (s .used j)) ∙ in-over l (E l u p i .nodes)
 
-  pub next : {i : ℕ} {m : List Float} {v : ℕ} {ks : List ℕ} {q : Point} {r : Placed} {m' : List Float} → Adds l u p i m v ks → i < 60 → q ≡ p i → r ≡ placed (nodesIn m v) q → m' ≡ over m (addNode (nodesIn m v) q)
+  pub next : {i : ℕ} {m : List Float} {v : ℕ} {ks : List ℕ} {q : Point} {r : Placed} {m' : List Float} → Adds l u p i m v ks → i < 60 → q ≡ p i
+      → r ≡ placed (nodesIn m v) q → m' ≡ over m (addNode (nodesIn m v) q)
       → Adds l u p (i + 1) m' (r .used) (set ks i (r .number))
   unfolding addNodes
   next {i} {m} {v} {ks} {q} {r} {m'} s h e a b =
       let n : nodesIn m v ≡ E l u p i .nodes = now-is s in
       let f : r ≡ placed (E l u p i .nodes) (p i) = a ∙ (λ j. placed (n j) (e j)) in
       let k = addNode-grown {P = Anything} (E l u p i .nodes) (p i) tt in
-      let g : m' ≡ over l (addNode (E l u p i .nodes) (p i)) = b ∙ (λ j. over (s .nodes j) (addNode (n j) (e j))) ∙ over-over l (E l u p i .nodes) (addNode (E l u p i .nodes) (p i)) (k .longer) in
+      let g : m' ≡ over l (addNode (E l u p i .nodes) (p i)) =
+      b ∙ (λ j. over (s .nodes j) (addNode (n j) (e j))) ∙ over-over l (E l u p i .nodes) (addNode (E l u p i .nodes) (p i)) (k .longer) in
       subst (λ (k : ℕ). Adds l u p k m' (r .used) (set ks i (r .number))) (sym (add-one i))
       (record {
         numbers = take-suc-set ks i (r .number) (omega (arith, s .long)) ∙ (λ j. s .numbers j ++ (f j .number ∷ []));
@@ -82,10 +86,13 @@ module _ {l : List Float} {u : ℕ} {p : ℕ → Point} where
 
   -- a place that was used before is as it was
   pub read : {i : ℕ} {m : List Float} {v : ℕ} {ks : List ℕ} → Adds l u p i m v ks → (j : ℕ) → j < u → nodeIn m j ≡ nodeAt (nodesIn l u) j
-  read {i} s j h = ap (λ (m : List Float). nodeIn m j) (s .nodes) ∙ at-over l (E l u p i .nodes) j (omega (arith, longer l u p i)) ∙ grown l u p i .same j (omega (arith, length-in l u))
+  read {i} s j h =
+      ap (λ (m : List Float). nodeIn m j) (s .nodes) ∙ at-over l (E l u p i .nodes) j (omega (arith, longer l u p i))
+      ∙ grown l u p i .same j (omega (arith, length-in l u))
 
   -- what was collected of the list stays true of it
-  pub held : {c : Nearby} {numbers : List ℕ} {xs : List Float} {i : ℕ} {m : List Float} {v : ℕ} {ks : List ℕ} → Adds l u p i m v ks → ValidNearby l u c numbers xs → ValidNearby m v c numbers xs
+  pub held : {c : Nearby} {numbers : List ℕ} {xs : List Float} {i : ℕ} {m : List Float} {v : ℕ} {ks : List ℕ} → Adds l u p i m v ks
+      → ValidNearby l u c numbers xs → ValidNearby m v c numbers xs
   held {c} {numbers} {xs} {i} {m} {v} s h = held-over l m u v (E l u p i .nodes) c numbers xs (s .nodes) (s .used) (grown l u p i) h
 
   -- the numbers are those of listed nodes
@@ -111,5 +118,6 @@ module _ {l : List Float} {u : ℕ} {p : ℕ → Point} where
     pub usable : i ≤ n → Usable m v
     usable o =
         over-usable l (E l u p i .nodes) (s .nodes) (s .used)
-        (grown-each {P = InRange} (nodesIn l u) (E l u p i .nodes) (addNodes-grown {P = InRange} (nodesIn l u) p i (λ j h. g .ranged j (omega arith))) (nodes-ranged (g .usable)))
+        (grown-each {P = InRange} (nodesIn l u) (E l u p i .nodes) (addNodes-grown {P = InRange} (nodesIn l u) p i (λ j h. g .ranged j (omega arith)))
+        (nodes-ranged (g .usable)))
         (omega (arith, rise l u p i n o, g .fits)) (omega (arith, rise l u p i n o, g .room))

@@ -1,5 +1,5 @@
--- What is asked for is what is listed. Every node that an attempt, a piece or pieces one after the other ask for is listed when they are through (`attempt-listed`, `subdivide-listed`,
--- `asks-listed`); and every node that they add was asked for (`attempt-cover`, `subdivide-cover`, `asks-cover`).
+-- What is asked for is what is listed. Every node that an attempt, a piece or pieces one after the other ask for is listed when they are through
+-- (`attempt-listed`, `subdivide-listed`, `asks-listed`); and every node that they add was asked for (`attempt-cover`, `subdivide-cover`, `asks-cover`).
 use Prim.Native.Nat.{ℕ, zero, suc, _≤_, _<_}
 use native.Mathlib.Nat.{le-trans, lt-of-lt-of-le, not-suc-le-zero, eq-or-lt-of-le}
 use native.Mathlib.Decide.{decLt}
@@ -76,12 +76,21 @@ got ns p (suc n) k h l = go (decLt k (length (addNodes ns p n .nodes))) (got ns 
     last : List ℕ
     last = number (s .nodes) (p n) ∷ []
 
-    go : Dec (k < length (s .nodes)) → (k < length (s .nodes) → Got s n k) → Got (record { nodes = addNode (s .nodes) (p n); numbers = s .numbers ++ last }) (suc n) k
+    go : Dec (k < length (s .nodes)) → (k < length (s .nodes) → Got s n k)
+        → Got (record { nodes = addNode (s .nodes) (p n); numbers = s .numbers ++ last }) (suc n) k
     go (yes a) r =
         let w = r a in
-        record { place = w .place; low = omega (arith, w .low); is = List·getD-append (s .numbers) last 0 (w .place) (omega (arith, w .low, addNodes-length ns p n)) ∙ w .is }
+        record {
+          place = w .place;
+          low = omega (arith, w .low);
+          is = List·getD-append (s .numbers) last 0 (w .place) (omega (arith, w .low, addNodes-length ns p n)) ∙ w .is;
+        }
     go (no a) r =
-        record { place = n; low = omega arith; is = getD-at (s .numbers) (number (s .nodes) (p n)) [] 0 n (addNodes-length ns p n) ∙ one-more (s .nodes) (p n) k (omega arith) l }
+        record {
+          place = n;
+          low = omega arith;
+          is = getD-at (s .numbers) (number (s .nodes) (p n)) [] 0 n (addNodes-length ns p n) ∙ one-more (s .nodes) (p n) k (omega arith) l;
+        }
 
 later : {a b : List Ask} (k : ℕ) → ((q : Ask) → List·Memᴰ q a → List·Memᴰ q b) → AskedFor a k → AskedFor b k
 later k f w = record { ask = w .ask; one = f (w .ask) (w .one); for = w .for }
@@ -122,7 +131,8 @@ module _ (share : Float) where
         subst (λ (m : List Point). All (Below (length m)) (vA ++ mA ++ cA)) (sym (attempt-nodes share ns ps e))
         (all-append (Below (length (cs .nodes))) (vA ++ mA) cA
         (all-append (Below (length (cs .nodes))) vA mA
-        (all-tab (Below (length (cs .nodes))) (λ i. ask (getD (vs .numbers) i 0) asCorner) n (λ i h. omega (arith, addNodes-number ns (λ i. inMm (getD ps i origin)) n i h .low, vs-ms, ms-cs)))
+        (all-tab (Below (length (cs .nodes))) (λ i. ask (getD (vs .numbers) i 0) asCorner) n
+        (λ i h. omega (arith, addNodes-number ns (λ i. inMm (getD ps i origin)) n i h .low, vs-ms, ms-cs)))
         (all-tab (Below (length (cs .nodes))) (λ i. ask (getD (ms .numbers) i 0) (asMiddle (o i))) n
         (λ i h. omega (arith, addNodes-number (vs .nodes) (λ i. edgeMiddle share (e i) (end ns ps i) (end ns ps (suc i))) n i h .low, ms-cs))))
         (addNodes-number (ms .nodes) (λ i. mean (end ns ps) n) 1 0 (omega arith) .low, tt))
@@ -183,7 +193,8 @@ module _ (share : Float) where
         go true = all-append (Below (length (t .nodes))) first [] (attempt-listed ns (p .points) (markAt p) o) tt
         go false =
             all-append (Below (length (t' .nodes))) first second
-            (all-weaken (Below (length (t .nodes))) (Below (length (t' .nodes))) (λ q l. omega (arith, l, up)) first (attempt-listed ns (p .points) (markAt p) o))
+            (all-weaken (Below (length (t .nodes))) (Below (length (t' .nodes))) (λ q l. omega (arith, l, up)) first
+            (attempt-listed ns (p .points) (markAt p) o))
             (attempt-listed (t .nodes) (p .points) straight o)
 
     pub subdivide-cover : (k : ℕ) → length ns ≤ k → k < length (subdivide share ns p .nodes) → AskedFor (subdivideAsks share ns p o) k
@@ -206,7 +217,8 @@ module _ (share : Float) where
   unfolding onwardAsks
   onward-listed (failed ns n k) p r = tt
   onward-listed (done ns cs) p r =
-      subst (λ (m : List Point). All (Below (length m)) (subdivideAsks share ns p (ofRing r))) (sym (onward-done share ns cs p)) (subdivide-listed ns p (ofRing r))
+      subst (λ (m : List Point). All (Below (length m)) (subdivideAsks share ns p (ofRing r))) (sym (onward-done share ns cs p))
+      (subdivide-listed ns p (ofRing r))
 
   onward-failed : (ns : List Point) (n j : ℕ) (p : Part) → onward share (failed ns n j) p ≡ failed ns n j
   unfolding onward
@@ -224,7 +236,8 @@ module _ (share : Float) where
     asks-listed (suc i) =
         let v = length (nodesOf (piecesTo share ps ns (suc i))) in
         all-append (Below v) (asksTo share ps rs ns i) (onwardAsks share (piecesTo share ps ns i) (getD ps i noPart) (getD rs i noPart))
-        (all-weaken (Below (length (nodesOf (piecesTo share ps ns i)))) (Below v) (λ q l. lt-of-lt-of-le l (pieces-next share ps ns i .longer)) (asksTo share ps rs ns i) (asks-listed i))
+        (all-weaken (Below (length (nodesOf (piecesTo share ps ns i)))) (Below v) (λ q l. lt-of-lt-of-le l (pieces-next share ps ns i .longer))
+        (asksTo share ps rs ns i) (asks-listed i))
         (onward-listed (piecesTo share ps ns i) (getD ps i noPart) (getD rs i noPart))
 
     pub asks-cover : (i k : ℕ) → length ns ≤ k → k < length (nodesOf (piecesTo share ps ns i)) → AskedFor (asksTo share ps rs ns i) k
@@ -235,6 +248,9 @@ module _ (share : Float) where
         new : List Ask
         new = onwardAsks share (piecesTo share ps ns i) (getD ps i noPart) (getD rs i noPart)
 
-        go : Dec (k < length (nodesOf (piecesTo share ps ns i))) → (k < length (nodesOf (piecesTo share ps ns i)) → AskedFor (asksTo share ps rs ns i) k) → AskedFor (asksTo share ps rs ns i ++ new) k
+        go : Dec (k < length (nodesOf (piecesTo share ps ns i))) → (k < length (nodesOf (piecesTo share ps ns i)) → AskedFor (asksTo share ps rs ns i) k)
+            → AskedFor (asksTo share ps rs ns i ++ new) k
         go (yes a) f = later k (λ q. Memᴰ·append-left new) (f a)
-        go (no a) f = later k (λ q. Memᴰ·append-right (asksTo share ps rs ns i)) (onward-cover (piecesTo share ps ns i) (getD ps i noPart) (getD rs i noPart) k (omega arith) l)
+        go (no a) f =
+            later k (λ q. Memᴰ·append-right (asksTo share ps rs ns i))
+            (onward-cover (piecesTo share ps ns i) (getD ps i noPart) (getD rs i noPart) k (omega arith) l)

@@ -40,21 +40,25 @@ module _ (share : Float) where
     pub centre : P (mean a (length ps))
 
   -- from the corners on
-  pub middles-grown : {P : Point → Type 0} (ns : List Point) (ps : List GridPoint) (e : ℕ → EdgeMark) → ((i : ℕ) → i < length ps → P (edgeMiddle share (e i) (end ns ps i) (end ns ps (suc i)))) → P (mean (end ns ps) (length ps))
+  pub middles-grown : {P : Point → Type 0} (ns : List Point) (ps : List GridPoint) (e : ℕ → EdgeMark)
+      → ((i : ℕ) → i < length ps → P (edgeMiddle share (e i) (end ns ps i) (end ns ps (suc i)))) → P (mean (end ns ps) (length ps))
       → Grown P (corners ns ps .nodes) (attempt share ns ps e .nodes)
   middles-grown {P} ns ps e h k =
       subst (Grown P (corners ns ps .nodes)) (sym (attempt-nodes ns ps e))
       (grown-trans (addNodes-grown (corners ns ps .nodes) (λ i. edgeMiddle share (e i) (end ns ps i) (end ns ps (suc i))) (length ps) h)
       (addNodes-grown (middles share ns ps e .nodes) (λ i. mean (end ns ps) (length ps)) 1 (λ i l. k)))
 
-  pub attempt-grown : {P : Point → Type 0} (ns : List Point) (ps : List GridPoint) (e : ℕ → EdgeMark) → Adds P ps e (end ns ps) → Grown P ns (attempt share ns ps e .nodes)
-  attempt-grown ns ps e h = grown-trans (addNodes-grown ns (λ i. inMm (getD ps i origin)) (length ps) (h .corner)) (middles-grown ns ps e (h .middle) (h .centre))
+  pub attempt-grown : {P : Point → Type 0} (ns : List Point) (ps : List GridPoint) (e : ℕ → EdgeMark) → Adds P ps e (end ns ps)
+      → Grown P ns (attempt share ns ps e .nodes)
+  attempt-grown ns ps e h =
+      grown-trans (addNodes-grown ns (λ i. inMm (getD ps i origin)) (length ps) (h .corner)) (middles-grown ns ps e (h .middle) (h .centre))
 
   pub attempt-any : (ns : List Point) (ps : List GridPoint) (e : ℕ → EdgeMark) → Grown Anything ns (attempt share ns ps e .nodes)
   attempt-any ns ps e = attempt-grown ns ps e (record { corner = λ i h. tt; middle = λ i h. tt; centre = tt })
 
   -- ---- a piece leaves what its first attempt left, or what a second one made of that
-  pub subdivide-by : (X : List Point → Type 0) (ns : List Point) (p : Part) → X (firstNodes share ns p) → X (secondNodes share ns p) → X (subdivide share ns p .nodes)
+  pub subdivide-by : (X : List Point → Type 0) (ns : List Point) (p : Part) → X (firstNodes share ns p) → X (secondNodes share ns p)
+      → X (subdivide share ns p .nodes)
   unfolding subdivide
   subdivide-by X ns p h k = go (eqb (t .fails) (length (p .points)) || t .far)
     where
@@ -65,7 +69,8 @@ module _ (share : Float) where
       go true = h
       go false = k
 
-  pub subdivide-grown : {P : Point → Type 0} (ns : List Point) (p : Part) → Grown P ns (firstNodes share ns p) → Grown P (firstNodes share ns p) (secondNodes share ns p) → Grown P ns (subdivide share ns p .nodes)
+  pub subdivide-grown : {P : Point → Type 0} (ns : List Point) (p : Part) → Grown P ns (firstNodes share ns p)
+      → Grown P (firstNodes share ns p) (secondNodes share ns p) → Grown P ns (subdivide share ns p .nodes)
   subdivide-grown {P} ns p g h = subdivide-by (Grown P ns) ns p g (grown-trans g h)
 
   pub subdivide-any : (ns : List Point) (p : Part) → Grown Anything ns (subdivide share ns p .nodes)
@@ -83,7 +88,8 @@ module _ (share : Float) where
       go true = refl
       go false = refl
 
-  pub onward-grown : {P : Point → Type 0} (o : Outcome) (p : Part) → ((ns : List Point) (cs : List Cell) → o ≡ done ns cs → Grown P ns (subdivide share ns p .nodes)) → Grown P (nodesOf o) (nodesOf (onward share o p))
+  pub onward-grown : {P : Point → Type 0} (o : Outcome) (p : Part)
+      → ((ns : List Point) (cs : List Cell) → o ≡ done ns cs → Grown P ns (subdivide share ns p .nodes)) → Grown P (nodesOf o) (nodesOf (onward share o p))
   onward-grown {P} (done ns cs) p h = subst (Grown P ns) (sym (onward-done ns cs p)) (h ns cs refl)
   onward-grown {P} (failed ns n k) p h = unfold onward in grown-refl ns
 
@@ -92,7 +98,8 @@ module _ (share : Float) where
       → Grown P ns (nodesOf (piecesTo share ps ns n))
   unfolding piecesTo
   pieces-grown ps ns zero h = grown-refl ns
-  pieces-grown ps ns (suc n) h = grown-trans (pieces-grown ps ns n (λ i k. h i (omega arith))) (onward-grown (piecesTo share ps ns n) (getD ps n noPart) (h n (le-refl (suc n))))
+  pieces-grown ps ns (suc n) h =
+      grown-trans (pieces-grown ps ns n (λ i k. h i (omega arith))) (onward-grown (piecesTo share ps ns n) (getD ps n noPart) (h n (le-refl (suc n))))
 
   pub pieces-any : (ps : List Part) (ns : List Point) (n : ℕ) → Grown Anything ns (nodesOf (piecesTo share ps ns n))
   pieces-any ps ns n = pieces-grown ps ns n (λ i k ms cs e. subdivide-any ms (getD ps i noPart))
@@ -103,18 +110,22 @@ module _ (share : Float) where
 
   -- from one piece to a later one
   pub pieces-later : (ps : List Part) (ns : List Point) (i d : ℕ) → Grown Anything (nodesOf (piecesTo share ps ns i)) (nodesOf (piecesTo share ps ns (d + i)))
-  pieces-later ps ns i zero = subst (λ (k : ℕ). Grown Anything (nodesOf (piecesTo share ps ns i)) (nodesOf (piecesTo share ps ns k))) (same i) (grown-refl (nodesOf (piecesTo share ps ns i)))
+  pieces-later ps ns i zero =
+      subst (λ (k : ℕ). Grown Anything (nodesOf (piecesTo share ps ns i)) (nodesOf (piecesTo share ps ns k))) (same i)
+      (grown-refl (nodesOf (piecesTo share ps ns i)))
     where
       same : (i : ℕ) → i ≡ 0 + i
       same i = omega arith
   pieces-later ps ns i (suc d) =
-      subst (λ (k : ℕ). Grown Anything (nodesOf (piecesTo share ps ns i)) (nodesOf (piecesTo share ps ns k))) (next i d) (grown-trans (pieces-later ps ns i d) (pieces-next ps ns (d + i)))
+      subst (λ (k : ℕ). Grown Anything (nodesOf (piecesTo share ps ns i)) (nodesOf (piecesTo share ps ns k))) (next i d)
+      (grown-trans (pieces-later ps ns i d) (pieces-next ps ns (d + i)))
     where
       next : (i d : ℕ) → suc (d + i) ≡ suc d + i
       next i d = omega arith
 
 -- ---- in every later list the corners have the nodes that the attempt saw
-pub ends-later : {P : Point → Type 0} (ns ms : List Point) (ps : List GridPoint) → 0 < length ps → Grown P (corners ns ps .nodes) ms → (i : ℕ) → end ns ps i ≡ nodeFor ms (inMm (getD ps (i % length ps) origin))
+pub ends-later : {P : Point → Type 0} (ns ms : List Point) (ps : List GridPoint) → 0 < length ps → Grown P (corners ns ps .nodes) ms → (i : ℕ)
+    → end ns ps i ≡ nodeFor ms (inMm (getD ps (i % length ps) origin))
 ends-later {P} ns ms ps h g i = sym (g .same k (n .low)) ∙ numbered-node (numbered-later g n)
   where
     k : ℕ

@@ -110,7 +110,8 @@ module _ (share : Float) (ring : Part) (ds : List CutLine) (ps : List Part) (ms 
 
   has-corner : (j : ℕ) → j < length (ring .points) → HasKeyOf cover (inMm (getD (ring .points) j origin))
   has-corner j h =
-      has-left cornerList (sideList ++ (snaps (ring .edges) ++ (acrossList ++ centreList))) _ (has-tab (λ i. inMm (getD (ring .points) i origin)) (length (ring .points)) j h)
+      has-left cornerList (sideList ++ (snaps (ring .edges) ++ (acrossList ++ centreList))) _
+      (has-tab (λ i. inMm (getD (ring .points) i origin)) (length (ring .points)) j h)
 
   has-side : (j : ℕ) → j < length (ring .points) → HasKeyOf cover (middleIn ms (at (ring .points) j) (at (ring .points) (suc j)))
   has-side j h =
@@ -122,7 +123,8 @@ module _ (share : Float) (ring : Part) (ds : List CutLine) (ps : List Part) (ms 
   has-mark j q e = past-sides q (has-left (snaps (ring .edges)) (acrossList ++ centreList) q (has-snap (ring .edges) j q e))
 
   has-across : (j : ℕ) → j < length ds → HasKeyOf cover (middleIn ms (getD ds j noCutLine .a) (getD ds j noCutLine .b))
-  has-across j h = past-snaps _ (has-left acrossList centreList _ (has-tab (λ i. middleIn ms (getD ds i noCutLine .a) (getD ds i noCutLine .b)) (length ds) j h))
+  has-across j h =
+      past-snaps _ (has-left acrossList centreList _ (has-tab (λ i. middleIn ms (getD ds i noCutLine .a) (getD ds i noCutLine .b)) (length ds) j h))
 
   has-centre : (j : ℕ) → j < length ps → HasKeyOf cover (centreIn (getD ps j noPart .points))
   has-centre j h = past-snaps _ (has-right acrossList centreList _ (has-tab (λ i. centreIn (getD ps i noPart .points)) (length ps) j h))
@@ -137,13 +139,15 @@ module _ (share : Float) (ring : Part) (ds : List CutLine) (ps : List Part) (ms 
   edge-snap a b e q (across j h u m) k = absurd (straight≢snap q (sym m ∙ k))
 
   -- what an attempt at piece i adds, where a mark of e is one of the piece's
-  adds : (i : ℕ) (e : ℕ → EdgeMark) → i < length ps → PieceFrom ring ds (getD ps i noPart) → ((k : ℕ) (q : Point) → e k ≡ Snap q → markAt (getD ps i noPart) k ≡ Snap q)
+  adds : (i : ℕ) (e : ℕ → EdgeMark) → i < length ps → PieceFrom ring ds (getD ps i noPart)
+      → ((k : ℕ) (q : Point) → e k ≡ Snap q → markAt (getD ps i noPart) k ≡ Snap q)
       → Adds share (HasKeyOf cover) (getD ps i noPart .points) e (λ k. nodeFor ms (inMm (at (getD ps i noPart .points) k)))
   adds i e h f m =
       record {
         corner = λ k l. let c = f .corner k l in subst (λ (q : GridPoint). HasKeyOf cover (inMm q)) (sym (c .2)) (has-corner (c .0) (c .1));
         middle = λ k l.
-            edge-by share (HasKeyOf cover) (e k) (nodeFor ms (inMm (at (p .points) k))) (nodeFor ms (inMm (at (p .points) (suc k)))) (edge-middle (at (p .points) k) (at (p .points) (suc k)) (markAt p k) (f .edge k l))
+            edge-by share (HasKeyOf cover) (e k) (nodeFor ms (inMm (at (p .points) k))) (nodeFor ms (inMm (at (p .points) (suc k))))
+            (edge-middle (at (p .points) k) (at (p .points) (suc k)) (markAt p k) (f .edge k l))
             (λ q u. edge-snap (at (p .points) k) (at (p .points) (suc k)) (markAt p k) q (f .edge k l) (m k q u));
         centre = has-centre i h;
       }
@@ -153,7 +157,8 @@ module _ (share : Float) (ring : Part) (ds : List CutLine) (ps : List Part) (ms 
 
 -- ---- an attempt and a piece, seen from a later list
 module _ (share : Float) {P : Point → Type 0} where
-  attempt-later : (ns ms : List Point) (ps : List GridPoint) (e : ℕ → EdgeMark) → 0 < length ps → Grown Anything (attempt share ns ps e .nodes) ms → Adds share P ps e (λ k. nodeFor ms (inMm (at ps k)))
+  attempt-later : (ns ms : List Point) (ps : List GridPoint) (e : ℕ → EdgeMark) → 0 < length ps → Grown Anything (attempt share ns ps e .nodes) ms
+      → Adds share P ps e (λ k. nodeFor ms (inMm (at ps k)))
       → Grown P ns (attempt share ns ps e .nodes)
   attempt-later ns ms ps e h g f = attempt-grown share ns ps e (subst (Adds share P ps e) (sym same) f)
     where
@@ -164,7 +169,8 @@ module _ (share : Float) {P : Point → Type 0} where
       same = unfold at in fun-ext (λ k. ends-later ns ms ps h on k)
 
   subdivide-later : (ns ms : List Point) (p : Part) → 0 < length (p .points) → Grown Anything (subdivide share ns p .nodes) ms
-      → Adds share P (p .points) (markAt p) (λ k. nodeFor ms (inMm (at (p .points) k))) → Adds share P (p .points) straight (λ k. nodeFor ms (inMm (at (p .points) k)))
+      → Adds share P (p .points) (markAt p) (λ k. nodeFor ms (inMm (at (p .points) k)))
+      → Adds share P (p .points) straight (λ k. nodeFor ms (inMm (at (p .points) k)))
       → Grown P ns (subdivide share ns p .nodes)
   subdivide-later ns ms p h g a b = subdivide-by share (λ (l : List Point). Grown Anything l ms → Grown P ns l) ns p once twice g
     where
@@ -172,21 +178,26 @@ module _ (share : Float) {P : Point → Type 0} where
       once g = attempt-later ns ms (p .points) (markAt p) h g a
 
       twice : Grown Anything (secondNodes share ns p) ms → Grown P ns (secondNodes share ns p)
-      twice g = grown-trans (once (grown-trans (attempt-any share (firstNodes share ns p) (p .points) straight) g)) (attempt-later (firstNodes share ns p) ms (p .points) straight h g b)
+      twice g =
+          grown-trans (once (grown-trans (attempt-any share (firstNodes share ns p) (p .points) straight) g))
+          (attempt-later (firstNodes share ns p) ms (p .points) straight h g b)
 
 -- ---- all pieces
 module _ (share : Float) (ring : Part) (ds : List CutLine) (ps : List Part) (ns : List Point) (f : CutFrom ring ds ps) where
   abbrev left : List Point
   left = nodesOf (piecesTo share ps ns (length ps))
 
-  next : (i : ℕ) (ms : List Point) (cs : List Cell) → piecesTo share ps ns i ≡ done ms cs → nodesOf (piecesTo share ps ns (suc i)) ≡ subdivide share ms (getD ps i noPart) .nodes
+  next : (i : ℕ) (ms : List Point) (cs : List Cell) → piecesTo share ps ns i ≡ done ms cs
+      → nodesOf (piecesTo share ps ns (suc i)) ≡ subdivide share ms (getD ps i noPart) .nodes
   next i ms cs e = unfold piecesTo in (ap (λ (o : Outcome). nodesOf (onward share o (getD ps i noPart))) e ∙ onward-done share ms cs (getD ps i noPart))
 
-  on : (i : ℕ) → i < length ps → (ms : List Point) (cs : List Cell) → piecesTo share ps ns i ≡ done ms cs → Grown Anything (subdivide share ms (getD ps i noPart) .nodes) left
+  on : (i : ℕ) → i < length ps → (ms : List Point) (cs : List Cell) → piecesTo share ps ns i ≡ done ms cs
+      → Grown Anything (subdivide share ms (getD ps i noPart) .nodes) left
   on i h ms cs e =
       let d : length ps - suc i + suc i ≡ length ps = omega arith in
       subst (λ (l : List Point). Grown Anything l left) (next i ms cs e)
-      (subst (λ (n : ℕ). Grown Anything (nodesOf (piecesTo share ps ns (suc i))) (nodesOf (piecesTo share ps ns n))) d (pieces-later share ps ns (suc i) (length ps - suc i)))
+      (subst (λ (n : ℕ). Grown Anything (nodesOf (piecesTo share ps ns (suc i))) (nodesOf (piecesTo share ps ns n))) d
+      (pieces-later share ps ns (suc i) (length ps - suc i)))
 
   pub pieces-covered : Grown (HasKeyOf (cover share ring ds ps left)) ns left
   pieces-covered =

@@ -1,5 +1,5 @@
--- The rim marks as the code sets them: the new places cleared one by one (`clear-next`), then those of the corners set and those of the middles of ring edges (`set-on`, `set-off`), is
--- what an attempt's asks leave (`marked`).
+-- The rim marks as the code sets them: the new places cleared one by one (`clear-next`), then those of the corners set and those of the middles of ring edges
+-- (`set-on`, `set-off`), is what an attempt's asks leave (`marked`).
 use Prim.Native.Nat.{ℕ, zero, suc, _+_, _-_, _≤_, _<_}
 use native.Mathlib.Numerals.{add-one}
 use native.Mathlib.Decide.{decLt, ℕ-discrete}
@@ -53,11 +53,15 @@ clear-at rs u (suc d) k h = go (decLt k (u + d)) (decLt (u + d) k) (decLt k u) (
 
     go : Dec (k < u + d) → Dec (u + d < k) → Dec (k < u) → getD ts k 0 ≡ kept u (u + d) k x → getD (set ts (u + d) 0) k 0 ≡ kept u (u + suc d) k x
     go (yes a) b (yes l) e = getD-set-other ts (u + d) k 0 0 (λ f. omega (arith, f, a)) ∙ e ∙ old u (u + d) k x l ∙ sym (old u (u + suc d) k x l)
-    go (yes a) b (no l) e = getD-set-other ts (u + d) k 0 0 (λ f. omega (arith, f, a)) ∙ e ∙ new u (u + d) k x (omega arith) a ∙ sym (new u (u + suc d) k x (omega arith) (omega (arith, a)))
-    go (no a) (yes b) l e = getD-set-other ts (u + d) k 0 0 (λ f. omega (arith, f, b)) ∙ e ∙ past u (u + d) k x (omega arith) ∙ sym (past u (u + suc d) k x (omega (arith, b)))
+    go (yes a) b (no l) e =
+        getD-set-other ts (u + d) k 0 0 (λ f. omega (arith, f, a)) ∙ e ∙ new u (u + d) k x (omega arith) a
+        ∙ sym (new u (u + suc d) k x (omega arith) (omega (arith, a)))
+    go (no a) (yes b) l e =
+        getD-set-other ts (u + d) k 0 0 (λ f. omega (arith, f, b)) ∙ e ∙ past u (u + d) k x (omega arith) ∙ sym (past u (u + suc d) k x (omega (arith, b)))
     go (no a) (no b) l e =
         let f : u + d ≡ k = omega arith in
-        ap (λ (i : ℕ). getD (set ts i 0) k 0) f ∙ getD-set-same ts k 0 0 (omega (arith, h, clear-length rs u d)) ∙ sym (new u (u + suc d) k x (omega (arith, f)) (omega (arith, f)))
+        ap (λ (i : ℕ). getD (set ts i 0) k 0) f ∙ getD-set-same ts k 0 0 (omega (arith, h, clear-length rs u d))
+        ∙ sym (new u (u + suc d) k x (omega (arith, f)) (omega (arith, f)))
 
 -- ---- setting
 module _ (rs ks : List ℕ) (bs : List Bool) where
@@ -67,7 +71,8 @@ module _ (rs ks : List ℕ) (bs : List Bool) where
 
   pub set-on : (ts : List ℕ) (i : ℕ) → ts ≡ setAt rs ks bs i → getD bs i false ≡ true → set ts (getD ks i 0) 1 ≡ setAt rs ks bs (i + 1)
   unfolding setAt
-  set-on ts i e b = rw (add-one i) ((λ j. set (e j) (getD ks i 0) 1) ∙ ap (λ (c : Bool). cond c (set (setAt rs ks bs i) (getD ks i 0) 1) (setAt rs ks bs i)) (sym b))
+  set-on ts i e b =
+      rw (add-one i) ((λ j. set (e j) (getD ks i 0) 1) ∙ ap (λ (c : Bool). cond c (set (setAt rs ks bs i) (getD ks i 0) 1) (setAt rs ks bs i)) (sym b))
 
   pub set-off : (ts : List ℕ) (i : ℕ) → ts ≡ setAt rs ks bs i → getD bs i false ≡ false → ts ≡ setAt rs ks bs (i + 1)
   unfolding setAt
@@ -105,11 +110,13 @@ module _ (rs ks : List ℕ) (bs : List Bool) where
       or-false true = refl
       or-false false = refl
 
-      go : (b : Bool) → Dec (getD ks n 0 ≡ k) → (a : Bool) → getD ts k 0 ≡ cond a 1 x → getD (cond b (set ts (getD ks n 0) 1) ts) k 0 ≡ cond (a || (b && eqb (getD ks n 0) k)) 1 x
+      go : (b : Bool) → Dec (getD ks n 0 ≡ k) → (a : Bool) → getD ts k 0 ≡ cond a 1 x
+          → getD (cond b (set ts (getD ks n 0) 1) ts) k 0 ≡ cond (a || (b && eqb (getD ks n 0) k)) 1 x
       go true (yes f) a e =
           ap (λ (i : ℕ). getD (set ts i 1) k 0) f ∙ getD-set-same ts k 1 0 (omega (arith, h, set-length n)) ∙ sym (or-true a)
           ∙ ap (λ (c : Bool). cond (a || c) 1 x) (sym (eq-eqb (getD ks n 0) k f))
-      go true (no f) a e = getD-set-other ts (getD ks n 0) k 1 0 (λ g. f (sym g)) ∙ e ∙ or-false a ∙ ap (λ (c : Bool). cond (a || c) 1 x) (sym (ne-eqb (getD ks n 0) k f))
+      go true (no f) a e =
+          getD-set-other ts (getD ks n 0) k 1 0 (λ g. f (sym g)) ∙ e ∙ or-false a ∙ ap (λ (c : Bool). cond (a || c) 1 x) (sym (ne-eqb (getD ks n 0) k f))
       go false f a e = e ∙ or-false a
 
 -- ---- an attempt
@@ -117,7 +124,8 @@ role-is : (b : Bool) → onRim (asMiddle b) ≡ b
 role-is true = refl
 role-is false = refl
 
-asked-at : (vs ms : List ℕ) (c : ℕ) (o : ℕ → Bool) (n k : ℕ) → onRimAt (asksFor vs ms c o n) k ≡ (any (λ i. eqb (getD vs i 0) k) n || any (λ i. o i && eqb (getD ms i 0) k) n)
+asked-at : (vs ms : List ℕ) (c : ℕ) (o : ℕ → Bool) (n k : ℕ)
+    → onRimAt (asksFor vs ms c o n) k ≡ (any (λ i. eqb (getD vs i 0) k) n || any (λ i. o i && eqb (getD ms i 0) k) n)
 unfolding asksFor
 asked-at vs ms c o n k =
     on-append (vA ++ mA) (ask c asCentre ∷ []) k
@@ -125,7 +133,8 @@ asked-at vs ms c o n k =
     ∙ tail (onRimAt vA k || onRimAt mA k)
     ∙ (λ j. on-tab (λ i. ask (getD vs i 0) asCorner) n k j || on-tab (λ i. ask (getD ms i 0) (asMiddle (o i))) n k j)
     ∙ ap (λ (b : Bool). any (λ i. eqb (getD vs i 0) k) n || b)
-    (any-ext (λ i. onRim (asMiddle (o i)) && eqb (getD ms i 0) k) (λ i. o i && eqb (getD ms i 0) k) n (λ i l. ap (λ (b : Bool). b && eqb (getD ms i 0) k) (role-is (o i))))
+    (any-ext (λ i. onRim (asMiddle (o i)) && eqb (getD ms i 0) k) (λ i. o i && eqb (getD ms i 0) k) n
+    (λ i l. ap (λ (b : Bool). b && eqb (getD ms i 0) k) (role-is (o i))))
   where
     vA : List Ask
     vA = tab (λ i. ask (getD vs i 0) asCorner) n
@@ -138,7 +147,8 @@ asked-at vs ms c o n k =
     tail false = refl
 
 -- u nodes were listed, v are; the code cleared, and set twice
-pub marked : (rs ts xs ys : List ℕ) (u v n : ℕ) (vs ms : List ℕ) (bs : List Bool) (c : ℕ) → u ≤ v → n ≤ 60 → ts ≡ cleared rs u (v - u) → xs ≡ setAt ts vs (replicate 60 true) n
+pub marked : (rs ts xs ys : List ℕ) (u v n : ℕ) (vs ms : List ℕ) (bs : List Bool) (c : ℕ) → u ≤ v → n ≤ 60 → ts ≡ cleared rs u (v - u)
+    → xs ≡ setAt ts vs (replicate 60 true) n
     → ys ≡ setAt xs ms bs n → ys ≡ rimsBy u v (asksFor (take n vs) (take n ms) c (sideAt bs) n) rs
 unfolding rimAt
 marked rs ts xs ys u v n vs ms bs c h few e f g = is-rims u v (asksFor (take n vs) (take n ms) c (sideAt bs) n) rs ys long at
@@ -171,7 +181,11 @@ marked rs ts xs ys u v n vs ms bs c h few e f g = is-rims u v (asksFor (take n v
         let w : u + (v - u) ≡ v = omega arith in
         ap (λ (y : List ℕ). getD y k 0) g ∙ set-at xs ms bs n k (omega (arith, l, x-long))
         ∙ (λ j. cond (middles k j) 1 ((ap (λ (x : List ℕ). getD x k 0) f ∙ set-at ts vs (replicate 60 true) n k (omega (arith, l, t-long))) j))
-        ∙ (λ j. cond (any (λ i. sideAt bs i && eqb (getD (take n ms) i 0) k) n) 1 (cond (corners k j) 1 ((ap (λ (x : List ℕ). getD x k 0) e ∙ clear-at rs u (v - u) k l) j)))
-        ∙ ap (λ (w : ℕ). cond (any (λ i. sideAt bs i && eqb (getD (take n ms) i 0) k) n) 1 (cond (any (λ i. eqb (getD (take n vs) i 0) k) n) 1 (kept u w k (getD rs k 0)))) w
+        ∙ (λ j. cond (any (λ i. sideAt bs i && eqb (getD (take n ms) i 0) k) n) 1
+        (cond (corners k j) 1 ((ap (λ (x : List ℕ). getD x k 0) e ∙ clear-at rs u (v - u) k l) j)))
+        ∙ ap
+        (λ (w : ℕ).
+        cond (any (λ i. sideAt bs i && eqb (getD (take n ms) i 0) k) n) 1 (cond (any (λ i. eqb (getD (take n vs) i 0) k) n) 1 (kept u w k (getD rs k 0))))
+        w
         ∙ both (any (λ i. eqb (getD (take n vs) i 0) k) n) (any (λ i. sideAt bs i && eqb (getD (take n ms) i 0) k) n) (kept u v k (getD rs k 0))
         ∙ ap (λ (b : Bool). cond b 1 (kept u v k (getD rs k 0))) (sym (asked-at (take n vs) (take n ms) c (sideAt bs) n k))

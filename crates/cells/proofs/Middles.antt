@@ -41,4 +41,6 @@ same-start share ns p h =
     again = addNodes-grown ms _ (length (p .points)) (λ i l. tt)
 
     corner : (i : ℕ) → end ms (p .points) i ≡ end ns (p .points) i
-    corner i = ends-later ms (corners ms (p .points) .nodes) (p .points) h (grown-refl {P = Anything} (corners ms (p .points) .nodes)) i ∙ sym (ends-later ns (corners ms (p .points) .nodes) (p .points) h (grown-trans first again) i)
+    corner i =
+        ends-later ms (corners ms (p .points) .nodes) (p .points) h (grown-refl {P = Anything} (corners ms (p .points) .nodes)) i
+        ∙ sym (ends-later ns (corners ms (p .points) .nodes) (p .points) h (grown-trans first again) i)

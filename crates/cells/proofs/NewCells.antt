@@ -31,14 +31,16 @@ use Rattle.cells.proofs.Attempts.{onward-done, pieces-next}
 
 pub listed-later : (m n : ℕ) → m ≤ n → (l : List Cell) → All (Listed m) l → All (Listed n) l
 listed-later m n h l a =
-    all-weaken (Listed m) (Listed n) (λ q b. record { a = lt-of-lt-of-le (b .a) h; b = lt-of-lt-of-le (b .b) h; c = lt-of-lt-of-le (b .c) h; d = lt-of-lt-of-le (b .d) h }) l a
+    all-weaken (Listed m) (Listed n)
+    (λ q b. record { a = lt-of-lt-of-le (b .a) h; b = lt-of-lt-of-le (b .b) h; c = lt-of-lt-of-le (b .c) h; d = lt-of-lt-of-le (b .d) h }) l a
 
 -- ---- the cells of n middles and n corners whose numbers are below m
 module _ (m c : ℕ) (ms vs : List ℕ) where
   abbrev cell : ℕ → Cell
   cell k = record { a = c; b = getD ms k 0; c = getD vs (suc k % length vs) 0; d = getD ms (suc k % length ms) 0 }
 
-  cells-listed : (n k : ℕ) → c < m → ((i : ℕ) → i < n → getD ms i 0 < m) → ((i : ℕ) → i < n → getD vs i 0 < m) → length ms ≡ n → length vs ≡ n → k ≤ n → All (Listed m) (cellsTo c ms vs k)
+  cells-listed : (n k : ℕ) → c < m → ((i : ℕ) → i < n → getD ms i 0 < m) → ((i : ℕ) → i < n → getD vs i 0 < m) → length ms ≡ n → length vs ≡ n → k ≤ n
+      → All (Listed m) (cellsTo c ms vs k)
   unfolding cellsTo
   cells-listed n zero h f g u v l = tt
   cells-listed n (suc k) h f g u v l =
@@ -93,7 +95,8 @@ module _ (share : Float) where
       go false = attempt-cells (t .nodes) (p .points) straight
 
   -- ---- pieces one after the other
-  onward-cells : (n : ℕ) (o : Outcome) (p : Part) → CellsOf n o → Grown Anything (nodesOf o) (nodesOf (onward share o p)) → CellsOf (n + length (p .points)) (onward share o p)
+  onward-cells : (n : ℕ) (o : Outcome) (p : Part) → CellsOf n o → Grown Anything (nodesOf o) (nodesOf (onward share o p))
+      → CellsOf (n + length (p .points)) (onward share o p)
   unfolding onward
   onward-cells n (failed ns m k) p h g = tt
   onward-cells n (done ns cs) p h g = go (eqb (t .fails) (length (p .points))) (subst (λ (l : List Point). Grown Anything ns l) (onward-done share ns cs p) g)
@@ -101,10 +104,13 @@ module _ (share : Float) where
       t : Attempt
       t = subdivide share ns p
 
-      go : (b : Bool) → Grown Anything ns (t .nodes) → CellsOf (n + length (p .points)) (cond b (done (t .nodes) (cs ++ t .cells)) (failed (t .nodes) (length (p .points)) (t .fails)))
+      go : (b : Bool) → Grown Anything ns (t .nodes)
+          → CellsOf (n + length (p .points)) (cond b (done (t .nodes) (cs ++ t .cells)) (failed (t .nodes) (length (p .points)) (t .fails)))
       go true g =
-          let s = subdivide-cells ns p in
-          (omega (arith, length-append cs (t .cells), h .0, s .many), all-append (Listed (length (t .nodes))) cs (t .cells) (listed-later (length ns) (length (t .nodes)) (g .longer) cs (h .1)) (s .listed))
+          let s = subdivide-cells ns p in (
+            omega (arith, length-append cs (t .cells), h .0, s .many),
+            all-append (Listed (length (t .nodes))) cs (t .cells) (listed-later (length ns) (length (t .nodes)) (g .longer) cs (h .1)) (s .listed),
+          )
       go false g = tt
 
   pub pieces-cells : (ps : List Part) (ns : List Point) (i : ℕ) → CellsOf (cornersTo ps i) (piecesTo share ps ns i)

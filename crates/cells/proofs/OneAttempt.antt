@@ -81,7 +81,8 @@ askWith share ns ps e o n =
     let cs = addNodes (ms .nodes) (λ i. mean a n) 1 in
     asksFor (vs .numbers) (ms .numbers) (getD (cs .numbers) 0 0) o n
 
-same-asks : (share : Float) (ns : List Point) (ps : List GridPoint) (e : ℕ → EdgeMark) (o : ℕ → Bool) → askWith share ns ps e o (length ps) ≡ attemptAsks share ns ps e o
+same-asks : (share : Float) (ns : List Point) (ps : List GridPoint) (e : ℕ → EdgeMark) (o : ℕ → Bool)
+    → askWith share ns ps e o (length ps) ≡ attemptAsks share ns ps e o
 unfolding attemptAsks
 same-asks share ns ps e o = refl
 
@@ -100,7 +101,9 @@ module _ (share : Float) (l : List Float) (u : ℕ) (piece : MarkedRing) where
   A = tryWith share (nodesIn l u) (pointsOf (piece .ring)) (markAt (partIn piece)) (piece .ring .count)
 
   vs-ms : length (Vs .nodes) ≤ length (Ms .nodes)
-  vs-ms = addNodes-grown {P = Anything} (Vs .nodes) (λ i. edgeMiddle share (getD (marksIn (piece .edges) (piece .ring .count)) i Straight) (end i) (end (suc i))) (piece .ring .count) (λ i h. tt) .longer
+  vs-ms =
+      addNodes-grown {P = Anything} (Vs .nodes) (λ i. edgeMiddle share (getD (marksIn (piece .edges) (piece .ring .count)) i Straight) (end i) (end (suc i)))
+      (piece .ring .count) (λ i h. tt) .longer
 
   ms-all : length (Ms .nodes) ≤ length (A .nodes)
   unfolding addNodes
@@ -111,7 +114,9 @@ module _ {share : Float} {l : List Float} {u : ℕ} {piece : MarkedRing} (f : Ca
   corners = length-take-le (piece .ring .count) (piece .ring .points) (room (piece .ring) (f .sheet))
 
   try-is : A share l u piece ≡ attemptIn share l u piece
-  try-is = ap (tryWith share (nodesIn l u) (pointsOf (piece .ring)) (markAt (partIn piece))) (sym corners) ∙ same-try share (nodesIn l u) (pointsOf (piece .ring)) (markAt (partIn piece))
+  try-is =
+      ap (tryWith share (nodesIn l u) (pointsOf (piece .ring)) (markAt (partIn piece))) (sym corners)
+      ∙ same-try share (nodesIn l u) (pointsOf (piece .ring)) (markAt (partIn piece))
 
   all-fit : length (A share l u piece .nodes) ≤ mostPlaces
   all-fit = omega (arith, ap (λ (t : Attempt). length (t .nodes)) try-is, f .fits)
@@ -140,8 +145,10 @@ module _ {share : Float} {l : List Float} {u : ℕ} {piece : MarkedRing} (f : Ca
     end-ranged : (i : ℕ) → InRange (endAt m v vs (piece .ring .count) i)
     end-ranged i =
         let h = mod-lt i (f .some) in
-        let k : getD (take (piece .ring .count) vs) (i % (piece .ring .count)) 0 < v = subst (λ (k : ℕ). k < v) (sym (getD-take (piece .ring .count) vs (i % (piece .ring .count)) 0 h)) (adding.listed s (i % (piece .ring .count)) h) in
-        subst InRange (sym (node-in m v (getD (take (piece .ring .count) vs) (i % (piece .ring .count)) 0) k)) (after-corners .ranged (getD (take (piece .ring .count) vs) (i % (piece .ring .count)) 0) k)
+        let k : getD (take (piece .ring .count) vs) (i % (piece .ring .count)) 0 < v =
+        subst (λ (k : ℕ). k < v) (sym (getD-take (piece .ring .count) vs (i % (piece .ring .count)) 0 h)) (adding.listed s (i % (piece .ring .count)) h) in
+        subst InRange (sym (node-in m v (getD (take (piece .ring .count) vs) (i % (piece .ring .count)) 0) k))
+        (after-corners .ranged (getD (take (piece .ring .count) vs) (i % (piece .ring .count)) 0) k)
 
     vs-now : nodesIn m v ≡ Vs share l u piece .nodes
     vs-now = adding.now-is s
@@ -150,7 +157,9 @@ module _ {share : Float} {l : List Float} {u : ℕ} {piece : MarkedRing} (f : Ca
     end-is i = λ j. nodeAt (vs-now j) (getD (s .numbers j) (i % (piece .ring .count)) 0)
 
     ms-is : addNodes (nodesIn m v) (middleAt share m v vs (piece .edges) (piece .ring .count)) (piece .ring .count) ≡ Ms share l u piece
-    ms-is = λ j. addNodes (vs-now j) (λ i. edgeMiddle share (getD (marksIn (piece .edges) (piece .ring .count)) i Straight) (end-is i j) (end-is (suc i) j)) (piece .ring .count)
+    ms-is =
+        λ j. addNodes (vs-now j) (λ i. edgeMiddle share (getD (marksIn (piece .edges) (piece .ring .count)) i Straight) (end-is i j) (end-is (suc i) j))
+        (piece .ring .count)
 
     pub add-middles : CanAdd m v (middleAt share m v vs (piece .edges) (piece .ring .count)) (piece .ring .count)
     add-middles =
@@ -161,7 +170,8 @@ module _ {share : Float} {l : List Float} {u : ℕ} {piece : MarkedRing} (f : Ca
           some = f .some;
           few = f .sheet .count;
           ranged = λ j h.
-              edge-by share InRange (getD (marksIn (piece .edges) (piece .ring .count)) j Straight) (endAt m v vs (piece .ring .count) j) (endAt m v vs (piece .ring .count) (suc j))
+              edge-by share InRange (getD (marksIn (piece .edges) (piece .ring .count)) j Straight) (endAt m v vs (piece .ring .count) j)
+              (endAt m v vs (piece .ring .count) (suc j))
               (middle-ranged (endAt m v vs (piece .ring .count) j) (endAt m v vs (piece .ring .count) (suc j)) (end-ranged j) (end-ranged (suc j)))
               (λ q e. f .fair .snap j q (omega (arith, corners)) e);
           fits = omega (arith, a, all-fit, b);
@@ -169,108 +179,135 @@ module _ {share : Float} {l : List Float} {u : ℕ} {piece : MarkedRing} (f : Ca
         }
 
     -- the middles are added: m' with w nodes, their numbers in ks
-    module _ {m' : List Float} {w : ℕ} {ks : List ℕ} (t : Adds m v (middleAt share m v vs (piece .edges) (piece .ring .count)) (piece .ring .count) m' w ks) where
-      pub after-middles : Usable m' w
-      after-middles = adding.usable add-middles t (le-refl (piece .ring .count))
+    module _ {m' : List Float} {w : ℕ} {ks : List ℕ} (t : Adds m v (middleAt share m v vs (piece .edges) (piece .ring .count)) (piece .ring .count) m' w ks)
+      where
+        pub after-middles : Usable m' w
+        after-middles = adding.usable add-middles t (le-refl (piece .ring .count))
 
-      pub corner-room : (j : ℕ) → j < (piece .ring .count) → getD vs j 0 * 2 + 2 ≤ length m'
-      corner-room j h = omega (arith, adding.listed s j h, after-middles .room, adding.used-more add-middles t)
+        pub corner-room : (j : ℕ) → j < (piece .ring .count) → getD vs j 0 * 2 + 2 ≤ length m'
+        corner-room j h = omega (arith, adding.listed s j h, after-middles .room, adding.used-more add-middles t)
 
-      -- a corner, read from the list as it is now
-      corner-is : (i : ℕ) → i < (piece .ring .count) → nodeIn m' (getD vs i 0) ≡ endAt m v vs (piece .ring .count) i
-      corner-is i h = adding.read t (getD vs i 0) (adding.listed s i h) ∙ ap (nodeAt (nodesIn m v)) (turns.here vs (piece .ring .count) i h)
+        -- a corner, read from the list as it is now
+        corner-is : (i : ℕ) → i < (piece .ring .count) → nodeIn m' (getD vs i 0) ≡ endAt m v vs (piece .ring .count) i
+        corner-is i h = adding.read t (getD vs i 0) (adding.listed s i h) ∙ ap (nodeAt (nodesIn m v)) (turns.here vs (piece .ring .count) i h)
 
-      centre-is : mean (λ i. nodeIn m' (getD vs i 0)) (piece .ring .count) ≡ mean (endAt m v vs (piece .ring .count)) (piece .ring .count)
-      centre-is = mean-ext (λ i. nodeIn m' (getD vs i 0)) (endAt m v vs (piece .ring .count)) (piece .ring .count) corner-is
+        centre-is : mean (λ i. nodeIn m' (getD vs i 0)) (piece .ring .count) ≡ mean (endAt m v vs (piece .ring .count)) (piece .ring .count)
+        centre-is = mean-ext (λ i. nodeIn m' (getD vs i 0)) (endAt m v vs (piece .ring .count)) (piece .ring .count) corner-is
 
-      ms-now : nodesIn m' w ≡ Ms share l u piece .nodes
-      ms-now = adding.now-is t ∙ ap (λ (e : Added). e .nodes) ms-is
+        ms-now : nodesIn m' w ≡ Ms share l u piece .nodes
+        ms-now = adding.now-is t ∙ ap (λ (e : Added). e .nodes) ms-is
 
-      -- the centre p
-      module _ {p : Point} (c : p ≡ mean (λ i. nodeIn m' (getD vs i 0)) (piece .ring .count)) where
-        pub centre-ranged : InRange p
-        centre-ranged = subst InRange (sym (c ∙ centre-is)) (mean-ranged (endAt m v vs (piece .ring .count)) (piece .ring .count) (f .some) (f .sheet .count) (λ i h. end-ranged i))
+        -- the centre p
+        module _ {p : Point} (c : p ≡ mean (λ i. nodeIn m' (getD vs i 0)) (piece .ring .count)) where
+          pub centre-ranged : InRange p
+          centre-ranged =
+              subst InRange (sym (c ∙ centre-is))
+              (mean-ranged (endAt m v vs (piece .ring .count)) (piece .ring .count) (f .some) (f .sheet .count) (λ i h. end-ranged i))
 
-        p-is : p ≡ mean (end share l u piece) (piece .ring .count)
-        p-is = c ∙ centre-is ∙ (λ j. mean (λ i. end-is i j) (piece .ring .count))
+          p-is : p ≡ mean (end share l u piece) (piece .ring .count)
+          p-is = c ∙ centre-is ∙ (λ j. mean (λ i. end-is i j) (piece .ring .count))
 
-        all-is : addNode (nodesIn m' w) p ≡ A share l u piece .nodes
-        unfolding addNodes
-        all-is = λ j. addNode (ms-now j) (p-is j)
-
-        pub centre-room : length (addNode (nodesIn m' w) p) * 2 ≤ length m'
-        centre-room = omega (arith, ap length all-is, all-room, adding.same-size add-middles t (le-refl (piece .ring .count)), adding.same-size add-corners s (le-refl (piece .ring .count)))
-
-        -- it is added: m'', and r
-        module _ {r : Placed} {m'' : List Float} (er : r ≡ placed (nodesIn m' w) p) (em : m'' ≡ over m' (addNode (nodesIn m' w) p)) where
-          r-is : r ≡ placed (Ms share l u piece .nodes) (mean (end share l u piece) (piece .ring .count))
-          r-is = er ∙ (λ j. placed (ms-now j) (p-is j))
-
-          nodes-is : m'' ≡ over l (A share l u piece .nodes)
+          all-is : addNode (nodesIn m' w) p ≡ A share l u piece .nodes
           unfolding addNodes
-          nodes-is =
-              em
-              ∙ (λ j. over (t .nodes j) (all-is j))
-              ∙ (λ j. over (over (s .nodes j) (ms-is j .nodes)) (A share l u piece .nodes))
-              ∙ ap (λ (x : List Float). over x (A share l u piece .nodes)) (over-over l (Vs share l u piece .nodes) (Ms share l u piece .nodes) (vs-ms share l u piece))
-              ∙ over-over l (Ms share l u piece .nodes) (A share l u piece .nodes) (ms-all share l u piece)
+          all-is = λ j. addNode (ms-now j) (p-is j)
 
-          cells-is : cellsTo (r .number) (take (piece .ring .count) ks) (take (piece .ring .count) vs) (piece .ring .count) ≡ A share l u piece .cells
-          unfolding addNodes
-          cells-is = λ j. cellsTo (r-is j .number) ((t .numbers ∙ ap (λ (e : Added). e .numbers) ms-is) j) (s .numbers j) (piece .ring .count)
-
-          used-is : r .used ≡ length (A share l u piece .nodes)
-          unfolding addNodes
-          used-is = ap (λ (r : Placed). r .used) r-is
-
-          all-now : nodesIn m'' (r .used) ≡ A share l u piece .nodes
-          all-now = (λ j. nodesIn (nodes-is j) (used-is j)) ∙ in-over l (A share l u piece .nodes)
-
-          pub centre-listed : r .number < r .used
-          centre-listed = subst (λ (r : Placed). r .number < r .used) (sym r-is) (addNode-number (Ms share l u piece .nodes) (mean (end share l u piece) (piece .ring .count)) .low)
-
-          pub used-room : r .used * 2 ≤ length m''
-          used-room = omega (arith, used-is, ap length nodes-is ∙ length-over l (A share l u piece .nodes) all-room, all-room)
-
-          more : w ≤ r .used
-          more = omega (arith, ap (λ (r : Placed). r .used) er, addNode-grown {P = Anything} (nodesIn m' w) p tt .longer, length-in m' w)
-
-          pub middles-listed : ListedTo (r .used) ks (piece .ring .count)
-          middles-listed j h = omega (arith, adding.listed t j h, more)
-
-          pub corners-listed : ListedTo (r .used) vs (piece .ring .count)
-          corners-listed j h = omega (arith, adding.listed s j h, adding.used-more add-middles t, more)
-
-          -- the rim marks: rs before, qs after
-          pub used-up : u ≤ r .used
-          used-up = omega (arith, adding.used-more add-corners s, adding.used-more add-middles t, more)
-
-          pub used-all : r .used ≡ length (attemptIn share l u piece .nodes)
-          used-all = used-is ∙ ap (λ (t : Attempt). length (t .nodes)) try-is
-
-          asks-is : (o : ℕ → Bool) → asksFor (take (piece .ring .count) vs) (take (piece .ring .count) ks) (r .number) o (piece .ring .count) ≡ askWith share (nodesIn l u) (pointsOf (piece .ring)) (markAt (partIn piece)) o (piece .ring .count)
-          unfolding addNodes
-          asks-is o = λ j. asksFor (s .numbers j) ((t .numbers ∙ ap (λ (e : Added). e .numbers) ms-is) j) (r-is j .number) o (piece .ring .count)
-
-          pub rims-are : (bs : List Bool) (rs : List ℕ) {qs : List ℕ} → qs ≡ rimsBy u (r .used) (asksFor (take (piece .ring .count) vs) (take (piece .ring .count) ks) (r .number) (sideAt bs) (piece .ring .count)) rs
-              → qs ≡ rimsBy u (length (attemptIn share l u piece .nodes)) (attemptAsksIn share l u piece bs) rs
-          rims-are bs rs e =
-              let a = ap (askWith share (nodesIn l u) (pointsOf (piece .ring)) (markAt (partIn piece)) (sideAt bs)) (sym corners) ∙ same-asks share (nodesIn l u) (pointsOf (piece .ring)) (markAt (partIn piece)) (sideAt bs) in
-              e ∙ (λ j. rimsBy u (used-all j) ((asks-is (sideAt bs) ∙ a) j) rs)
-
-          -- what the function answers
-          pub answer : (q : List ℕ) (bs : List Bool) (rs : List ℕ) {b : Bool} {k : ℕ} {q' qs : List ℕ} → b ≡ any (farAt share m v vs (piece .edges) (piece .ring .count)) (piece .ring .count)
-              → k ≡ first (λ k. not (holds (nodesIn m'' (r .used)) (getD (cellsTo (r .number) (take (piece .ring .count) ks) (take (piece .ring .count) vs) (piece .ring .count)) k noCell))) (piece .ring .count) 0
-              → q' ≡ overCells q (cellsTo (r .number) (take (piece .ring .count) ks) (take (piece .ring .count) vs) (piece .ring .count))
-              → qs ≡ rimsBy u (r .used) (asksFor (take (piece .ring .count) vs) (take (piece .ring .count) ks) (r .number) (sideAt bs) (piece .ring .count)) rs
-              → (_≡_ {A = Tried} (record { used = r .used; fails = k; far = b }) (triedOf (attemptIn share l u piece)))
-              × (m'' ≡ over l (attemptIn share l u piece .nodes)) × (q' ≡ overCells q (attemptIn share l u piece .cells))
-              × (qs ≡ rimsBy u (length (attemptIn share l u piece .nodes)) (attemptAsksIn share l u piece bs) rs)
-          answer q bs rs {b} {k} {q'} eb ek eq et =
-              let eb' : b ≡ A share l u piece .far = eb ∙ (λ j. any (λ i. tooFar share (getD (marksIn (piece .edges) (piece .ring .count)) i Straight) (end-is i j) (end-is (suc i) j)) (piece .ring .count)) in
-              let ek' : k ≡ A share l u piece .fails = ek ∙ (λ j. first (λ k. not (holds (all-now j) (getD (cells-is j) k noCell))) (piece .ring .count) 0) in (
-                (λ j. record { used = used-is j; fails = ek' j; far = eb' j }) ∙ ap triedOf try-is,
-                nodes-is ∙ ap (λ (t : Attempt). over l (t .nodes)) try-is,
-                eq ∙ ap (overCells q) cells-is ∙ ap (λ (t : Attempt). overCells q (t .cells)) try-is,
-                rims-are bs rs et,
+          pub centre-room : length (addNode (nodesIn m' w) p) * 2 ≤ length m'
+          centre-room =
+              omega (
+                arith,
+                ap length all-is,
+                all-room,
+                adding.same-size add-middles t (le-refl (piece .ring .count)),
+                adding.same-size add-corners s (le-refl (piece .ring .count)),
               )
+
+          -- it is added: m'', and r
+          module _ {r : Placed} {m'' : List Float} (er : r ≡ placed (nodesIn m' w) p) (em : m'' ≡ over m' (addNode (nodesIn m' w) p)) where
+            r-is : r ≡ placed (Ms share l u piece .nodes) (mean (end share l u piece) (piece .ring .count))
+            r-is = er ∙ (λ j. placed (ms-now j) (p-is j))
+
+            nodes-is : m'' ≡ over l (A share l u piece .nodes)
+            unfolding addNodes
+            nodes-is =
+                em
+                ∙ (λ j. over (t .nodes j) (all-is j))
+                ∙ (λ j. over (over (s .nodes j) (ms-is j .nodes)) (A share l u piece .nodes))
+                ∙ ap (λ (x : List Float). over x (A share l u piece .nodes))
+                (over-over l (Vs share l u piece .nodes) (Ms share l u piece .nodes) (vs-ms share l u piece))
+                ∙ over-over l (Ms share l u piece .nodes) (A share l u piece .nodes) (ms-all share l u piece)
+
+            cells-is : cellsTo (r .number) (take (piece .ring .count) ks) (take (piece .ring .count) vs) (piece .ring .count) ≡ A share l u piece .cells
+            unfolding addNodes
+            cells-is = λ j. cellsTo (r-is j .number) ((t .numbers ∙ ap (λ (e : Added). e .numbers) ms-is) j) (s .numbers j) (piece .ring .count)
+
+            used-is : r .used ≡ length (A share l u piece .nodes)
+            unfolding addNodes
+            used-is = ap (λ (r : Placed). r .used) r-is
+
+            all-now : nodesIn m'' (r .used) ≡ A share l u piece .nodes
+            all-now = (λ j. nodesIn (nodes-is j) (used-is j)) ∙ in-over l (A share l u piece .nodes)
+
+            pub centre-listed : r .number < r .used
+            centre-listed =
+                subst (λ (r : Placed). r .number < r .used) (sym r-is)
+                (addNode-number (Ms share l u piece .nodes) (mean (end share l u piece) (piece .ring .count)) .low)
+
+            pub used-room : r .used * 2 ≤ length m''
+            used-room = omega (arith, used-is, ap length nodes-is ∙ length-over l (A share l u piece .nodes) all-room, all-room)
+
+            more : w ≤ r .used
+            more = omega (arith, ap (λ (r : Placed). r .used) er, addNode-grown {P = Anything} (nodesIn m' w) p tt .longer, length-in m' w)
+
+            pub middles-listed : ListedTo (r .used) ks (piece .ring .count)
+            middles-listed j h = omega (arith, adding.listed t j h, more)
+
+            pub corners-listed : ListedTo (r .used) vs (piece .ring .count)
+            corners-listed j h = omega (arith, adding.listed s j h, adding.used-more add-middles t, more)
+
+            -- the rim marks: rs before, qs after
+            pub used-up : u ≤ r .used
+            used-up = omega (arith, adding.used-more add-corners s, adding.used-more add-middles t, more)
+
+            pub used-all : r .used ≡ length (attemptIn share l u piece .nodes)
+            used-all = used-is ∙ ap (λ (t : Attempt). length (t .nodes)) try-is
+
+            asks-is : (o : ℕ → Bool)
+                → asksFor (take (piece .ring .count) vs) (take (piece .ring .count) ks) (r .number) o (piece .ring .count) ≡ askWith share (nodesIn l u)
+                (pointsOf (piece .ring)) (markAt (partIn piece)) o (piece .ring .count)
+            unfolding addNodes
+            asks-is o = λ j. asksFor (s .numbers j) ((t .numbers ∙ ap (λ (e : Added). e .numbers) ms-is) j) (r-is j .number) o (piece .ring .count)
+
+            pub rims-are : (bs : List Bool) (rs : List ℕ) {qs : List ℕ}
+                → qs ≡ rimsBy u (r .used) (asksFor (take (piece .ring .count) vs) (take (piece .ring .count) ks) (r .number) (sideAt bs)
+                (piece .ring .count)) rs
+                → qs ≡ rimsBy u (length (attemptIn share l u piece .nodes)) (attemptAsksIn share l u piece bs) rs
+            rims-are bs rs e =
+                let a =
+                ap (askWith share (nodesIn l u) (pointsOf (piece .ring)) (markAt (partIn piece)) (sideAt bs)) (sym corners)
+                ∙ same-asks share (nodesIn l u) (pointsOf (piece .ring)) (markAt (partIn piece)) (sideAt bs) in
+                e ∙ (λ j. rimsBy u (used-all j) ((asks-is (sideAt bs) ∙ a) j) rs)
+
+            -- what the function answers
+            pub answer : (q : List ℕ) (bs : List Bool) (rs : List ℕ) {b : Bool} {k : ℕ} {q' qs : List ℕ}
+                → b ≡ any (farAt share m v vs (piece .edges) (piece .ring .count)) (piece .ring .count)
+                → k ≡ first (λ k. not (holds (nodesIn m'' (r .used))
+                (getD (cellsTo (r .number) (take (piece .ring .count) ks) (take (piece .ring .count) vs) (piece .ring .count)) k noCell))) (piece .ring .count)
+                0
+                → q' ≡ overCells q (cellsTo (r .number) (take (piece .ring .count) ks) (take (piece .ring .count) vs) (piece .ring .count))
+                → qs ≡ rimsBy u (r .used) (asksFor (take (piece .ring .count) vs) (take (piece .ring .count) ks) (r .number) (sideAt bs)
+                (piece .ring .count)) rs
+                → (_≡_ {A = Tried} (record { used = r .used; fails = k; far = b }) (triedOf (attemptIn share l u piece)))
+                × (m'' ≡ over l (attemptIn share l u piece .nodes)) × (q' ≡ overCells q (attemptIn share l u piece .cells))
+                × (qs ≡ rimsBy u (length (attemptIn share l u piece .nodes)) (attemptAsksIn share l u piece bs) rs)
+            answer q bs rs {b} {k} {q'} eb ek eq et =
+                let eb' : b ≡ A share l u piece .far =
+                eb
+                ∙ (λ j.
+                any (λ i. tooFar share (getD (marksIn (piece .edges) (piece .ring .count)) i Straight) (end-is i j) (end-is (suc i) j)) (piece .ring .count)) in
+                let ek' : k ≡ A share l u piece .fails =
+                ek ∙ (λ j. first (λ k. not (holds (all-now j) (getD (cells-is j) k noCell))) (piece .ring .count) 0) in (
+                  (λ j. record { used = used-is j; fails = ek' j; far = eb' j }) ∙ ap triedOf try-is,
+                  nodes-is ∙ ap (λ (t : Attempt). over l (t .nodes)) try-is,
+                  eq ∙ ap (overCells q) cells-is ∙ ap (λ (t : Attempt). overCells q (t .cells)) try-is,
+                  rims-are bs rs et,
+                )

@@ -42,21 +42,28 @@ module _ (share : Float) where
 
   over-cons : (ns : List Point) (cs : List Cell) (p : Part) (ps : List Part) → subdivide share ns p .fails ≡ length (p .points)
       → (o : Outcome) → OverFrom (subdivide share ns p .nodes) (cs ++ subdivide share ns p .cells) ps o → OverFrom ns cs (p ∷ ps) o
-  over-cons ns cs p ps e (done ms ds) h =
-      (h .0, h .1 ∙ append-assoc cs (subdivide share ns p .cells) (cellsOver share (subdivide share ns p .nodes) ps), (subdivide-cells share ns p .many, e, h .2))
+  over-cons ns cs p ps e (done ms ds) h = (
+    h .0,
+    h .1 ∙ append-assoc cs (subdivide share ns p .cells) (cellsOver share (subdivide share ns p .nodes) ps),
+    (subdivide-cells share ns p .many, e, h .2),
+  )
   over-cons ns cs p ps e (failed ms n k) h = tt
 
   over : (ns : List Point) (cs : List Cell) (ps : List Part) → OverFrom ns cs ps (after (done ns cs) ps (length ps))
   unfolding onward
   over ns cs [] = (refl, sym (append-nil cs), tt)
-  over ns cs (p ∷ ps) = subst (OverFrom ns cs (p ∷ ps)) (sym (after-cons (done ns cs) p ps (length ps))) (go (eqb (t .fails) (length (p .points))) refl (over (t .nodes) (cs ++ t .cells) ps))
+  over ns cs (p ∷ ps) =
+      subst (OverFrom ns cs (p ∷ ps)) (sym (after-cons (done ns cs) p ps (length ps)))
+      (go (eqb (t .fails) (length (p .points))) refl (over (t .nodes) (cs ++ t .cells) ps))
     where
       t : Attempt
       t = subdivide share ns p
 
-      go : (b : Bool) → eqb (t .fails) (length (p .points)) ≡ b → OverFrom (t .nodes) (cs ++ t .cells) ps (after (done (t .nodes) (cs ++ t .cells)) ps (length ps))
+      go : (b : Bool) → eqb (t .fails) (length (p .points)) ≡ b
+          → OverFrom (t .nodes) (cs ++ t .cells) ps (after (done (t .nodes) (cs ++ t .cells)) ps (length ps))
           → OverFrom ns cs (p ∷ ps) (after (cond b (done (t .nodes) (cs ++ t .cells)) (failed (t .nodes) (length (p .points)) (t .fails))) ps (length ps))
-      go true e h = over-cons ns cs p ps (eqb→eq (t .fails) (length (p .points)) (subst T (sym e) tt)) (after (done (t .nodes) (cs ++ t .cells)) ps (length ps)) h
+      go true e h =
+          over-cons ns cs p ps (eqb→eq (t .fails) (length (p .points)) (subst T (sym e) tt)) (after (done (t .nodes) (cs ++ t .cells)) ps (length ps)) h
       go false e h = subst (OverFrom ns cs (p ∷ ps)) (sym (after-failed (t .nodes) (length (p .points)) (t .fails) ps (length ps))) tt
 
   over-start : (ns : List Point) (ps : List Part) (o : Outcome) → OverFrom ns [] ps o → Over share ns ps o

@@ -74,12 +74,16 @@ straight≢snap q e = let z : _≡_ {A = ℕ} 0 1 = cc in omega arith
 
 -- ---- an attempt, a piece, all pieces
 module _ (share : Float) where
-  pub attempt-ranged : (ns : List Point) (p : Part) (e : ℕ → EdgeMark) → ValidPiece p → ((i : ℕ) (q : Point) → i < length (p .points) → e i ≡ Snap q → InRange q) → EachNode InRange ns → Grown InRange ns (attempt share ns (p .points) e .nodes)
+  pub attempt-ranged : (ns : List Point) (p : Part) (e : ℕ → EdgeMark) → ValidPiece p
+      → ((i : ℕ) (q : Point) → i < length (p .points) → e i ≡ Snap q → InRange q) → EachNode InRange ns
+      → Grown InRange ns (attempt share ns (p .points) e .nodes)
   attempt-ranged ns p e f g a =
       attempt-grown share ns ps e
       (record {
         corner = new;
-        middle = λ i l. edge-by share InRange (e i) (end ns ps i) (end ns ps (suc i)) (middle-ranged (end ns ps i) (end ns ps (suc i)) (ends i) (ends (suc i))) (λ q u. g i q l u);
+        middle =
+            λ i l. edge-by share InRange (e i) (end ns ps i) (end ns ps (suc i)) (middle-ranged (end ns ps i) (end ns ps (suc i)) (ends i) (ends (suc i)))
+            (λ q u. g i q l u);
         centre = mean-ranged (end ns ps) (length ps) (f .some) (f .few) (λ i l. ends i);
       })
     where
@@ -91,17 +95,21 @@ module _ (share : Float) where
 
       ends : (i : ℕ) → InRange (end ns ps i)
       ends i =
-          grown-each {P = InRange} ns (corners ns ps .nodes) (addNodes-grown ns (λ i. inMm (getD ps i origin)) (length ps) new) a (getD (corners ns ps .numbers) (i % length ps) 0)
+          grown-each {P = InRange} ns (corners ns ps .nodes) (addNodes-grown ns (λ i. inMm (getD ps i origin)) (length ps) new) a
+          (getD (corners ns ps .numbers) (i % length ps) 0)
           (addNodes-number ns (λ i. inMm (getD ps i origin)) (length ps) (i % length ps) (mod-lt i (f .some)) .low)
 
   pub subdivide-ranged : (ns : List Point) (p : Part) → ValidPiece p → EachNode InRange ns → Grown InRange ns (subdivide share ns p .nodes)
   subdivide-ranged ns p f a =
-      subdivide-grown share ns p first (attempt-ranged (firstNodes share ns p) p straight f (λ i q l e. absurd (straight≢snap q e)) (grown-each {P = InRange} ns (firstNodes share ns p) first a))
+      subdivide-grown share ns p first
+      (attempt-ranged (firstNodes share ns p) p straight f (λ i q l e. absurd (straight≢snap q e))
+      (grown-each {P = InRange} ns (firstNodes share ns p) first a))
     where
       first : Grown InRange ns (firstNodes share ns p)
       first = attempt-ranged ns p (markAt p) f (f .snap) a
 
-  pub pieces-ranged : (ps : List Part) (ns : List Point) (n : ℕ) → ((i : ℕ) → i < n → ValidPiece (getD ps i noPart)) → EachNode InRange ns → Grown InRange ns (nodesOf (piecesTo share ps ns n))
+  pub pieces-ranged : (ps : List Part) (ns : List Point) (n : ℕ) → ((i : ℕ) → i < n → ValidPiece (getD ps i noPart)) → EachNode InRange ns
+      → Grown InRange ns (nodesOf (piecesTo share ps ns n))
   unfolding piecesTo
   pieces-ranged ps ns zero f a = grown-refl ns
   pieces-ranged ps ns (suc n) f a = more (pieces-ranged ps ns n (λ i k. f i (omega arith)) a)
@@ -109,7 +117,9 @@ module _ (share : Float) where
       more : Grown InRange ns (nodesOf (piecesTo share ps ns n)) → Grown InRange ns (nodesOf (onward share (piecesTo share ps ns n) (getD ps n noPart)))
       more g =
           grown-trans g (onward-grown share (piecesTo share ps ns n) (getD ps n noPart)
-          (λ ms cs e. subdivide-ranged ms (getD ps n noPart) (f n (le-refl (suc n))) (subst (λ (o : Outcome). EachNode InRange (nodesOf o)) e (grown-each {P = InRange} ns (nodesOf (piecesTo share ps ns n)) g a))))
+          (λ ms cs e. subdivide-ranged ms (getD ps n noPart) (f n (le-refl (suc n)))
+          (subst (λ (o : Outcome). EachNode InRange (nodesOf o)) e (grown-each {P = InRange} ns (nodesOf (piecesTo share ps ns n)) g a))))
 
-  pub pieces-in-range : (ps : List Part) (ns : List Point) (n : ℕ) → ((i : ℕ) → i < n → ValidPiece (getD ps i noPart)) → EachNode InRange ns → EachNode InRange (nodesOf (piecesTo share ps ns n))
+  pub pieces-in-range : (ps : List Part) (ns : List Point) (n : ℕ) → ((i : ℕ) → i < n → ValidPiece (getD ps i noPart)) → EachNode InRange ns
+      → EachNode InRange (nodesOf (piecesTo share ps ns n))
   pieces-in-range ps ns n f a = grown-each {P = InRange} ns (nodesOf (piecesTo share ps ns n)) (pieces-ranged ps ns n f a) a

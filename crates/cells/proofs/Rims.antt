@@ -1,5 +1,6 @@
--- The rim marks that asks leave. What one stage leaves and then another leaves is what both leave (`rims-then`), and nothing asked for changes nothing (`rims-none`); the list keeps
--- its length. A set mark stays set (`rims-stay`), those past the nodes are as found (`rims-past`), and from an empty node list the marks tell exactly what was asked for (`rims-told`).
+-- The rim marks that asks leave. What one stage leaves and then another leaves is what both leave (`rims-then`), and nothing asked for changes nothing
+-- (`rims-none`); the list keeps its length. A set mark stays set (`rims-stay`), those past the nodes are as found (`rims-past`), and from an empty node list
+-- the marks tell exactly what was asked for (`rims-told`).
 use Prim.Native.Nat.{ℕ, zero, suc, _+_, _≤_, _<_}
 use native.Mathlib.Decide.{decLt}
 use native.Mathlib.Omega.{arith}
@@ -31,7 +32,8 @@ or-false false = refl
 pub on-append : (a b : List Ask) (k : ℕ) → onRimAt (a ++ b) k ≡ (onRimAt a k || onRimAt b k)
 unfolding onRimAt
 on-append [] b k = refl
-on-append (q ∷ a) b k = ap (λ (x : Bool). (onRim (q .role) && eqb (q .node) k) || x) (on-append a b k) ∙ or-assoc (onRim (q .role) && eqb (q .node) k) (onRimAt a k) (onRimAt b k)
+on-append (q ∷ a) b k =
+    ap (λ (x : Bool). (onRim (q .role) && eqb (q .node) k) || x) (on-append a b k) ∙ or-assoc (onRim (q .role) && eqb (q .node) k) (onRimAt a k) (onRimAt b k)
 
 pub on-one : (q : Ask) (k : ℕ) → onRimAt (q ∷ []) k ≡ (onRim (q .role) && eqb (q .node) k)
 unfolding onRimAt
@@ -83,9 +85,11 @@ unfolding rimsBy
 rims-at u v qs rs k h = getD-tab (rimAt u v qs rs) (length rs) k 0 h
 
 -- a list of that length, place by place
-pub is-rims : (u v : ℕ) (qs : List Ask) (rs ts : List ℕ) → length ts ≡ length rs → ((k : ℕ) → k < length rs → getD ts k 0 ≡ rimAt u v qs rs k) → ts ≡ rimsBy u v qs rs
+pub is-rims : (u v : ℕ) (qs : List Ask) (rs ts : List ℕ) → length ts ≡ length rs → ((k : ℕ) → k < length rs → getD ts k 0 ≡ rimAt u v qs rs k)
+    → ts ≡ rimsBy u v qs rs
 is-rims u v qs rs ts e h =
-    ext-getD 0 ts (rimsBy u v qs rs) (e ∙ sym (rims-length u v qs rs)) (λ k l. let g : k < length rs = omega (arith, l, e) in h k g ∙ sym (rims-at u v qs rs k g))
+    ext-getD 0 ts (rimsBy u v qs rs) (e ∙ sym (rims-length u v qs rs))
+    (λ k l. let g : k < length rs = omega (arith, l, e) in h k g ∙ sym (rims-at u v qs rs k g))
 
 rim-none : (u : ℕ) (rs : List ℕ) (k : ℕ) → getD rs k 0 ≡ rimAt u u [] rs k
 unfolding rimAt onRimAt
@@ -111,12 +115,15 @@ module _ (u v w : ℕ) (qs bs : List Ask) (rs : List ℕ) (h : u ≤ v) (l : v �
       both false true m n e = refl
       both false false m n e = e
 
-      go : Dec (k < u) → Dec (k < v) → Dec (k < w) → (a b : Bool) → onRimAt qs k ≡ a → cond b 1 (kept v w k (cond a 1 (kept u v k x))) ≡ cond (a || b) 1 (kept u w k x)
+      go : Dec (k < u) → Dec (k < v) → Dec (k < w) → (a b : Bool) → onRimAt qs k ≡ a
+          → cond b 1 (kept v w k (cond a 1 (kept u v k x))) ≡ cond (a || b) 1 (kept u w k x)
       go (yes f) g i a b e =
           both a b _ _ (old v w k (cond a 1 (kept u v k x)) (omega (arith, f, h)) ∙ ap (cond a 1) (old u v k x f ∙ sym (old u w k x f)))
       go (no f) (yes g) i a b e =
-          both a b _ _ (old v w k (cond a 1 (kept u v k x)) g ∙ ap (cond a 1) (new u v k x (omega arith) g ∙ sym (new u w k x (omega arith) (omega (arith, g, l)))))
-      go (no f) (no g) (yes i) true b e = let z : true ≡ false = sym e ∙ on-listed v qs k low (omega arith) in let y : _≡_ {A = ℕ} 0 1 = cc in absurd (omega arith)
+          both a b _ _
+          (old v w k (cond a 1 (kept u v k x)) g ∙ ap (cond a 1) (new u v k x (omega arith) g ∙ sym (new u w k x (omega arith) (omega (arith, g, l)))))
+      go (no f) (no g) (yes i) true b e =
+          let z : true ≡ false = sym e ∙ on-listed v qs k low (omega arith) in let y : _≡_ {A = ℕ} 0 1 = cc in absurd (omega arith)
       go (no f) (no g) (yes i) false b e = both false b _ _ (new v w k (kept u v k x) (omega arith) i ∙ sym (new u w k x (omega arith) i))
       go (no f) (no g) (no i) a b e =
           both a b _ _ (past v w k (cond a 1 (kept u v k x)) (omega arith) ∙ ap (cond a 1) (past u v k x (omega arith) ∙ sym (past u w k x (omega arith))))
@@ -161,7 +168,8 @@ asked (q ∷ qs) k e = go (onRim (q .role)) refl (eqb (q .node) k) refl (asked q
     later : AskedOnRim qs k → AskedOnRim (q ∷ qs) k
     later w = record { ask = w .ask; one = List·Memᴰ·tail (w .one); on-rim = w .on-rim; for = w .for }
 
-    go : (a : Bool) → onRim (q .role) ≡ a → (b : Bool) → eqb (q .node) k ≡ b → (onRimAt qs k ≡ true → AskedOnRim qs k) → (a && b || onRimAt qs k) ≡ true → AskedOnRim (q ∷ qs) k
+    go : (a : Bool) → onRim (q .role) ≡ a → (b : Bool) → eqb (q .node) k ≡ b → (onRimAt qs k ≡ true → AskedOnRim qs k) → (a && b || onRimAt qs k) ≡ true
+        → AskedOnRim (q ∷ qs) k
     go true f true g r e = record { ask = q; one = List·Memᴰ·head refl; on-rim = subst T (sym f) tt; for = eqb-true (q .node) k g }
     go true f false g r e = later (r e)
     go false f b g r e = later (r e)
@@ -175,17 +183,24 @@ not-asked (q ∷ qs) k e w = go (List·Memᴰ·cases-cons (w .one)) (onRim (q .r
     both true b t e = e
     both false b t e = absurd t
 
-    go : (w .ask ≡ q) ⊎ List·Memᴰ (w .ask) qs → (a : Bool) → (onRim (q .role) && eqb (q .node) k) ≡ a → (a || onRimAt qs k) ≡ false → (onRimAt qs k ≡ false → AskedOnRim qs k → ⊥) → ⊥
+    go : (w .ask ≡ q) ⊎ List·Memᴰ (w .ask) qs → (a : Bool) → (onRim (q .role) && eqb (q .node) k) ≡ a → (a || onRimAt qs k) ≡ false
+        → (onRimAt qs k ≡ false → AskedOnRim qs k → ⊥) → ⊥
     go s true f e r = let z : _≡_ {A = ℕ} 0 1 = cc in absurd (omega arith)
     go (inl d) false f e r =
-        let z : true ≡ false = sym (both (onRim (q .role)) (eqb (q .node) k) (subst (λ (x : Ask). T (onRim (x .role))) d (w .on-rim)) (eq-eqb (q .node) k (ap (λ (x : Ask). x .node) (sym d) ∙ w .for))) ∙ f in
+        let z : true ≡ false =
+        sym
+        (both (onRim (q .role)) (eqb (q .node) k) (subst (λ (x : Ask). T (onRim (x .role))) d (w .on-rim))
+        (eq-eqb (q .node) k (ap (λ (x : Ask). x .node) (sym d) ∙ w .for)))
+        ∙ f in
         let y : _≡_ {A = ℕ} 0 1 = cc in
         absurd (omega arith)
     go (inr m) false f e r = r e (record { ask = w .ask; one = m; on-rim = w .on-rim; for = w .for })
 
 pub rims-told : (v : ℕ) (qs : List Ask) (rs : List ℕ) (k : ℕ) → k < v → v ≤ length rs → Told qs k (getD (rimsBy 0 v qs rs) k 0)
 unfolding rimAt
-rims-told v qs rs k h l = subst (Told qs k) (sym (rims-at 0 v qs rs k (omega (arith, h, l)) ∙ ap (cond (onRimAt qs k) 1) (new 0 v k (getD rs k 0) (omega arith) h))) (go (onRimAt qs k) refl)
+rims-told v qs rs k h l =
+    subst (Told qs k) (sym (rims-at 0 v qs rs k (omega (arith, h, l)) ∙ ap (cond (onRimAt qs k) 1) (new 0 v k (getD rs k 0) (omega arith) h)))
+    (go (onRimAt qs k) refl)
   where
     go : (b : Bool) → onRimAt qs k ≡ b → Told qs k (cond b 1 0)
     go true e = rim (asked qs k e)

@@ -54,8 +54,10 @@ plain-at n m k = List·getD-map (λ (e : Edge). e .mark) (take n (replicate m pl
 abbrev Answers : Attempt → List Ask → List Float → ℕ → List ℕ → List ℕ → Tried → List Float → List ℕ → List ℕ → Type 0
 Answers t xs l u q rs r m q' rs' = (r ≡ triedOf t) × (m ≡ over l (t .nodes)) × (q' ≡ overCells q (t .cells)) × (rs' ≡ rimsBy u (length (t .nodes)) xs rs)
 
-same-answers : (t s : Attempt) (xs ys : List Ask) (l : List Float) (u : ℕ) (q rs : List ℕ) {r : Tried} {m : List Float} {q' rs' : List ℕ} → t ≡ s → xs ≡ ys → Answers t xs l u q rs r m q' rs' → Answers s ys l u q rs r m q' rs'
-same-answers t s xs ys l u q rs {r} {m} {q'} {rs'} e f a = subst (λ (xs : List Ask). Answers s xs l u q rs r m q' rs') f (subst (λ (t : Attempt). Answers t xs l u q rs r m q' rs') e a)
+same-answers : (t s : Attempt) (xs ys : List Ask) (l : List Float) (u : ℕ) (q rs : List ℕ) {r : Tried} {m : List Float} {q' rs' : List ℕ} → t ≡ s → xs ≡ ys
+    → Answers t xs l u q rs r m q' rs' → Answers s ys l u q rs r m q' rs'
+same-answers t s xs ys l u q rs {r} {m} {q'} {rs'} e f a =
+    subst (λ (xs : List Ask). Answers s xs l u q rs r m q' rs') f (subst (λ (t : Attempt). Answers t xs l u q rs r m q' rs') e a)
 
 module _ {share : Float} {l : List Float} {u : ℕ} {piece : MarkedRing} (f : CanSubdividePiece share l u piece) where
   abbrev T1 : Attempt
@@ -81,10 +83,20 @@ module _ {share : Float} {l : List Float} {u : ℕ} {piece : MarkedRing} (f : Ca
   corners = length-take-le (piece .ring .count) (piece .ring .points) (room (piece .ring) (f .sheet))
 
   once : length (T1 .nodes) ≤ length (S .nodes)
-  once = subdivide-by share (λ ms. length (T1 .nodes) ≤ length ms) (nodesIn l u) (partIn piece) (omega arith) (attempt-any share (T1 .nodes) (pointsOf (piece .ring)) straight .longer)
+  once =
+      subdivide-by share (λ ms. length (T1 .nodes) ≤ length ms) (nodesIn l u) (partIn piece) (omega arith)
+      (attempt-any share (T1 .nodes) (pointsOf (piece .ring)) straight .longer)
 
   pub try-first : CanTry share l u piece
-  try-first = record { usable = f .usable; some = f .some; sheet = f .sheet; fair = f .fair; fits = omega (arith, once, f .fits); room = omega (arith, once, f .room) }
+  try-first =
+      record {
+        usable = f .usable;
+        some = f .some;
+        sheet = f .sheet;
+        fair = f .fair;
+        fits = omega (arith, once, f .fits);
+        room = omega (arith, once, f .room);
+      }
 
   -- there are marks for the nodes of the first attempt
   pub rims-first : (k : ℕ) → length (S .nodes) ≤ k → length (T1 .nodes) ≤ k
@@ -121,7 +133,8 @@ module _ {share : Float} {l : List Float} {u : ℕ} {piece : MarkedRing} (f : Ca
   ranged : EachNode InRange (T1 .nodes)
   ranged =
       let a = nodes-ranged (f .usable) in
-      grown-each {P = InRange} (nodesIn l u) (T1 .nodes) (attempt-ranged share (nodesIn l u) (partIn piece) (markAt (partIn piece)) (f .fair) (f .fair .snap) a) a
+      grown-each {P = InRange} (nodesIn l u) (T1 .nodes)
+      (attempt-ranged share (nodesIn l u) (partIn piece) (markAt (partIn piece)) (f .fair) (f .fair .snap) a) a
 
   -- the first attempt is made: r, m and q'
   module _ (q : List ℕ) (bs : List Bool) (rs : List ℕ) {r : Tried} {m : List Float} {q' rs' : List ℕ} (t : Answers T1 (A1 bs) l u q rs r m q' rs') where
@@ -137,11 +150,14 @@ module _ {share : Float} {l : List Float} {u : ℕ} {piece : MarkedRing} (f : Ca
 
     pub if-far : (r .fails ≡ (piece .ring .count) → ⊥) → r .far ≡ true → Answers S (AS bs) l u q rs r m q' rs'
     if-far h e =
-        same-answers T1 S (A1 bs) (AS bs) l u q rs (refused (λ k. h (fails-is ∙ k)) (sym far-is ∙ e)) (asks-refused bs (λ k. h (fails-is ∙ k)) (sym far-is ∙ e)) t
+        same-answers T1 S (A1 bs) (AS bs) l u q rs (refused (λ k. h (fails-is ∙ k)) (sym far-is ∙ e))
+        (asks-refused bs (λ k. h (fails-is ∙ k)) (sym far-is ∙ e)) t
 
     -- what was collected of the list stays true of it
     pub held-first : {c : Nearby} {numbers : List ℕ} {xs : List Float} → ValidNearby l u c numbers xs → ValidNearby m (r .used) c numbers xs
-    held-first {c} {numbers} {xs} h = held-over l m u (r .used) (T1 .nodes) c numbers xs (t .1) (ap (λ (r : Tried). r .used) (t .0)) (attempt-any share (nodesIn l u) (pointsOf (piece .ring)) (markAt (partIn piece))) h
+    held-first {c} {numbers} {xs} h =
+        held-over l m u (r .used) (T1 .nodes) c numbers xs (t .1) (ap (λ (r : Tried). r .used) (t .0))
+        (attempt-any share (nodesIn l u) (pointsOf (piece .ring)) (markAt (partIn piece))) h
 
     -- ---- two attempts
     module _ (h : r .fails ≡ (piece .ring .count) → ⊥) (e : r .far ≡ false) where
@@ -168,24 +184,34 @@ module _ {share : Float} {l : List Float} {u : ℕ} {piece : MarkedRing} (f : Ca
             usable = over-usable l (T1 .nodes) (t .1) used-is ranged (omega (arith, once, f .fits)) (omega (arith, once, f .room));
             some = f .some;
             sheet = f .sheet;
-            fair = record { some = f .fair .some; few = f .fair .few; corner = f .fair .corner; snap = λ i q k e. absurd (straight≢snap q (sym (plain-at (piece .ring .count) 60 i) ∙ e)) };
+            fair =
+                record {
+                  some = f .fair .some;
+                  few = f .fair .few;
+                  corner = f .fair .corner;
+                  snap = λ i q k e. absurd (straight≢snap q (sym (plain-at (piece .ring .count) 60 i) ∙ e));
+                };
             fits = omega (arith, z, f .fits);
             room = omega (arith, z, f .room, w);
           }
 
       -- and for those of the second
       pub rims-second : length (S .nodes) ≤ length rs → length (attemptIn share m (r .used) plain .nodes) ≤ length rs'
-      rims-second k = omega (arith, k, ap (λ (t : Attempt). length (t .nodes)) (second-is ∙ last), ap length (t .3), rims-length u (length (T1 .nodes)) (A1 bs) rs)
+      rims-second k =
+          omega (arith, k, ap (λ (t : Attempt). length (t .nodes)) (second-is ∙ last), ap length (t .3), rims-length u (length (T1 .nodes)) (A1 bs) rs)
 
       asks-second : attemptAsksIn share m (r .used) plain bs ≡ A2 bs
       asks-second = λ j. attemptAsks share (now-is j) (pointsOf (piece .ring)) (fun-ext (λ k. plain-at (piece .ring .count) 60 k) j) (sideAt bs)
 
-      rims-both : rimsBy (length (T1 .nodes)) (length (T2 .nodes)) (A2 bs) (rimsBy u (length (T1 .nodes)) (A1 bs) rs) ≡ rimsBy u (length (T2 .nodes)) (A1 bs ++ A2 bs) rs
+      rims-both : rimsBy (length (T1 .nodes)) (length (T2 .nodes)) (A2 bs) (rimsBy u (length (T1 .nodes)) (A1 bs) rs) ≡ rimsBy u (length (T2 .nodes))
+          (A1 bs ++ A2 bs) rs
       rims-both =
-          rims-then u (length (T1 .nodes)) (length (T2 .nodes)) (A1 bs) (A2 bs) rs first-longer (attempt-any share (T1 .nodes) (pointsOf (piece .ring)) straight .longer)
+          rims-then u (length (T1 .nodes)) (length (T2 .nodes)) (A1 bs) (A2 bs) rs first-longer
+          (attempt-any share (T1 .nodes) (pointsOf (piece .ring)) straight .longer)
           (attempt-listed share (nodesIn l u) (pointsOf (piece .ring)) (markAt (partIn piece)) (sideAt bs))
 
-      pub if-again : {r' : Tried} {m' : List Float} {q'' rs'' : List ℕ} → Answers (attemptIn share m (r .used) plain) (attemptAsksIn share m (r .used) plain bs) m (r .used) q' rs' r' m' q'' rs''
+      pub if-again : {r' : Tried} {m' : List Float} {q'' rs'' : List ℕ}
+          → Answers (attemptIn share m (r .used) plain) (attemptAsksIn share m (r .used) plain bs) m (r .used) q' rs' r' m' q'' rs''
           → Answers S (AS bs) l u q rs r' m' q'' rs''
       if-again {r'} {m'} {q''} {rs''} d =
           let a = attempt-cells share (nodesIn l u) (pointsOf (piece .ring)) (markAt (partIn piece)) .many in
@@ -193,7 +219,8 @@ module _ {share : Float} {l : List Float} {u : ℕ} {piece : MarkedRing} (f : Ca
           let all = second-is ∙ last in (
             d .0 ∙ ap triedOf all,
             d .1 ∙ (λ j. over (t .1 j) (all j .nodes)) ∙ over-over l (T1 .nodes) (S .nodes) once,
-            d .2 ∙ (λ j. overCells (t .2 j) (second-is j .cells)) ∙ cell.over-over q (T1 .cells) (T2 .cells) (omega (arith, a, b)) ∙ ap (λ (t : Attempt). overCells q (t .cells)) last,
+            d .2 ∙ (λ j. overCells (t .2 j) (second-is j .cells)) ∙ cell.over-over q (T1 .cells) (T2 .cells) (omega (arith, a, b))
+                ∙ ap (λ (t : Attempt). overCells q (t .cells)) last,
             d .3 ∙ (λ j. rimsBy (used-is j) (length (second-is j .nodes)) (asks-second j) (t .3 j)) ∙ rims-both
                 ∙ (λ j. rimsBy u (length (last j .nodes)) (asks-again bs (λ k. h (fails-is ∙ k)) (sym far-is ∙ e) j) rs),
           )

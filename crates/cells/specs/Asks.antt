@@ -1,4 +1,5 @@
--- 02, Card 12, Rim and inside: what nodes are asked for, attempt by attempt and piece by piece, in that order. "A middle made in an abandoned attempt counts the same." Definitions only.
+-- 02, Card 12, Rim and inside: what nodes are asked for, attempt by attempt and piece by piece, in that order. "A middle made in an abandoned attempt counts
+-- the same." Definitions only.
 use Prim.Native.Nat.{ℕ, zero, suc}
 use mathlib.Core.Bool.{Bool, true, false, _||_, cond}
 use mathlib.Core.List.{List, [], _∷_, _++_, map}
@@ -40,8 +41,8 @@ ask k r = record { node = k; role = r }
 abbrev pub asMiddle : Bool → Role
 asMiddle o = cond o asRingMiddle asCutMiddle
 
--- ---- ring edges: "an edge of the cleaned ring, whichever part it is in; the diagonal of a cut is none, even where it lies along one". The split looks at no mark. So an edge of a
--- piece is a ring edge exactly if it is marked where the same ring is split with every edge marked
+-- ---- ring edges: "an edge of the cleaned ring, whichever part it is in; the diagonal of a cut is none, even where it lies along one". The split looks
+-- at no mark. So an edge of a piece is a ring edge exactly if it is marked where the same ring is split with every edge marked
 abbrev pub label : EdgeMark
 label = Snap (record { x = nat 0; y = nat 0 })
 

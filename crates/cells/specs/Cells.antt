@@ -24,7 +24,8 @@ pub record Attempt : Type 0 where
   pub fails : ℕ
   pub far : Bool
 
--- one attempt at the corners ps over the nodes ns, edge k marked e k: "corners, then edge middles, then the mean of the corners, all taken from listed nodes, become nodes in that order"
+-- one attempt at the corners ps over the nodes ns, edge k marked e k: "corners, then edge middles, then the mean of the corners, all taken from listed nodes,
+-- become nodes in that order"
 unfoldable pub attempt : Float → List Point → List GridPoint → (ℕ → EdgeMark) → Attempt
 attempt share ns ps e =
     let n = length ps in

@@ -28,7 +28,9 @@ pub record ValidPiece (p : Part) : Type 0 where
 -- ---- the second attempt at a piece, over the nodes that the first left, has the first one's corners, straight middles and centre
 pub record SameStart (share : Float) (ns : List Point) (p : Part) : Type 0 where
   pub corner : (i : ℕ) → end (firstNodes share ns p) (p .points) i ≡ end ns (p .points) i
-  pub middle : (i : ℕ) → middle (end (firstNodes share ns p) (p .points) i) (end (firstNodes share ns p) (p .points) (suc i)) ≡ middle (end ns (p .points) i) (end ns (p .points) (suc i))
+  pub middle : (i : ℕ)
+      → middle (end (firstNodes share ns p) (p .points) i) (end (firstNodes share ns p) (p .points) (suc i)) ≡ middle (end ns (p .points) i)
+      (end ns (p .points) (suc i))
   pub centre : mean (end (firstNodes share ns p) (p .points)) (length (p .points)) ≡ mean (end ns (p .points)) (length (p .points))
 
 -- ---- cells
@@ -41,7 +43,8 @@ pub record Celled (n : ℕ) (t : Attempt) : Type 0 where
 abbrev pub CellsPerPiece : Float → List Point → List Part → Type 0
 CellsPerPiece share ns [] = Unit {0}
 CellsPerPiece share ns (p ∷ ps) =
-    (length (subdivide share ns p .cells) ≡ length (p .points)) × (subdivide share ns p .fails ≡ length (p .points)) × CellsPerPiece share (subdivide share ns p .nodes) ps
+    (length (subdivide share ns p .cells) ≡ length (p .points)) × (subdivide share ns p .fails ≡ length (p .points))
+    × CellsPerPiece share (subdivide share ns p .nodes) ps
 
 -- the corners of the first i pieces
 abbrev pub cornersTo : List Part → ℕ → ℕ

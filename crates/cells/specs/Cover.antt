@@ -1,4 +1,5 @@
--- Where the corners and edges of pieces come from: a ring with its marks, and straight diagonals. The bound on new nodes asks no more of a split. Definitions only.
+-- Where the corners and edges of pieces come from: a ring with its marks, and straight diagonals. The bound on new nodes asks no more of a split. Definitions
+-- only.
 use Prim.Native.Nat.{ℕ, suc, _+_, _≤_, _<_}
 use mathlib.Core.Path.{_≡_}
 use mathlib.Core.Logic.{_⊎_}

@@ -1,4 +1,5 @@
--- 01, Words of demand 3: the pieces one after the other, each over the nodes that the one before left. "In the order they go out, a piece of k corners has the next k new cells."
+-- 01, Words of demand 3: the pieces one after the other, each over the nodes that the one before left. "In the order they go out, a piece of k corners has
+-- the next k new cells."
 use Prim.Native.Nat.{ℕ, zero, suc}
 use mathlib.Core.Bool.{cond}
 use mathlib.Core.List.{List, [], _∷_, _++_}

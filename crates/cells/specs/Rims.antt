@@ -1,4 +1,5 @@
--- 02, Card 12: "Each listed node carries a rim mark, in a lent list beside the nodes", 1 set and 0 clear. "Meeting a listed node again may set the mark and never clears it." Definitions only.
+-- 02, Card 12: "Each listed node carries a rim mark, in a lent list beside the nodes", 1 set and 0 clear. "Meeting a listed node again may set the mark and
+-- never clears it." Definitions only.
 use Prim.Native.Nat.{ℕ}
 use mathlib.Core.Path.{_≡_}
 use mathlib.Core.Bool.{Bool, false, _&&_, _||_, not, cond}
@@ -13,8 +14,8 @@ unfoldable pub onRimAt : List Ask → ℕ → Bool
 onRimAt [] k = false
 onRimAt (q ∷ qs) k = (onRim (q .role) && eqb (q .node) k) || onRimAt qs k
 
--- the mark of place k, rs being the marks before: u nodes were listed then, v are listed now, and qs were asked for in between. Set if one of qs asked for the node on the rim;
--- else clear if the node is new, as it was if the node is an old one, and as found if the place holds none
+-- the mark of place k, rs being the marks before: u nodes were listed then, v are listed now, and qs were asked for in between. Set if one of qs asked for
+-- the node on the rim; else clear if the node is new, as it was if the node is an old one, and as found if the place holds none
 unfoldable pub rimAt : ℕ → ℕ → List Ask → List ℕ → ℕ → ℕ
 rimAt u v qs rs k = cond (onRimAt qs k) 1 (cond (ltb k u || not (ltb k v)) (getD rs k 0) 0)
 

@@ -84,7 +84,8 @@ fn add_middles(
     numbers: &[NodeNumber],
     xs: &[f64],
 ) -> MiddleNumbers
-    requires { ⌜ CanAdd (now nodes) used (middleAt share (now nodes) used vs marks n) n × ListedTo used vs n × ValidNearby (now nodes) used near (now numbers) (now xs) ⌝ }
+    requires { ⌜ CanAdd (now nodes) used (middleAt share (now nodes) used vs marks n) n × ListedTo used vs n × ValidNearby (now nodes) used near
+        (now numbers) (now xs) ⌝ }
     ensures { λ r. ⌜ Adds (now (nodes .entry)) used (middleAt share (now (nodes .entry)) used vs marks n) n (now (nodes .exit)) (r .used) (r .list)
         × (r .far ≡ any (farAt share (now (nodes .entry)) used vs marks n) n) ⌝ }
 {
@@ -146,7 +147,8 @@ fn mark_rims(
     sides: [bool; MOST_POINTS],
     n: usize,
 )
-    requires { ⌜ (u ≤ v) × (v ≤ length (now rims)) × (n ≤ mostPoints) × ListedTo v vs n × ListedTo v ms n × (length vs ≡ mostPoints) × (length ms ≡ mostPoints) ⌝ }
+    requires { ⌜ (u ≤ v) × (v ≤ length (now rims)) × (n ≤ mostPoints) × ListedTo v vs n × ListedTo v ms n × (length vs ≡ mostPoints) ×
+        (length ms ≡ mostPoints) ⌝ }
     ensures { λ _. ⌜ ((c : ℕ) → now (rims .exit) ≡ rimsBy u v (asksFor (take n vs) (take n ms) c (sideAt sides) n) (now (rims .entry))) ⌝ }
 {
     clear_rims(rims, u, v);
@@ -173,7 +175,8 @@ fn attempt(
     ensures { λ r. ⌜ (r ≡ triedOf (attemptIn share (now (nodes .entry)) used piece))
         × (now (nodes .exit) ≡ over (now (nodes .entry)) (attemptIn share (now (nodes .entry)) used piece .nodes))
         × (now (cells .exit) ≡ overCells (now (cells .entry)) (attemptIn share (now (nodes .entry)) used piece .cells))
-        × (now (rims .exit) ≡ rimsBy used (length (attemptIn share (now (nodes .entry)) used piece .nodes)) (attemptAsksIn share (now (nodes .entry)) used piece sides) (now (rims .entry))) ⌝ }
+        × (now (rims .exit) ≡ rimsBy used (length (attemptIn share (now (nodes .entry)) used piece .nodes))
+        (attemptAsksIn share (now (nodes .entry)) used piece sides) (now (rims .entry))) ⌝ }
 {
     let n = piece.ring.count;
     let ring = piece.ring;
@@ -207,12 +210,14 @@ pub fn subdivide(
     numbers: &[NodeNumber],
     xs: &[f64],
 ) -> Tried
-    requires { ⌜ CanSubdividePiece share (now nodes) used piece × (piece .ring .count * 4 ≤ length (now cells)) × ValidNearby (now nodes) used near (now numbers) (now xs)
+    requires { ⌜ CanSubdividePiece share (now nodes) used piece × (piece .ring .count * 4 ≤ length (now cells)) × ValidNearby (now nodes) used near
+        (now numbers) (now xs)
         × (length (subdivideIn share (now nodes) used piece .nodes) ≤ length (now rims)) ⌝ }
     ensures { λ r. ⌜ (r ≡ triedOf (subdivideIn share (now (nodes .entry)) used piece))
         × (now (nodes .exit) ≡ over (now (nodes .entry)) (subdivideIn share (now (nodes .entry)) used piece .nodes))
         × (now (cells .exit) ≡ overCells (now (cells .entry)) (subdivideIn share (now (nodes .entry)) used piece .cells))
-        × (now (rims .exit) ≡ rimsBy used (length (subdivideIn share (now (nodes .entry)) used piece .nodes)) (subdivideAsksIn share (now (nodes .entry)) used piece sides) (now (rims .entry))) ⌝ }
+        × (now (rims .exit) ≡ rimsBy used (length (subdivideIn share (now (nodes .entry)) used piece .nodes))
+        (subdivideAsksIn share (now (nodes .entry)) used piece sides) (now (rims .entry))) ⌝ }
 {
     let t = attempt(
         nodes,

@@ -1,5 +1,5 @@
 -- An edge that a diagonal crosses, a corner that it runs over, and a diagonal that nothing obstructs, by the places of the array that
--- holds the points. Assumes nothing.
+-- holds the points.
 use Prim.Native.Nat.{ℕ, _+_, _%_, _≤_, _<_}
 use mathlib.Core.Bool.{Bool, true, false, _&&_, not}
 use mathlib.Core.Path.{_≡_, sym, ap, _∙_}
@@ -35,7 +35,8 @@ module _ (ps : List GridPoint) (n : ℕ) (h : n ≤ length ps) (p : 0 < n) (k : 
     pub touches : clearOf n k e ≡ false → blocks (take n ps) k e ≡ false
     touches t = opened ∙ rw t
 
-    pub crosses : clearOf n k e ≡ true → (t : Bool) → segmentsCross (getD ps 0 origin) (getD ps k origin) (getD ps e origin) (getD ps j origin) ≡ t → blocks (take n ps) k e ≡ t
+    pub crosses : clearOf n k e ≡ true → (t : Bool) → segmentsCross (getD ps 0 origin) (getD ps k origin) (getD ps e origin) (getD ps j origin) ≡ t
+        → blocks (take n ps) k e ≡ t
     crosses s t q = opened ∙ rw s q
 
   -- corner j

@@ -1,4 +1,4 @@
--- A turn of the search for the best diagonal. The code tests the ends and the cosines first and the edges last: the rule is the same in that order. Assumes nothing.
+-- A turn of the search for the best diagonal. The code tests the ends and the cosines first and the edges last: the rule is the same in that order.
 use Prim.Native.Nat.{ℕ, suc, _+_, _-_, _≤_, _<_}
 use native.Mathlib.Omega.{arith}
 use mathlib.Core.Bool.{Bool, true, false, _&&_, _||_, not, cond, true≢false, false≢true}
@@ -52,14 +52,16 @@ module _ (r : List GridPoint) (k : ℕ) (s least : Float) (es : s ≡ score r k)
   beaten : (w : ℕ) → least ≡ score r w → (t : Bool) → (s <f least) ≡ t → (score r k <f score r w) ≡ t
   beaten w e t h = rw (← es, ← e) h
 
-  keeps : (ok way found : Bool) (w : ℕ) → (found ≡ true → least ≡ score r w) → (ok && (not found || (s <f least))) ≡ false → cond (ok && way) (better r k (held found w)) (held found w) ≡ held found w
+  keeps : (ok way found : Bool) (w : ℕ) → (found ≡ true → least ≡ score r w) → (ok && (not found || (s <f least))) ≡ false
+      → cond (ok && way) (better r k (held found w)) (held found w) ≡ held found w
   unfolding better
   keeps false way found w e h = refl
   keeps true way false w e h = absurd (true≢false h)
   keeps true false true w e h = refl
   keeps true true true w e h = rw (beaten w (e refl) false h)
 
-  takes : (ok found : Bool) (w : ℕ) → (found ≡ true → least ≡ score r w) → (ok && (not found || (s <f least))) ≡ true → cond (ok && true) (better r k (held found w)) (held found w) ≡ some k
+  takes : (ok found : Bool) (w : ℕ) → (found ≡ true → least ≡ score r w) → (ok && (not found || (s <f least))) ≡ true
+      → cond (ok && true) (better r k (held found w)) (held found w) ≡ some k
   unfolding better
   takes false found w e h = absurd (false≢true h)
   takes true false w e h = refl
@@ -69,7 +71,8 @@ module _ (r : List GridPoint) (k : ℕ) (s least : Float) (es : s ≡ score r k)
   obstructed false found w = refl
   obstructed true found w = refl
 
-module _ (L : Limits) (r : List GridPoint) (k : ℕ) (two : 2 ≤ k) (found : Bool) (w : ℕ) (least : Float) (eb : held found w ≡ bestTo L r (k - 2)) (el : found ≡ true → least ≡ score r w)
+module _ (L : Limits) (r : List GridPoint) (k : ℕ) (two : 2 ≤ k) (found : Bool) (w : ℕ) (least : Float) (eb : held found w ≡ bestTo L r (k - 2))
+    (el : found ≡ true → least ≡ score r w)
     (ok : Bool) (s : Float) (eok : ok ≡ fits L r k) (es : s ≡ score r k) where
   opened : bestTo L r (k + 1 - 2) ≡ cond (ok && unobstructed r k) (better r k (held found w)) (held found w)
   unfolding bestTo
@@ -88,7 +91,8 @@ module _ (L : Limits) (r : List GridPoint) (k : ℕ) (two : 2 ≤ k) (found : Bo
   won h g = sym (opened ∙ rw g (takes r k s least es ok found w el h))
 
 -- ---- by the places of the array: a and b are the steps from the corner 0 to the next and to the one before
-module _ (ps : List GridPoint) (n : ℕ) (h : n ≤ length ps) (p : 3 ≤ n) (k : ℕ) (lk : k < n) (a b : GridPoint) (ea : a ≡ sub (getD ps 1 origin) (getD ps 0 origin)) (eb : b ≡ sub (getD ps (n - 1) origin) (getD ps 0 origin)) where
+module _ (ps : List GridPoint) (n : ℕ) (h : n ≤ length ps) (p : 3 ≤ n) (k : ℕ) (lk : k < n) (a b : GridPoint)
+    (ea : a ≡ sub (getD ps 1 origin) (getD ps 0 origin)) (eb : b ≡ sub (getD ps (n - 1) origin) (getD ps 0 origin)) where
   abbrev step : GridPoint
   step = sub (getD ps k origin) (getD ps 0 origin)
 
@@ -108,7 +112,8 @@ module _ (ps : List GridPoint) (n : ℕ) (h : n ≤ length ps) (p : 3 ≤ n) (k 
       let w = sym (prev-first ps n h (omega arith)) in
       (λ i. cosine (eb i) step) ∙ (λ i. cosine (sub (w i) (z i)) (sub (y i) (z i)))
 
-  pub fits-is : (L : Limits) (t : Bool) → t ≡ (not (same (getD ps 0 origin) (getD ps k origin)) && inRange L (cosine a step) && inRange L (cosine b step)) → t ≡ fits L (take n ps) k
+  pub fits-is : (L : Limits) (t : Bool) → t ≡ (not (same (getD ps 0 origin) (getD ps k origin)) && inRange L (cosine a step) && inRange L (cosine b step))
+      → t ≡ fits L (take n ps) k
   fits-is L t e =
       let z = sym (at-in ps n h (omega arith) 0 (omega arith)) in
       let y = sym (at-in ps n h (omega arith) k lk) in

@@ -1,5 +1,5 @@
--- The call over lent lists by the outcome of its tests: refused, or what the core does; and the promise from what was left. As a call of a list of calls it leaves what
--- specs/LentCalls says (`as-called`).
+-- The call over lent lists by the outcome of its tests: refused, or what the core does; and the promise from what was left. As a call of a list of calls it
+-- leaves what specs/LentCalls says (`as-called`).
 use Prim.Native.Nat.{ℕ, _+_, _/_, _≤_}
 use native.Mathlib.Omega.{arith}
 use mathlib.Core.Path.{_≡_, refl, sym, ap, _∙_, subst}
@@ -41,7 +41,8 @@ module _ (L : Limits) (r : ℕ) (p : Part) (l : List Float) (u : ℕ) (rs q : Li
   pub core-refused : (n : ℕ) → n ≡ firstOf (ringTests (p .points)) → (n ≡ 0 → ⊥) → Leaves (core L r p lists) (refusedRow n u k) l l rs q q
   unfolding core
   core-refused n e z =
-      rw (Course.turned-away lists (ringTests (p .points)) (answered L r p lists (splitBadVertices L p) (outcomeOf L p lists)) (λ f. z (e ∙ f)), ← e) (refused-leaves l u rs q k n)
+      rw (Course.turned-away lists (ringTests (p .points)) (answered L r p lists (splitBadVertices L p) (outcomeOf L p lists)) (λ f. z (e ∙ f)), ← e)
+      (refused-leaves l u rs q k n)
 
   pub core-whole : (n : ℕ) → n ≡ firstOf (ringTests (p .points)) → n ≡ 0 → Whole (p .points)
   core-whole n e z = whole (p .points) (all-pass (ringTests (p .points)) tt (sym e ∙ z))
@@ -49,7 +50,8 @@ module _ (L : Limits) (r : ℕ) (p : Part) (l : List Float) (u : ℕ) (rs q : Li
   pub core-laid : (n : ℕ) → n ≡ firstOf (ringTests (p .points)) → n ≡ 0 → (v : Row) (m : List Float) (t o : List ℕ)
       → Leaves (answered L r p lists (splitBadVertices L p) (outcomeOf L p lists)) v l m t q o → Leaves (core L r p lists) v l m t q o
   unfolding core
-  core-laid n e z v m t o h = rw (Course.goes-on lists (ringTests (p .points)) (answered L r p lists (splitBadVertices L p) (outcomeOf L p lists)) (sym e ∙ z)) h
+  core-laid n e z v m t o h =
+      rw (Course.goes-on lists (ringTests (p .points)) (answered L r p lists (splitBadVertices L p) (outcomeOf L p lists)) (sym e ∙ z)) h
 
 -- ---- the call
 module _ (L : Limits) (l : LentRecords) (q : List ℕ) (k : ℕ) where
@@ -79,7 +81,8 @@ module _ (L : Limits) (l : LentRecords) (q : List ℕ) (k : ℕ) where
     chain-read = record { few = omega (arith, through .chain .few, length-tab (pointIn (l .chain)) (length (l .chain) / 2)); sheet = through .chain .each }
 
     -- the ring that was prepared, and the numbers that have room for its cells
-    module _ (m : MarkedRing) (b : Prepares (l .ring) (l .chain) (l .size) m) (w : CellRoom) (at : w .at ≡ k) (places : length (l .cells) ≡ w .places) (used : l .cellCount ≡ w .used) (h : HasRoom L w q) where
+    module _ (m : MarkedRing) (b : Prepares (l .ring) (l .chain) (l .size) m) (w : CellRoom) (at : w .at ≡ k) (places : length (l .cells) ≡ w .places)
+        (used : l .cellCount ≡ w .used) (h : HasRoom L w q) where
       own : length (c .ring) ≡ length (l .ring) / 2
       own = length-tab (pointIn (l .ring)) (length (l .ring) / 2)
 
@@ -90,7 +93,15 @@ module _ (L : Limits) (l : LentRecords) (q : List ℕ) (k : ℕ) where
       ready =
           let n = length-tab (cellIn q) (length q / 4) in
           let y = through .ready in
-          record { listed = y .listed; stored = omega (arith, room, n); places = y .places; used = y .used; rimmed = y .rimmed; nodes-free = y .nodes-free; cells-free = omega (arith, room, n) }
+          record {
+            listed = y .listed;
+            stored = omega (arith, room, n);
+            places = y .places;
+            used = y .used;
+            rimmed = y .rimmed;
+            nodes-free = y .nodes-free;
+            cells-free = omega (arith, room, n);
+          }
 
       prepared-here : Prepared L (length (c .ring)) (startOf c) x
       prepared-here =
@@ -105,11 +116,13 @@ module _ (L : Limits) (l : LentRecords) (q : List ℕ) (k : ℕ) where
             prepared = subst (λ (r : ℕ). Prepared L r (partIn m) x) own (subst (λ (p : Part). Prepared L (length (c .ring)) p x) (sym (b .part)) prepared-here);
           }
 
-      pub call-divided : (v : Row) (n : List Float) (t o : List ℕ) → Leaves (core L (length (l .ring) / 2) (partIn m) x) v (l .nodes) n t q o → Leaves (divideInto L l q k) v (l .nodes) n t q o
+      pub call-divided : (v : Row) (n : List Float) (t o : List ℕ) → Leaves (core L (length (l .ring) / 2) (partIn m) x) v (l .nodes) n t q o
+          → Leaves (divideInto L l q k) v (l .nodes) n t q o
       unfolding refusal
       call-divided v n t o f =
           rw (Course.goes-on x (testsBy (λ cs. cs) L l) core-of (sym e ∙ z))
-          (subst (λ (r : ℕ). Leaves (core L r (startOf c) x) v (l .nodes) n t q o) (sym own) (subst (λ (p : Part). Leaves (core L (length (l .ring) / 2) p x) v (l .nodes) n t q o) (b .part) f))
+          (subst (λ (r : ℕ). Leaves (core L r (startOf c) x) v (l .nodes) n t q o) (sym own)
+          (subst (λ (p : Part). Leaves (core L (length (l .ring) / 2) p x) v (l .nodes) n t q o) (b .part) f))
 
 -- ---- the promise
 pub promised : (L : Limits) (l : Lent) (v : Row) (m : List Float) (t p : List ℕ) → Leaves (divideLent L l) v (l .nodes) m t (l .cells) p → Promise L l v m t p
@@ -117,10 +130,21 @@ promised L l v m t p h = record { leaves = h; accepted = λ z. demand3-lent L l 
 
 -- the lent list, its cells as records
 abbrev pub recorded : Lent → LentRecords
-recorded l = record { ring = l .ring; chain = l .chain; size = l .size; nodes = l .nodes; nodeCount = l .nodeCount; rims = l .rims; cells = allCells (l .cells); cellCount = l .cellCount }
+recorded l =
+    record {
+      ring = l .ring;
+      chain = l .chain;
+      size = l .size;
+      nodes = l .nodes;
+      nodeCount = l .nodeCount;
+      rims = l .rims;
+      cells = allCells (l .cells);
+      cellCount = l .cellCount;
+    }
 
 -- with its cells written where they were lent
-pub own-promise : (L : Limits) (l : Lent) (v : Row) (m : List Float) (t p : List ℕ) → Leaves (divideInto L (recorded l) (l .cells) (l .cellCount)) v (l .nodes) m t (l .cells) p → Promise L l v m t p
+pub own-promise : (L : Limits) (l : Lent) (v : Row) (m : List Float) (t p : List ℕ)
+    → Leaves (divideInto L (recorded l) (l .cells) (l .cellCount)) v (l .nodes) m t (l .cells) p → Promise L l v m t p
 unfolding divideLent
 own-promise L l v m t p h = promised L l v m t p h
 
@@ -131,5 +155,6 @@ pub most-cuts : (L : Limits) → L ≡ delivered → L .cuts ≤ 32
 most-cuts L d = subst (λ (L : Limits). L .cuts ≤ 32) (sym d) (omega arith)
 
 -- ---- the node list and the rim marks that it leaves are those of a list of calls
-pub as-called : (s : Pool) (g : Given ℕ) (v : Row) (m : List Float) (t p : List ℕ) → Promise (g .limits) (lend s g) v m t p → _≡_ {A = Pool} (record { doubles = m; count = v .nodes; rims = t }) (leaves s (answerOf s (numbers g)))
+pub as-called : (s : Pool) (g : Given ℕ) (v : Row) (m : List Float) (t p : List ℕ) → Promise (g .limits) (lend s g) v m t p
+    → _≡_ {A = Pool} (record { doubles = m; count = v .nodes; rims = t }) (leaves s (answerOf s (numbers g)))
 as-called s g v m t p h = λ j. record { doubles = h .leaves .nodes j; count = h .leaves .values j .nodes; rims = h .leaves .rims j }

@@ -66,7 +66,8 @@ module _ (L : Limits) (r : ℕ) (m : MarkedRing) (l : List Float) (u : ℕ) (rs 
   abbrev Left : ℕ → Outcome → Row → Type 0
   Left reserve o v = Leaves (answered L r p x s o) v l (over l (nodesOf o)) (rimsLeft L p x (length (nodesOf o))) q (overFrom q k (cellsLeft reserve o))
 
-  pub laid-done : (reserve n c cuts count turned area v d : ℕ) → AllDone o v d → n ≡ length (p .points) → c ≡ markCount (p .edges) → cuts ≡ s .cuts → count ≡ length (s .pieces) → turned ≡ s .turned
+  pub laid-done : (reserve n c cuts count turned area v d : ℕ) → AllDone o v d → n ≡ length (p .points) → c ≡ markCount (p .edges) → cuts ≡ s .cuts
+      → count ≡ length (s .pieces) → turned ≡ s .turned
       → area ≡ natAbs (polygonArea (p .points)) → Left reserve o (dividedRow n c cuts count turned area v (k + d))
   laid-done reserve n c cuts count turned area v d y e₁ e₂ e₃ e₄ e₅ e₆ =
       let b = node-room (y .ns) (ap nodesOf (y .is)) in

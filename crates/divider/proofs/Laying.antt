@@ -1,5 +1,5 @@
--- Laying out the pieces of a ring that passed every test. What the split answers shows the pieces of the definition (`shown`), and all that the cells ask of them holds
--- (`can-subdivide`). By the same split with every edge marked, the rim marks that the pieces leave are the definition's (`rims-are`).
+-- Laying out the pieces of a ring that passed every test. What the split answers shows the pieces of the definition (`shown`), and all that the cells ask of
+-- them holds (`can-subdivide`). By the same split with every edge marked, the rim marks that the pieces leave are the definition's (`rims-are`).
 use Prim.Native.Nat.{ℕ, zero, suc, _+_, _/_, _≤_}
 use native.Mathlib.Omega.{arith}
 use mathlib.Core.Path.{_≡_, refl, sym, ap, _∙_, subst}
@@ -101,43 +101,53 @@ module _ (L : Limits) (r : ℕ) (m : MarkedRing) (l : List Float) (u : ℕ) (rs 
   three = (omega (arith, s .whole .three, length-take (m .ring .count) (m .ring .points)), omega (arith, s .whole .three, h .fewer))
 
   -- ---- what the split answered
-  module _ (t : Splitting) (shows : Represents (m .ring .points) (marksOf (m .edges)) t (splitBadVertices L (ringPart (m .ring .points) (marksOf (m .edges)) (m .ring .count)))) where
-    split-is : splitBadVertices L (ringPart (m .ring .points) (marksOf (m .edges)) (m .ring .count)) ≡ splitBadVertices L p
-    split-is = ap (λ (e : List EdgeMark). splitBadVertices L (record { points = take (m .ring .count) (m .ring .points); edges = e })) (marks-taken (m .ring .count) (m .edges))
+  module _ (t : Splitting)
+      (shows : Represents (m .ring .points) (marksOf (m .edges)) t (splitBadVertices L (ringPart (m .ring .points) (marksOf (m .edges)) (m .ring .count))))
+    where
+      split-is : splitBadVertices L (ringPart (m .ring .points) (marksOf (m .edges)) (m .ring .count)) ≡ splitBadVertices L p
+      split-is =
+          ap (λ (e : List EdgeMark). splitBadVertices L (record { points = take (m .ring .count) (m .ring .points); edges = e }))
+          (marks-taken (m .ring .count) (m .edges))
 
-    pub shown : Represents (m .ring .points) (marksOf (m .edges)) t (splitBadVertices L p)
-    shown = subst (Represents (m .ring .points) (marksOf (m .edges)) t) split-is shows
+      pub shown : Represents (m .ring .points) (marksOf (m .edges)) t (splitBadVertices L p)
+      shown = subst (Represents (m .ring .points) (marksOf (m .edges)) t) split-is shows
 
-    pub count-is : t .pieces .count ≡ length (piecesOf L p)
-    count-is = sym (length-tab (nth (m .ring .points) (marksOf (m .edges)) (t .pieces)) (t .pieces .count)) ∙ ap length (shown .pieces)
+      pub count-is : t .pieces .count ≡ length (piecesOf L p)
+      count-is = sym (length-tab (nth (m .ring .points) (marksOf (m .edges)) (t .pieces)) (t .pieces .count)) ∙ ap length (shown .pieces)
 
-    pub outcome-is : outcomeIn (L .share) l u (m .ring .points) (m .edges) (t .pieces) ≡ outcomeOf L p x
-    outcome-is = λ j. piecesTo (L .share) (shown .pieces j) (sym used-is j) (count-is j)
+      pub outcome-is : outcomeIn (L .share) l u (m .ring .points) (m .edges) (t .pieces) ≡ outcomeOf L p x
+      outcome-is = λ j. piecesTo (L .share) (shown .pieces j) (sym used-is j) (count-is j)
 
-    pub can-subdivide : (reserve : ℕ) → reserve ≡ cellReserve L r → AllOnSheet (m .ring .points) → StateInvariant t → CanSubdivide (L .share) l u q k reserve (m .ring .points) (m .edges) (t .pieces)
-    can-subdivide reserve e o d =
-        record {
-          usable = usable;
-          sheet = o;
-          kept = d .pieces;
-          fair = λ i b. subst (λ (y : List Part). ValidPiece (getD y i noPart)) (sym (shown .pieces)) (NodeList.fair L r p x s i (rw count-is at b));
-          fits = rw outcome-is (omega (arith, node-room, length-in l (length l / 2), h .ready .places));
-          room = rw outcome-is (omega (arith, node-room));
-          corners = rw e (subst (λ (n : ℕ). n ≤ cellReserve L r) (λ j. cornersTo (sym (shown .pieces) j) (sym count-is j)) corners);
-          places = omega (arith, cell-room, e);
-        }
+      pub can-subdivide : (reserve : ℕ) → reserve ≡ cellReserve L r → AllOnSheet (m .ring .points) → StateInvariant t
+          → CanSubdivide (L .share) l u q k reserve (m .ring .points) (m .edges) (t .pieces)
+      can-subdivide reserve e o d =
+          record {
+            usable = usable;
+            sheet = o;
+            kept = d .pieces;
+            fair = λ i b. subst (λ (y : List Part). ValidPiece (getD y i noPart)) (sym (shown .pieces)) (NodeList.fair L r p x s i (rw count-is at b));
+            fits = rw outcome-is (omega (arith, node-room, length-in l (length l / 2), h .ready .places));
+            room = rw outcome-is (omega (arith, node-room));
+            corners = rw e (subst (λ (n : ℕ). n ≤ cellReserve L r) (λ j. cornersTo (sym (shown .pieces) j) (sym count-is j)) corners);
+            places = omega (arith, cell-room, e);
+          }
 
-    pub mark-room-in : length (nodesOf (outcomeIn (L .share) l u (m .ring .points) (m .edges) (t .pieces))) ≤ length rs
-    mark-room-in = rw outcome-is mark-room
+      pub mark-room-in : length (nodesOf (outcomeIn (L .share) l u (m .ring .points) (m .edges) (t .pieces))) ≤ length rs
+      mark-room-in = rw outcome-is mark-room
 
-    -- the same ring split with every edge marked: what the pieces ask for, and the rim marks that they leave
-    module _ (many : length (m .edges) ≡ 60) (labels : Represents (m .ring .points) everyMark t (splitBadVertices L (ringPart (m .ring .points) everyMark (m .ring .count)))) where
-      labelled : labelledIn (m .ring .points) (t .pieces) ≡ splitBadVertices L (allMarked p) .pieces
-      unfolding allMarked
-      labelled = labels .pieces ∙ ap (λ (e : List EdgeMark). splitBadVertices L (record { points = take (m .ring .count) (m .ring .points); edges = e }) .pieces) (every-taken (m .ring .count) (m .edges) many)
+      -- the same ring split with every edge marked: what the pieces ask for, and the rim marks that they leave
+      module _ (many : length (m .edges) ≡ 60)
+          (labels : Represents (m .ring .points) everyMark t (splitBadVertices L (ringPart (m .ring .points) everyMark (m .ring .count)))) where
+        labelled : labelledIn (m .ring .points) (t .pieces) ≡ splitBadVertices L (allMarked p) .pieces
+        unfolding allMarked
+        labelled =
+            labels .pieces
+            ∙ ap (λ (e : List EdgeMark). splitBadVertices L (record { points = take (m .ring .count) (m .ring .points); edges = e }) .pieces)
+            (every-taken (m .ring .count) (m .edges) many)
 
-      asks-are : asksIn (L .share) l u (m .ring .points) (m .edges) (t .pieces) ≡ asked L p (usedIn x)
-      asks-are = λ j. asksTo (L .share) (shown .pieces j) (labelled j) (sym used-is j) (count-is j)
+        asks-are : asksIn (L .share) l u (m .ring .points) (m .edges) (t .pieces) ≡ asked L p (usedIn x)
+        asks-are = λ j. asksTo (L .share) (shown .pieces j) (labelled j) (sym used-is j) (count-is j)
 
-      pub rims-are : rimsBy u (length (nodesOf (outcomeIn (L .share) l u (m .ring .points) (m .edges) (t .pieces)))) (asksIn (L .share) l u (m .ring .points) (m .edges) (t .pieces)) rs ≡ rimsLeft L p x (length (nodesOf (outcomeOf L p x)))
-      rims-are = λ j. rimsBy u (length (nodesOf (outcome-is j))) (asks-are j) rs
+        pub rims-are : rimsBy u (length (nodesOf (outcomeIn (L .share) l u (m .ring .points) (m .edges) (t .pieces))))
+            (asksIn (L .share) l u (m .ring .points) (m .edges) (t .pieces)) rs ≡ rimsLeft L p x (length (nodesOf (outcomeOf L p x)))
+        rims-are = λ j. rimsBy u (length (nodesOf (outcome-is j))) (asks-are j) rs

@@ -1,5 +1,5 @@
--- What each kind of answer leaves in the lists that the call lends: a refusal all as found; pieces that are done their nodes and cells after the old ones, and their rim
--- marks; a piece that failed its nodes and marks, and zeros over the reserve of cell places.
+-- What each kind of answer leaves in the lists that the call lends: a refusal all as found; pieces that are done their nodes and cells after the old ones,
+-- and their rim marks; a piece that failed its nodes and marks, and zeros over the reserve of cell places.
 use Prim.Native.Nat.{ℕ, _+_, _/_, _≤_}
 use mathlib.Core.Path.{_≡_, refl, sym, _∙_}
 use mathlib.Core.List.{List}
@@ -44,12 +44,14 @@ module _ (l : List Float) (u : ℕ) (rs q : List ℕ) (k : ℕ) where
 
   module _ (L : Limits) (r : ℕ) (p : Part) (s : Stack) (ns : List Point) (b : length ns ≤ length l / 2) where
     pub done-leaves : (cs : List Cell) → k + length cs ≤ length q / 4
-        → Leaves (answered L r p x s (done ns cs)) (dividedRow (length (p .points)) (markCount (p .edges)) (s .cuts) (length (s .pieces)) (s .turned) (natAbs (polygonArea (p .points))) (length ns) (k + length cs)) l (over l ns) (rimsLeft L p x (length ns)) q (overFrom q k cs)
+        → Leaves (answered L r p x s (done ns cs)) (dividedRow (length (p .points)) (markCount (p .edges)) (s .cuts) (length (s .pieces)) (s .turned)
+        (natAbs (polygonArea (p .points))) (length ns) (k + length cs)) l (over l ns) (rimsLeft L p x (length ns)) q (overFrom q k cs)
     unfolding answered
     done-leaves cs d = record { values = refl; nodes = sym (nodes-out l ns b); rims = refl; cells = cells-left cs d }
 
     pub failed-leaves : (n i : ℕ) → k + cellReserve L r ≤ length q / 4
-        → Leaves (answered L r p x s (failed ns n i)) (failedRow n i (length ns) k) l (over l ns) (rimsLeft L p x (length ns)) q (overFrom q k (replicate (cellReserve L r) noCell))
+        → Leaves (answered L r p x s (failed ns n i)) (failedRow n i (length ns) k) l (over l ns) (rimsLeft L p x (length ns)) q
+        (overFrom q k (replicate (cellReserve L r) noCell))
     unfolding answered
     failed-leaves n i d =
         record {

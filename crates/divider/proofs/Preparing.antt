@@ -29,7 +29,8 @@ use Rattle.divider.specs.Steps.{OnPaper, Prepares}
 pub asks : (l : List ℤ) → OnPaper l → (length l / 2 ≤ 60) × (length l / 2 * 2 ≤ length l) × AllOnSheet (pointsIn l (length l / 2))
 asks l h = (h .few, omega arith, h .sheet)
 
-pub read : (l : List ℤ) (r : Ring) → r ≡ record { points = pointsIn l (length l / 2) ++ replicate (60 - length l / 2) origin; count = length l / 2 } → pointsOf r ≡ allPoints l
+pub read : (l : List ℤ) (r : Ring) → r ≡ record { points = pointsIn l (length l / 2) ++ replicate (60 - length l / 2) origin; count = length l / 2 }
+    → pointsOf r ≡ allPoints l
 read l r e =
     let n = length l / 2 in
     ap pointsOf e ∙ take-at (pointsIn l n) (replicate (60 - n) origin) n (length-tab (pointIn l) n)
@@ -43,7 +44,8 @@ module _ (ring chain : List ℤ) (size : ℕ) (own run : Ring) (a : pointsOf own
   count-is : length (cleanPolygon size (allPoints ring)) ≡ g .ring .count
   count-is = ap length (sym points-are) ∙ length-take-le (g .ring .count) (g .ring .points) (room (g .ring) (w .valid))
 
-  edges-are : marksIn es (g .ring .count) ≡ marksTo (simplifyChain (allPoints chain)) (cleanPolygon size (allPoints ring)) (length (cleanPolygon size (allPoints ring)))
+  edges-are : marksIn es (g .ring .count) ≡ marksTo (simplifyChain (allPoints chain)) (cleanPolygon size (allPoints ring))
+      (length (cleanPolygon size (allPoints ring)))
   edges-are = x .marks ∙ (λ j. marksTo ((y .stretches ∙ ap simplifyChain b) j) (points-are j) (sym count-is j))
 
   pub prepares : Prepares ring chain size (record { ring = g .ring; edges = es })

@@ -32,7 +32,8 @@ module _ {A B : Type 0} {w : ℕ} {each : A → List B} {out : List A → List B
 
   pub out-append : (xs bs : List A) → out (xs ++ bs) ≡ out xs ++ out bs
   out-append [] bs = rw (s .none)
-  out-append (a ∷ xs) bs = s .more a (xs ++ bs) ∙ ap (λ (l : List B). each a ++ l) (out-append xs bs) ∙ rw (s .more a xs) (sym (append-assoc (each a) (out xs) (out bs)))
+  out-append (a ∷ xs) bs =
+      s .more a (xs ++ bs) ∙ ap (λ (l : List B). each a ++ l) (out-append xs bs) ∙ rw (s .more a xs) (sym (append-assoc (each a) (out xs) (out bs)))
 
   pub out-take : (k : ℕ) (xs : List A) → out (take k xs) ≡ take (k * w) (out xs)
   out-take zero xs = s .none ∙ ap (λ (n : ℕ). take n (out xs)) (sym (zero-mul w))
@@ -74,7 +75,8 @@ module _ {A B : Type 0} {w : ℕ} {each : A → List B} {out : List A → List B
       let m = i + length vs in
       ap (λ (n : ℕ). out (put xs i vs) ++ drop (n * w) l) (length-put xs i vs h)
       ∙ ap (λ (r : List B). r ++ drop (length xs * w) l)
-      (out-append s (take i xs ++ vs) (drop m xs) ∙ (λ j. (out-append s (take i xs) vs ∙ ap (λ (r : List B). r ++ out vs) (out-take s i xs ∙ first i (omega arith))) j ++ out-drop s m xs j))
+      (out-append s (take i xs ++ vs) (drop m xs)
+      ∙ (λ j. (out-append s (take i xs) vs ∙ ap (λ (r : List B). r ++ out vs) (out-take s i xs ∙ first i (omega arith))) j ++ out-drop s m xs j))
       ∙ append-assoc (take (i * w) l ++ out vs) (drop (m * w) (out xs)) (drop (length xs * w) l)
       ∙ ap (λ (r : List B). (take (i * w) l ++ out vs) ++ r) (rest m h)
       ∙ append-assoc (take (i * w) l) (out vs) (drop (m * w) l)
@@ -108,7 +110,8 @@ module _ (l : List Float) where
   -- the nodes with ns over the first of them: the list with ns over its first places
   pub nodes-out : (ns : List Point) → length ns ≤ nodePlaces → over l (put nodesOf 0 ns) ≡ over l ns
   unfolding over
-  nodes-out ns h = put-out nodes-written l nodesOf held-nodes 0 ns (omega (arith, length-in l nodePlaces)) ∙ (λ j. flat ns ++ drop (zero-add (length ns) j * 2) l)
+  nodes-out ns h =
+      put-out nodes-written l nodesOf held-nodes 0 ns (omega (arith, length-in l nodePlaces)) ∙ (λ j. flat ns ++ drop (zero-add (length ns) j * 2) l)
 
 -- ---- cells, four numbers each
 cells-written : Writes 4 four flatCells
@@ -153,4 +156,5 @@ module _ (l : List ℕ) where
   unfolding overCells
   cells-out i cs h =
       let e : (i + length cs) * 4 ≡ i * 4 + length cs * 4 = omega arith in
-      put-out cells-written l cellsOf held-cells i cs (omega (arith, length-tab (cellIn l) cellPlaces)) ∙ ap (λ (r : List ℕ). take (i * 4) l ++ (flatCells cs ++ r)) (ap (λ (k : ℕ). drop k l) e ∙ sym (drop-drop (length cs * 4) (i * 4) l))
+      put-out cells-written l cellsOf held-cells i cs (omega (arith, length-tab (cellIn l) cellPlaces))
+      ∙ ap (λ (r : List ℕ). take (i * 4) l ++ (flatCells cs ++ r)) (ap (λ (k : ℕ). drop k l) e ∙ sym (drop-drop (length cs * 4) (i * 4) l))

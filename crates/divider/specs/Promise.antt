@@ -12,8 +12,8 @@ use Rattle.call.specs.Divide.{CallAnswer, startOf}
 use Rattle.call.specs.Demand.{AcceptedCall}
 use Rattle.call.specs.Lent.{Lent, callOf, divideLent}
 
--- the values v are the row of the answer a; the node list, l before, is m, and the cell list, q before, is p: its nodes and its cells over the places they came from; the rim
--- marks are t
+-- the values v are the row of the answer a; the node list, l before, is m, and the cell list, q before, is p: its nodes and its cells over the places they
+-- came from; the rim marks are t
 pub record Leaves (a : CallAnswer) (v : Row) (l m : List Float) (t : List ℕ) (q p : List ℕ) : Type 0 where
   pub values : v ≡ a .row
   pub nodes : m ≡ over l (a .nodes)

@@ -74,7 +74,9 @@ fn lay_out(
     cell_count: usize,
 ) -> Answer
     requires { ⌜ CanDivideRing limits own ring (now nodes) «node_count» (now rims) (now cells) «cell_count» × Whole (partIn ring .points) ⌝ }
-    ensures { λ r. ⌜ Leaves (answered limits own (partIn ring) (listsIn (now (nodes .entry)) «node_count» (now (rims .entry)) (now (cells .entry)) «cell_count») (splitBadVertices limits (partIn ring)) (outcomeOf limits (partIn ring) (listsIn (now (nodes .entry)) «node_count» (now (rims .entry)) (now (cells .entry)) «cell_count»)))
+    ensures { λ r. ⌜ Leaves (answered limits own (partIn ring) (listsIn (now (nodes .entry)) «node_count» (now (rims .entry))
+        (now (cells .entry)) «cell_count») (splitBadVertices limits (partIn ring))
+        (outcomeOf limits (partIn ring) (listsIn (now (nodes .entry)) «node_count» (now (rims .entry)) (now (cells .entry)) «cell_count»)))
         (Answers.values r) (now (nodes .entry)) (now (nodes .exit)) (now (rims .exit)) (now (cells .entry)) (now (cells .exit)) ⌝ }
 {
     let cleaned = ring.ring;
@@ -189,7 +191,16 @@ pub fn divide_with(
 ) -> Answer
     requires { ⌜ HasRoom limits room (now cells) ⌝ }
     ensures { λ a. ⌜ ((cs : List Cell) → length cs ≡ room .places
-        → Leaves (divideInto limits (record { ring = now (ring .entry); chain = now (chain .entry); size = size; nodes = now (nodes .entry); nodeCount = «node_count»; rims = now (rims .entry); cells = cs; cellCount = room .used }) (now (cells .entry)) (room .at))
+        → Leaves (divideInto limits (record {
+          ring = now (ring .entry);
+          chain = now (chain .entry);
+          size = size;
+          nodes = now (nodes .entry);
+          nodeCount = «node_count»;
+          rims = now (rims .entry);
+          cells = cs;
+          cellCount = room .used;
+        }) (now (cells .entry)) (room .at))
         (Answers.values a) (now (nodes .entry)) (now (nodes .exit)) (now (rims .exit)) (now (cells .entry)) (now (cells .exit))) ⌝ }
 {
     let code = entry::refusal(
@@ -227,7 +238,16 @@ pub fn divide_set(
     cells: &mut [NodeNumber],
     cell_count: usize,
 ) -> Answer
-    ensures { λ a. ⌜ Promise limits (record { ring = now (ring .entry); chain = now (chain .entry); size = size; nodes = now (nodes .entry); nodeCount = «node_count»; rims = now (rims .entry); cells = now (cells .entry); cellCount = «cell_count» })
+    ensures { λ a. ⌜ Promise limits (record {
+      ring = now (ring .entry);
+      chain = now (chain .entry);
+      size = size;
+      nodes = now (nodes .entry);
+      nodeCount = «node_count»;
+      rims = now (rims .entry);
+      cells = now (cells .entry);
+      cellCount = «cell_count»;
+    })
         (Answers.values a) (now (nodes .exit)) (now (rims .exit)) (now (cells .exit)) ⌝ }
 {
     let room = CellRoom {
@@ -259,7 +279,16 @@ pub fn divide(
     cells: &mut [NodeNumber],
     cell_count: usize,
 ) -> Answer
-    ensures { λ a. ⌜ Promise delivered (record { ring = now (ring .entry); chain = now (chain .entry); size = size; nodes = now (nodes .entry); nodeCount = «node_count»; rims = now (rims .entry); cells = now (cells .entry); cellCount = «cell_count» })
+    ensures { λ a. ⌜ Promise delivered (record {
+      ring = now (ring .entry);
+      chain = now (chain .entry);
+      size = size;
+      nodes = now (nodes .entry);
+      nodeCount = «node_count»;
+      rims = now (rims .entry);
+      cells = now (cells .entry);
+      cellCount = «cell_count»;
+    })
         (Answers.values a) (now (nodes .exit)) (now (rims .exit)) (now (cells .exit)) ⌝ }
 {
     let limits = Limits::on_delivery();

@@ -13,13 +13,21 @@ use Rattle.drawing.specs.Page.{Page, page, goneOn, stops, lineEnds, fed, ends, 
 use Rattle.draw.specs.declared.Ended.{Ended}
 use Rattle.draw.specs.Reached.{Reached, Sendable, written, ending, Ends}
 
-pub begun-so : (s : State) (text : List ℕ) (ring chain : List ℤ) (out : List ℕ) → s ≡ begun → length text ≡ 80 → length ring ≡ 120 → length chain ≡ 120 → length out ≡ 1024 → Reached s text ring chain out 0
+pub begun-so : (s : State) (text : List ℕ) (ring chain : List ℤ) (out : List ℕ) → s ≡ begun → length text ≡ 80 → length ring ≡ 120 → length chain ≡ 120
+    → length out ≡ 1024 → Reached s text ring chain out 0
 unfolding ran
 begun-so s text ring chain out e a b c d =
     record {
       input = [];
       same = ap (λ (x : State). page x text ring chain out) e;
-      kept = rw e (record { short = omega arith; lines = omega arith; text-long = a; fine = record { corners = omega arith; run = omega arith; block = omega arith; ring-long = b; chain-long = c; out-long = d } });
+      kept =
+          rw e
+          (record {
+            short = omega arith;
+            lines = omega arith;
+            text-long = a;
+            fine = record { corners = omega arith; run = omega arith; block = omega arith; ring-long = b; chain-long = c; out-long = d };
+          });
       count = refl;
       bound = rw e (omega arith);
     }
@@ -54,7 +62,9 @@ at-most true n m h = omega arith
 at-most false n m h = omega arith
 
 -- a byte fewer may come, or the run has ended; and it writes one pair at most
-fed-step : (b : ℕ) (p : Page) → (nearer (fed b p .state) < suc (p .state .left)) × (length (fed b p .out) ≤ 1024 → length (fed b p .out) + 1024 * fed b p .state .left ≤ 1024 * p .state .left)
+fed-step : (b : ℕ) (p : Page)
+    → (nearer (fed b p .state) < suc (p .state .left))
+    × (length (fed b p .out) ≤ 1024 → length (fed b p .out) + 1024 * fed b p .state .left ≤ 1024 * p .state .left)
 unfolding fed stops lineEnds
 fed-step b p = go (eqb (p .state .left) 0) (eqb b 10) (p .state .comment || eqb b 35) (eqb (p .state .length) 80) refl
   where
@@ -73,14 +83,16 @@ fed-step b p = go (eqb (p .state .left) 0) (eqb b 10) (p .state .comment || eqb 
     less e = let n = eqb-false (s .left) 0 e in omega (arith, n)
 
     go : (t u v w : Bool) → eqb (s .left) 0 ≡ t
-        → (nearer (pages t u v w .state) < suc (s .left)) × (length (pages t u v w .out) ≤ 1024 → length (pages t u v w .out) + 1024 * pages t u v w .state .left ≤ 1024 * s .left)
+        → (nearer (pages t u v w .state) < suc (s .left))
+        × (length (pages t u v w .out) ≤ 1024 → length (pages t u v w .out) + 1024 * pages t u v w .state .left ≤ 1024 * s .left)
     go true u v w e = (omega arith, λ h. omega arith)
     go false true v w e = (at-most (eqb (lineEnds p .state .draft .wrong) 0) (s .left - 1) (s .left) (less e), λ h. omega (arith, less e))
     go false false true w e = (at-most (eqb (s .draft .wrong) 0) (s .left - 1) (s .left) (less e), λ h. omega (arith, less e))
     go false false false true e = (omega arith, λ h. omega arith)
     go false false false false e = (at-most (eqb (s .draft .wrong) 0) (s .left - 1) (s .left) (less e), λ h. omega (arith, less e))
 
-pub falls : (b : ℕ) {s r : State} {text text' : List ℕ} {ring chain ring' chain' : List ℤ} {out' : List ℕ} → s .draft .wrong ≡ 0 → Moves (fed b) s text ring chain r text' ring' chain' out' → nearer r < nearer s
+pub falls : (b : ℕ) {s r : State} {text text' : List ℕ} {ring chain ring' chain' : List ℤ} {out' : List ℕ} → s .draft .wrong ≡ 0
+    → Moves (fed b) s text ring chain r text' ring' chain' out' → nearer r < nearer s
 falls b {s} {r} {text} {text'} {ring} {chain} {ring'} {chain'} {out'} e m =
     let a : r ≡ fed b (page s text ring chain []) .state = ap (λ (p : Page). p .state) (m .same) in
     rw (a, eq-eqb (s .draft .wrong) 0 e) (fed-step b (page s text ring chain []) .0)
@@ -101,7 +113,8 @@ module _ {s : State} {text : List ℕ} {ring chain : List ℤ} {out : List ℕ} 
   unfolding ran
   fed-is b e = fed-as b ∙ sym (onward-goes (ran (q .input)) b (wrong-is ∙ e))
 
-  module _ (b : ℕ) {r : State} {text' : List ℕ} {ring' chain' : List ℤ} {out' : List ℕ} (e : s .draft .wrong ≡ 0) (m : Moves (fed b) s text ring chain r text' ring' chain' out') where
+  module _ (b : ℕ) {r : State} {text' : List ℕ} {ring' chain' : List ℤ} {out' : List ℕ} (e : s .draft .wrong ≡ 0)
+      (m : Moves (fed b) s text ring chain r text' ring' chain' out') where
     wrote : written r out' ≡ fed b (ran (q .input) .page) .out
     wrote = ap (λ (p : Page). p .out) (m .same ∙ fed-as b)
 
@@ -130,7 +143,14 @@ module _ {s : State} {text : List ℕ} {ring chain : List ℤ} {out : List ℕ} 
         }
 
     pub sendable : Sendable r out' sent
-    sendable = record { input = b ∷ q .input; ended = false; blocks = ap (λ (p : Page). p .out) (m .same ∙ fed-is b e); long = m .kept .fine .out-long; few = omega (arith, q .bound) }
+    sendable =
+        record {
+          input = b ∷ q .input;
+          ended = false;
+          blocks = ap (λ (p : Page). p .out) (m .same ∙ fed-is b e);
+          long = m .kept .fine .out-long;
+          few = omega (arith, q .bound);
+        }
 
   stuck : (s .draft .wrong ≡ 0 → ⊥) → finished (q .input) ≡ ran (q .input)
   unfolding finished ran
@@ -145,7 +165,8 @@ module _ {s : State} {text : List ℕ} {ring chain : List ℤ} {out : List ℕ} 
       record { input = q .input; said = e ∙ (λ j. ending (x j) (y j)) }
 
 -- ---- the last line ended in state a, of which the bytes are sent
-module _ {a : State} {text : List ℕ} {ring chain : List ℤ} {out : List ℕ} {sent : ℕ} (bs : List ℕ) (q : Reached a text ring chain out sent) (i : q .input ≡ 10 ∷ bs) where
+module _ {a : State} {text : List ℕ} {ring chain : List ℤ} {out : List ℕ} {sent : ℕ} (bs : List ℕ) (q : Reached a text ring chain out sent)
+    (i : q .input ≡ 10 ∷ bs) where
   last : page a text ring chain out ≡ ran (10 ∷ bs) .page
   last = q .same ∙ ap (λ (l : List ℕ). ran l .page) i
 
@@ -165,7 +186,8 @@ module _ {a : State} {text : List ℕ} {ring chain : List ℤ} {out : List ℕ} 
       let y : sent ≡ length (finished bs .blocks) = counted ∙ ap (λ (x : Run). length (x .blocks)) (sym (bad-last k)) in
       record { input = bs; said = d ∙ (λ j. ending (x j) (y j)) }
 
-  good-last : a .draft .wrong ≡ 0 → record { page = ends (ran (10 ∷ bs) .page); blocks = ran (10 ∷ bs) .blocks ++ ends (ran (10 ∷ bs) .page) .out } ≡ finished bs
+  good-last : a .draft .wrong ≡ 0
+      → record { page = ends (ran (10 ∷ bs) .page); blocks = ran (10 ∷ bs) .blocks ++ ends (ran (10 ∷ bs) .page) .out } ≡ finished bs
   unfolding finished
   good-last k = rw (eq-eqb (ran (10 ∷ bs) .page .state .draft .wrong) 0 (last-wrong ∙ k))
 

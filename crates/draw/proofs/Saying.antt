@@ -24,7 +24,22 @@ read-some (negsuc k) most e = not-both (ltZ (negsuc k) (pos 0)) refl e
 pub for-number : (n k : ℕ) (w : List ℕ) → n ≡ k → w ≡ said k → w ≡ said n
 for-number n k w e h = rw e h
 
-pub other-words : (n : ℕ) → (n ≡ 1 → ⊥) → (n ≡ 12 → ⊥) → (n ≡ 21 → ⊥) → (n ≡ 22 → ⊥) → (n ≡ 23 → ⊥) → (n ≡ 24 → ⊥) → (n ≡ 25 → ⊥) → (n ≡ 26 → ⊥) → (n ≡ 27 → ⊥) → (n ≡ 28 → ⊥) → (n ≡ 29 → ⊥) → (n ≡ 30 → ⊥)
+pub other-words : (n : ℕ) → (n ≡ 1 → ⊥) → (n ≡ 12 → ⊥) → (n ≡ 21 → ⊥) → (n ≡ 22 → ⊥) → (n ≡ 23 → ⊥) → (n ≡ 24 → ⊥) → (n ≡ 25 → ⊥) → (n ≡ 26 → ⊥)
+    → (n ≡ 27 → ⊥) → (n ≡ 28 → ⊥) → (n ≡ 29 → ⊥) → (n ≡ 30 → ⊥)
     → bytes "draw: standard output failed\n" ≡ said n
 unfolding said
-other-words n h0 h1 h2 h3 h4 h5 h6 h7 h8 h9 h10 h11 = rw (ne-eqb n 1 h0, ne-eqb n 12 h1, ne-eqb n 21 h2, ne-eqb n 22 h3, ne-eqb n 23 h4, ne-eqb n 24 h5, ne-eqb n 25 h6, ne-eqb n 26 h7, ne-eqb n 27 h8, ne-eqb n 28 h9, ne-eqb n 29 h10, ne-eqb n 30 h11)
+other-words n h0 h1 h2 h3 h4 h5 h6 h7 h8 h9 h10 h11 =
+    rw (
+      ne-eqb n 1 h0,
+      ne-eqb n 12 h1,
+      ne-eqb n 21 h2,
+      ne-eqb n 22 h3,
+      ne-eqb n 23 h4,
+      ne-eqb n 24 h5,
+      ne-eqb n 25 h6,
+      ne-eqb n 26 h7,
+      ne-eqb n 27 h8,
+      ne-eqb n 28 h9,
+      ne-eqb n 29 h10,
+      ne-eqb n 30 h11,
+    )

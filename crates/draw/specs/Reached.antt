@@ -1,5 +1,5 @@
--- The loop of `draw`: what holds between two bytes, what it writes, and how it ends. Of what was read and written no contract can speak, so the input stands for the bytes
--- that the loop stepped over, the latest first, and what was written for its length.
+-- The loop of `draw`: what holds between two bytes, what it writes, and how it ends. Of what was read and written no contract can speak, so the input stands
+-- for the bytes that the loop stepped over, the latest first, and what was written for its length.
 use Prim.Native.Nat.{ℕ, _+_, _*_, _≤_}
 use mathlib.Core.Path.{_≡_}
 use mathlib.Core.Bool.{Bool, false, cond}

@@ -81,7 +81,8 @@ pub fn any_outside(l: &[i32]) -> bool
 
 // 2: a coordinate or the sheet size.
 pub fn units_out(ring: &[i32], chain: &[i32], size: u32) -> bool
-    ensures { λ r. ⌜ r ≡ Call.unitsOut (pointsIn (now (ring .entry)) (length (now (ring .entry)) / 2)) (pointsIn (now (chain .entry)) (length (now (chain .entry)) / 2)) size ⌝ }
+    ensures { λ r. ⌜ r ≡ Call.unitsOut (pointsIn (now (ring .entry)) (length (now (ring .entry)) / 2))
+        (pointsIn (now (chain .entry)) (length (now (chain .entry)) / 2)) size ⌝ }
 {
     if any_outside(ring) {
         return true;
@@ -124,7 +125,14 @@ pub fn lists_out(
     cell_places: usize,
     cell_count: usize,
 ) -> bool
-    ensures { λ r. ⌜ ((cells : List Cell) → length cells ≡ «cell_places» → r ≡ Call.listsOut (record { nodes = nodesIn (now (nodes .entry)) (length (now (nodes .entry)) / 2); nodeCount = «node_count»; rims = now (rims .entry); cells = cells; cellCount = «cell_count» })) ⌝ }
+    ensures { λ r. ⌜ ((cells : List Cell) → length cells ≡ «cell_places» → r ≡ Call.listsOut
+        (record {
+          nodes = nodesIn (now (nodes .entry)) (length (now (nodes .entry)) / 2);
+          nodeCount = «node_count»;
+          rims = now (rims .entry);
+          cells = cells;
+          cellCount = «cell_count»;
+        })) ⌝ }
 {
     let places = nodes.len() / 2;
     if places < node_count {
@@ -183,7 +191,17 @@ pub fn refusal(
     cell_places: usize,
     cell_count: usize,
 ) -> u32
-    ensures { λ r. ⌜ ((cells : List Cell) → length cells ≡ «cell_places» → r ≡ Refusal.refusal limits (record { ring = now (ring .entry); chain = now (chain .entry); size = size; nodes = now (nodes .entry); nodeCount = «node_count»; rims = now (rims .entry); cells = cells; cellCount = «cell_count» })) ⌝ }
+    ensures { λ r. ⌜ ((cells : List Cell) → length cells ≡ «cell_places» → r ≡ Refusal.refusal limits
+        (record {
+          ring = now (ring .entry);
+          chain = now (chain .entry);
+          size = size;
+          nodes = now (nodes .entry);
+          nodeCount = «node_count»;
+          rims = now (rims .entry);
+          cells = cells;
+          cellCount = «cell_count»;
+        })) ⌝ }
 {
     if counts_out(ring.len(), chain.len()) {
         return 1;

@@ -62,13 +62,16 @@ laid-more f i es e so l q =
     }
 
 -- the mark that the code lays, with the next places that it found
-pub mark-next : (ring : Ring) (c : CleanedRing) (kinds : List ℕ) (snaps : List Float) (ss : List Segment) (j m after : ℕ) → m ≡ (j + 1) % c .ring .count → after ≡ (getD (c .places) j 0 + 1) % ring .count
+pub mark-next : (ring : Ring) (c : CleanedRing) (kinds : List ℕ) (snaps : List Float) (ss : List Segment) (j m after : ℕ) → m ≡ (j + 1) % c .ring .count
+    → after ≡ (getD (c .places) j 0 + 1) % ring .count
     → (let k = getD (c .places) j 0 in
-    cond (eqb (getD (c .places) m 0) after) (markOf (getD kinds k 0) (nodeIn snaps k) (leadPoint ss (getD (ring .points) k origin) (getD (ring .points) after origin))) Straight)
+    cond (eqb (getD (c .places) m 0) after)
+    (markOf (getD kinds k 0) (nodeIn snaps k) (leadPoint ss (getD (ring .points) k origin) (getD (ring .points) after origin))) Straight)
     ≡ markLeft ring c kinds snaps ss j
 mark-next ring c kinds snaps ss j m after d e =
     let k = getD (c .places) j 0 in
-    λ i. cond (eqb (getD (c .places) (d i) 0) (e i)) (markOf (getD kinds k 0) (nodeIn snaps k) (leadPoint ss (getD (ring .points) k origin) (getD (ring .points) (e i) origin))) Straight
+    λ i. cond (eqb (getD (c .places) (d i) 0) (e i))
+    (markOf (getD kinds k 0) (nodeIn snaps k) (leadPoint ss (getD (ring .points) k origin) (getD (ring .points) (e i) origin))) Straight
 
 -- the outline's nearest point is looked at where the kind is 2 alone
 mark-same : (kind : ℕ) (p q u : Point) → (kind ≡ 2 → q ≡ u) → markOf kind p q ≡ markOf kind p u
@@ -80,7 +83,8 @@ mark-same kind p q u h = go (eqb kind 1) (eqb kind 2) refl
     go false true e = ap Snap (h (eqb-true kind 2 e))
     go false false e = refl
 
-module _ (ring : Ring) (c : CleanedRing) (g : Marking) (o : LeadLine) (h : MarksOf ring (g .kinds) (g .snaps) c) (t : OutlineRead (g .kinds) (g .outline) (g .loops) o) where
+module _ (ring : Ring) (c : CleanedRing) (g : Marking) (o : LeadLine) (h : MarksOf ring (g .kinds) (g .snaps) c)
+    (t : OutlineRead (g .kinds) (g .outline) (g .loops) o) where
   abbrev r : List GridPoint
   r = pointsOf ring
 
@@ -97,13 +101,17 @@ module _ (ring : Ring) (c : CleanedRing) (g : Marking) (o : LeadLine) (h : Marks
   points-many = length-take-le (ring .count) (ring .points) (rings.room ring (h .sheet))
 
   -- the mark given to the edge from place k
-  given-is : (k : ℕ) → k < (ring .count) → markOf (getD (g .kinds) k 0) (nodeIn (g .snaps) k) (leadPoint (sought o) (getD (ring .points) k origin) (getD (ring .points) ((k + 1) % (ring .count)) origin)) ≡ givenMark g r k
+  given-is : (k : ℕ) → k < (ring .count)
+      → markOf (getD (g .kinds) k 0) (nodeIn (g .snaps) k)
+      (leadPoint (sought o) (getD (ring .points) k origin) (getD (ring .points) ((k + 1) % (ring .count)) origin)) ≡ givenMark g r k
   unfolding givenMark calledFor
   given-is k l =
       let f = rings.room ring (h .sheet) in
       let a = rings.at-in (ring .points) (ring .count) f (omega (arith, l)) k l in
       let b = rings.at-next (ring .points) (ring .count) f (omega (arith, l)) k ((k + 1) % (ring .count)) refl in
-      mark-same (getD (g .kinds) k 0) (nodeIn (g .snaps) k) (leadPoint (sought o) (getD (ring .points) k origin) (getD (ring .points) ((k + 1) % (ring .count)) origin)) (leadPoint (leadLine g) (at r k) (at r (suc k)))
+      mark-same (getD (g .kinds) k 0) (nodeIn (g .snaps) k)
+      (leadPoint (sought o) (getD (ring .points) k origin) (getD (ring .points) ((k + 1) % (ring .count)) origin))
+      (leadPoint (leadLine g) (at r k) (at r (suc k)))
       (λ e.
       let s = t .is (any-hit (λ i. eqb (getD (g .kinds) i 0) 2) k (length (g .kinds)) (omega (arith, l, h .marks)) (eq-eqb (getD (g .kinds) k 0) 2 e)) in
       λ i. leadPoint (s i) (sym a i) (sym b i))
@@ -116,11 +124,13 @@ module _ (ring : Ring) (c : CleanedRing) (g : Marking) (o : LeadLine) (h : Marks
       let low = place-low ring (g .kinds) (g .snaps) c h j l in
       let z : 1 ≤ c .ring .count = omega (arith, l) in
       let a : getD ks j 0 ≡ k = getD-take (c .ring .count) (c .places) j 0 l in
-      let b : getD ks ((j + 1) % c .ring .count) 0 ≡ getD (c .places) ((j + 1) % c .ring .count) 0 = getD-take (c .ring .count) (c .places) ((j + 1) % c .ring .count) 0 (mod-lt (j + 1) z) in
+      let b : getD ks ((j + 1) % c .ring .count) 0 ≡ getD (c .places) ((j + 1) % c .ring .count) 0 =
+      getD-take (c .ring .count) (c .places) ((j + 1) % c .ring .count) 0 (mod-lt (j + 1) z) in
       let d : suc j % length ks ≡ (j + 1) % c .ring .count = (λ i. (sym (add-one j) i) % (many i)) in
       let s : survives (ring .count) ks (getD ks j 0) ≡ eqb (getD (c .places) ((j + 1) % c .ring .count) 0) ((k + 1) % (ring .count)) =
       survives-next (ring .count) ks (h .kept) j (omega (arith, l, many))
-      ∙ (λ i. eqb ((ap (λ (x : ℕ). getD ks x 0) d ∙ b) i) ((ap (λ (x : ℕ). suc x % (ring .count)) a ∙ ap (λ (x : ℕ). x % (ring .count)) (sym (add-one k))) i)) in
+      ∙ (λ i. eqb ((ap (λ (x : ℕ). getD ks x 0) d ∙ b) i) ((ap (λ (x : ℕ). suc x % (ring .count)) a ∙ ap (λ (x : ℕ). x % (ring .count)) (sym (add-one k))) i))
+      in
       let m : getD ms (getD ks j 0) Straight ≡ givenMark g r k = ap (λ (x : ℕ). getD ms x Straight) a ∙ getD-tab (givenMark g r) (ring .count) k Straight low in
       λ i. cond (sym s i) ((given-is k low ∙ sym m) i) Straight
 
@@ -130,7 +140,8 @@ module _ (ring : Ring) (c : CleanedRing) (g : Marking) (o : LeadLine) (h : Marks
       let u : surviving Straight (ring .count) ks ms ≡ tab f (c .ring .count) =
       is-tab (surviving Straight (ring .count) ks ms) f (c .ring .count) Straight (surviving-many Straight (ring .count) ks ms ∙ many)
       (λ j l. surviving-at Straight (ring .count) ks ms j (omega (arith, l, many)) ∙ sym (left-is j l)) in
-      let v : surviving Straight (ring .count) ks ms ≡ surviving Straight (length r) ks (tab (givenMark g r) (length r)) = ap (λ (x : ℕ). surviving Straight x ks (tab (givenMark g r) x)) (sym points-many) in
+      let v : surviving Straight (ring .count) ks ms ≡ surviving Straight (length r) ks (tab (givenMark g r) (length r)) =
+      ap (λ (x : ℕ). surviving Straight x ks (tab (givenMark g r) x)) (sym points-many) in
       record {
         marks = ap (marksIn es) many ∙ so .marks ∙ sym u ∙ v;
         unused = λ k l. so .unused k (omega (arith, l, many));

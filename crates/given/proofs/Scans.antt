@@ -1,4 +1,5 @@
--- The scans of refusals 13 and 14, place by place: kinds, given points and loops. The sum of the loops stops past 60, where the outline has too few points for it.
+-- The scans of refusals 13 and 14, place by place: kinds, given points and loops. The sum of the loops stops past 60, where the outline has too few points
+-- for it.
 use Prim.Native.Nat.{ℕ, _+_, _*_, _-_, _/_, _≤_, _<_}
 use native.Mathlib.Omega.{arith}
 use mathlib.Core.Path.{_≡_, sym, ap, _∙_, subst}
@@ -49,7 +50,8 @@ module _ (ms : List ℕ) (n : ℕ) where
   loops-over i k h l =
       let a = total-up ms i (length ms) l in
       let b : total (take (length ms) ms) ≡ total ms = ap total (take-length ms) in
-      sym (ap (λ (b : Bool). any (short ms) (length ms) || not b) (ne-eqb (total ms) n (λ e. omega (arith, a, b, h, k, e))) ∙ or-true (any (short ms) (length ms)))
+      sym
+      (ap (λ (b : Bool). any (short ms) (length ms) || not b) (ne-eqb (total ms) n (λ e. omega (arith, a, b, h, k, e))) ∙ or-true (any (short ms) (length ms)))
 
   pub loops-sum : (i t : ℕ) → i ≡ length ms → any (short ms) i ≡ false → t ≡ total (take i ms) → not (eqb t n) ≡ loopsOut ms n
   unfolding loopsOut
@@ -63,11 +65,14 @@ module _ (ms : List ℕ) (n : ℕ) where
   loops-whole e =
       let a = neither (any (short ms) (length ms)) (not (eqb (total ms) n)) e in
       let s = eqb-true (total ms) n (is-true (eqb (total ms) n) (a .1)) in
-      let f = loops-few ms (λ i l. ltb-false (getD ms i 0) 3 (is-false (short ms i) (any-none (short ms) (length ms) (not-of (any (short ms) (length ms)) (a .0)) i l))) in
+      let f =
+      loops-few ms
+      (λ i l. ltb-false (getD ms i 0) 3 (is-false (short ms i) (any-none (short ms) (length ms) (not-of (any (short ms) (length ms)) (a .0)) i l))) in
       (s, omega (arith, s, f))
 
 -- ---- the outline as arrays hold it
-pub none-sought : (kinds : List ℕ) (outline : List ℤ) (loops : List ℕ) (o : LeadLine) → o .count ≡ 0 → calledFor kinds ≡ false → OutlineRead kinds outline loops o
+pub none-sought : (kinds : List ℕ) (outline : List ℤ) (loops : List ℕ) (o : LeadLine) → o .count ≡ 0 → calledFor kinds ≡ false
+    → OutlineRead kinds outline loops o
 none-sought kinds outline loops o z e =
     let t : total (take (o .count) (o .loops)) ≡ 0 = ap (λ (k : ℕ). total (take k (o .loops))) z in
     record { fits = record { few = omega (arith, z); points = omega (arith, t) }; is = λ h. absurd (subst T (sym h ∙ e) tt) }
@@ -85,11 +90,14 @@ module _ (kinds : List ℕ) (outline : List ℤ) (loops : List ℕ) (e : outline
   pub few-loops : length loops ≤ 20
   few-loops = omega (arith, loops-whole loops n (passed .whole) .1, passed .few)
 
-  pub held : (ps : List GridPoint) (ls : List ℕ) → ps ≡ pointsIn outline n ++ replicate (60 - n) origin → take (length loops) ls ≡ loops → OutlineRead kinds outline loops (record { points = ps; loops = ls; count = length loops })
+  pub held : (ps : List GridPoint) (ls : List ℕ) → ps ≡ pointsIn outline n ++ replicate (60 - n) origin → take (length loops) ls ≡ loops
+      → OutlineRead kinds outline loops (record { points = ps; loops = ls; count = length loops })
   held ps ls p l =
       let s = loops-whole loops n (passed .whole) .0 in
       let t : total (take (length loops) ls) ≡ total loops = ap total l in
       record {
         fits = record { few = few-loops; points = omega (arith, s, t, passed .few) };
-        is = λ h. (λ i. segments (p i) (l i)) ∙ segments-front (pointsIn outline n) (replicate (60 - n) origin) loops (omega (arith, s, length-tab (pointIn outline) n));
+        is =
+            λ h. (λ i. segments (p i) (l i))
+            ∙ segments-front (pointsIn outline n) (replicate (60 - n) origin) loops (omega (arith, s, length-tab (pointIn outline) n));
       }

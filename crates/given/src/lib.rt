@@ -239,7 +239,8 @@ pub fn surviving_marks(
     loops: &[u32],
 ) -> [Edge; MOST_POINTS]
     requires { ⌜ MarksOf ring (now kinds) (now snaps) clean × (Marked.outlineOut (now kinds) (now outline) (now loops) ≡ false) ⌝ }
-    ensures { λ r. ⌜ Survive (record { kinds = now (kinds .entry); snaps = now (snaps .entry); outline = now (outline .entry); loops = now (loops .entry) }) (pointsOf ring) (placesIn clean) r ⌝ }
+    ensures { λ r. ⌜ Survive (record { kinds = now (kinds .entry); snaps = now (snaps .entry); outline = now (outline .entry); loops = now (loops .entry) })
+        (pointsOf ring) (placesIn clean) r ⌝ }
 {
     let lead = lead_line(kinds, outline, loops);
     marks_left(ring, clean, kinds, snaps, lead)

@@ -1,5 +1,5 @@
--- What kind of answer a block of a given number has: a ring or a refusal where the number is even, a chain or a refusal where it is odd; and an accepted block's number
--- is below 65,536, since two bytes hold it.
+-- What kind of answer a block of a given number has: a ring or a refusal where the number is even, a chain or a refusal where it is odd; and an accepted
+-- block's number is below 65,536, since two bytes hold it.
 use Prim.Native.Nat.{ℕ, _+_, _*_, _%_, _≤_, _<_}
 use mathlib.Core.Path.{_≡_, refl, sym, subst}
 use mathlib.Core.Logic.{_⊎_, inl, inr}

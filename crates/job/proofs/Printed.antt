@@ -1,6 +1,6 @@
--- Claim: `printed` of an input is what a loop writes that reads, steps and writes until the run has ended, where each read gives the next 512 bytes or what is left.
--- The run of every input ends, at the latest with the first read that gives less than a block (`ended`) and, of bytes, with read 65,537 (`in-time`); and wherever it
--- has ended, it is the whole run (`settles`), and the text so far is `printed` (`prints`).
+-- Claim: `printed` of an input is what a loop writes that reads, steps and writes until the run has ended, where each read gives the next 512 bytes or what
+-- is left. The run of every input ends, at the latest with the first read that gives less than a block (`ended`) and, of bytes, with read 65,537 (`in-time`);
+-- and wherever it has ended, it is the whole run (`settles`), and the text so far is `printed` (`prints`).
 use Prim.Native.Nat.{ℕ, zero, suc, _+_, _-_, _*_, _/_, _≤_, _<_}
 use mathlib.Core.Path.{_≡_, refl, sym, ap, _∙_, subst}
 use mathlib.Core.Bool.{true, false}
@@ -33,7 +33,8 @@ module _ (l : List ℕ) where
     settled (suc k) =
         let q = settled k in
         let a : suc k + n ≡ suc (k + n) = omega arith in
-        ap (λ (m : ℕ). ran (readTo l m)) a ∙ one-more (k + n) ∙ ap (λ (r : Course). onward r (blockAt l (k + n))) q ∙ stays (ran (readTo l n)) (blockAt l (k + n)) e
+        ap (λ (m : ℕ). ran (readTo l m)) a ∙ one-more (k + n) ∙ ap (λ (r : Course). onward r (blockAt l (k + n))) q
+        ∙ stays (ran (readTo l n)) (blockAt l (k + n)) e
 
     later : (m : ℕ) → n ≤ m → ran (readTo l m) ≡ ran (readTo l n)
     later m h = let q : (m - n) + n ≡ m = omega arith in subst (λ (k : ℕ). ran (readTo l k) ≡ ran (readTo l n)) q (settled (m - n))
@@ -58,7 +59,8 @@ module _ (l : List ℕ) where
   -- while it goes on, the number of the next block is that of the reads, and at most 65,536
   pub counted : (n : ℕ) → ran (readTo l n) .state .ended ≡ false → ran (readTo l n) .state .block ≡ n
   counted zero e = first-number
-  counted (suc n) e = rw (one-more n) (numbered (ran (readTo l n)) (blockAt l n) n (counted n) (subst (λ (r : Course). r .state .ended ≡ false) (one-more n) e) .0)
+  counted (suc n) e =
+      rw (one-more n) (numbered (ran (readTo l n)) (blockAt l n) n (counted n) (subst (λ (r : Course). r .state .ended ≡ false) (one-more n) e) .0)
 
   pub in-time : Bytes l → (n : ℕ) → 65537 ≤ n → ran (readTo l n) .state .ended ≡ true
   in-time f n h = go (known (ran (readTo l n) .state .ended))
@@ -66,7 +68,10 @@ module _ (l : List ℕ) where
       too-far : (k : ℕ) → 65537 ≤ k → ran (readTo l k) .state .ended ≡ false → ⊥
       too-far zero h e = absurd (omega arith)
       too-far (suc k) h e =
-          omega (arith, numbered (ran (readTo l k)) (blockAt l k) k (counted k) (subst (λ (r : Course). r .state .ended ≡ false) (one-more k) e) .1 (block-bytes l k f))
+          omega (
+            arith,
+            numbered (ran (readTo l k)) (blockAt l k) k (counted k) (subst (λ (r : Course). r .state .ended ≡ false) (one-more k) e) .1 (block-bytes l k f),
+          )
 
       go : (ran (readTo l n) .state .ended ≡ true) ⊎ (ran (readTo l n) .state .ended ≡ false) → ran (readTo l n) .state .ended ≡ true
       go (inl e) = e

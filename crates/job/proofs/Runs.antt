@@ -1,5 +1,5 @@
--- Laws of a run: a step ends it or takes a whole block with the next number (`outcome`); what a state that was reached is bound by; a run that has ended stays as it is;
--- and blocks that were read of an input are read of every longer one (`read-more`).
+-- Laws of a run: a step ends it or takes a whole block with the next number (`outcome`); what a state that was reached is bound by; a run that has ended
+-- stays as it is; and blocks that were read of an input are read of every longer one (`read-more`).
 use Prim.Native.Nat.{ℕ, zero, suc, _+_, _-_, _*_, _%_, _≤_, _<_}
 use mathlib.Core.Path.{_≡_, refl, sym, ap, _∙_, subst}
 use mathlib.Core.Bool.{Bool, true, false, _&&_, cond}
@@ -43,7 +43,9 @@ either p false x y a b = b
 
 module _ (s : State) (ps : List ℤ) (l : List Float) (rs : List ℕ) where
   -- an accepted block: a ring that waits, or one that is divided
-  accepted : (t : Bool) (count size : ℕ) (qs : List ℤ) → (taken s ps l rs qs (cond t (Ring count size) (Chain count)) .state .block ≡ s .block + 1) × (taken s ps l rs qs (cond t (Ring count size) (Chain count)) .state .ended ≡ false)
+  accepted : (t : Bool) (count size : ℕ) (qs : List ℤ)
+      → (taken s ps l rs qs (cond t (Ring count size) (Chain count)) .state .block ≡ s .block + 1)
+      × (taken s ps l rs qs (cond t (Ring count size) (Chain count)) .state .ended ≡ false)
   unfolding taken waits divides
   accepted true count size qs = (refl, refl)
   accepted false count size qs = (refl, refl)
@@ -84,14 +86,17 @@ module _ (s : State) (ps : List ℤ) (l : List Float) (rs : List ℕ) where
     pub outcome : (stepOf s ps l rs b .state .ended ≡ true) ⊎ Went s b (stepOf s ps l rs b)
     unfolding stepOf
     outcome =
-        either (λ (e : Step). (e .state .ended ≡ true) ⊎ Went s b e) (eqb (s .block % 2) 0 && eqb (length b) 0) (ends s ps l rs Told.Nothing) goesOn (inl (ends-ended Told.Nothing))
+        either (λ (e : Step). (e .state .ended ≡ true) ⊎ Went s b e) (eqb (s .block % 2) 0 && eqb (length b) 0) (ends s ps l rs Told.Nothing) goesOn
+        (inl (ends-ended Told.Nothing))
         (by-answer (decLe (refusal b (s .block)) 0))
 
     pub step-held : s .count ≤ 60 → length ps ≡ 120 → Held (stepOf s ps l rs b .state) (stepOf s ps l rs b .points)
     unfolding stepOf
     step-held f g =
-        either (λ (e : Step). Held (e .state) (e .points)) (eqb (s .block % 2) 0 && eqb (length b) 0) (ends s ps l rs Told.Nothing) goesOn (ends-held f g Told.Nothing)
-        (taken-held f g (readBlock b (s .block) .points) (readBlock b (s .block) .block) (few-points b (s .block) (readBlock b (s .block)) refl) (all-places b (s .block) (readBlock b (s .block)) refl))
+        either (λ (e : Step). Held (e .state) (e .points)) (eqb (s .block % 2) 0 && eqb (length b) 0) (ends s ps l rs Told.Nothing) goesOn
+        (ends-held f g Told.Nothing)
+        (taken-held f g (readBlock b (s .block) .points) (readBlock b (s .block) .block) (few-points b (s .block) (readBlock b (s .block)) refl)
+        (all-places b (s .block) (readBlock b (s .block)) refl))
 
     -- a number of two bytes
     pub number-below : Bytes b → Went s b (stepOf s ps l rs b) → s .block < 65536
@@ -112,7 +117,15 @@ module _ (r : Course) (b : List ℕ) where
   unfolding onward
   stays e = rw e
 
-  pub goes : r .state .ended ≡ false → onward r b ≡ record { state = stepOf (r .state) (r .points) (r .nodes) (r .rims) b .state; points = stepOf (r .state) (r .points) (r .nodes) (r .rims) b .points; nodes = stepOf (r .state) (r .points) (r .nodes) (r .rims) b .nodes; rims = stepOf (r .state) (r .points) (r .nodes) (r .rims) b .rims; text = r .text ++ textOf (stepOf (r .state) (r .points) (r .nodes) (r .rims) b) }
+  pub goes : r .state .ended ≡ false
+      → onward r b ≡ record {
+        state = stepOf (r .state) (r .points) (r .nodes) (r .rims) b .state;
+        points = stepOf (r .state) (r .points) (r .nodes) (r .rims)
+            b .points;
+        nodes = stepOf (r .state) (r .points) (r .nodes) (r .rims) b .nodes;
+        rims = stepOf (r .state) (r .points) (r .nodes) (r .rims) b .rims;
+        text = r .text ++ textOf (stepOf (r .state) (r .points) (r .nodes) (r .rims) b);
+      }
   unfolding onward
   goes e = rw e
 
@@ -121,13 +134,17 @@ module _ (r : Course) (b : List ℕ) where
 
   onward-held : Held (r .state) (r .points) → Held (onward r b .state) (onward r b .points)
   unfolding onward
-  onward-held h = either (λ (e : Course). Held (e .state) (e .points)) (r .state .ended) r _ h (step-held (r .state) (r .points) (r .nodes) (r .rims) b (h .few) (h .long))
+  onward-held h =
+      either (λ (e : Course). Held (e .state) (e .points)) (r .state .ended) r _ h
+      (step-held (r .state) (r .points) (r .nodes) (r .rims) b (h .few) (h .long))
 
   -- a short block ends it
   pub short-ends : length b < 512 → onward r b .state .ended ≡ true
   short-ends h = go (known (r .state .ended))
     where
-      by : (stepOf (r .state) (r .points) (r .nodes) (r .rims) b .state .ended ≡ true) ⊎ Went (r .state) b (stepOf (r .state) (r .points) (r .nodes) (r .rims) b) → stepOf (r .state) (r .points) (r .nodes) (r .rims) b .state .ended ≡ true
+      by : (stepOf (r .state) (r .points) (r .nodes) (r .rims) b .state .ended ≡ true) ⊎ Went (r .state) b
+          (stepOf (r .state) (r .points) (r .nodes) (r .rims) b)
+          → stepOf (r .state) (r .points) (r .nodes) (r .rims) b .state .ended ≡ true
       by (inl e) = e
       by (inr w) = absurd (omega (arith, w .whole))
 
@@ -136,12 +153,19 @@ module _ (r : Course) (b : List ℕ) where
       go (inr e) = ap (λ (x : State). x .ended) (goes-state e) ∙ by (outcome (r .state) (r .points) (r .nodes) (r .rims) b)
 
   -- one that goes on has the next number, and that is no higher than 65,536
-  pub numbered : (n : ℕ) → (r .state .ended ≡ false → r .state .block ≡ n) → onward r b .state .ended ≡ false → (onward r b .state .block ≡ suc n) × (Bytes b → n < 65536)
+  pub numbered : (n : ℕ) → (r .state .ended ≡ false → r .state .block ≡ n) → onward r b .state .ended ≡ false
+      → (onward r b .state .block ≡ suc n) × (Bytes b → n < 65536)
   numbered n h f = go (known (r .state .ended))
     where
-      by : r .state .ended ≡ false → (stepOf (r .state) (r .points) (r .nodes) (r .rims) b .state .ended ≡ true) ⊎ Went (r .state) b (stepOf (r .state) (r .points) (r .nodes) (r .rims) b) → (onward r b .state .block ≡ suc n) × (Bytes b → n < 65536)
+      by : r .state .ended ≡ false
+          → (stepOf (r .state) (r .points) (r .nodes) (r .rims) b .state .ended ≡ true) ⊎ Went (r .state) b
+          (stepOf (r .state) (r .points) (r .nodes) (r .rims) b)
+          → (onward r b .state .block ≡ suc n) × (Bytes b → n < 65536)
       by e (inl x) = not-both _ (ap (λ (z : State). z .ended) (goes-state e) ∙ x) f
-      by e (inr w) = (omega (arith, ap (λ (z : State). z .block) (goes-state e), w .next, h e), λ q. omega (arith, number-below (r .state) (r .points) (r .nodes) (r .rims) b q w, h e))
+      by e (inr w) = (
+        omega (arith, ap (λ (z : State). z .block) (goes-state e), w .next, h e),
+        λ q. omega (arith, number-below (r .state) (r .points) (r .nodes) (r .rims) b q w, h e),
+      )
 
       go : (r .state .ended ≡ true) ⊎ (r .state .ended ≡ false) → (onward r b .state .block ≡ suc n) × (Bytes b → n < 65536)
       go (inl e) = not-both _ e (ap (λ (x : Course). x .state .ended) (sym (stays e)) ∙ f)
@@ -187,7 +211,9 @@ module _ (l : List ℕ) (f : Bytes l) where
   joined-bytes m g j = go (decLe (length l) j)
     where
       go : Dec (length l ≤ j) → getD (l ++ m) j 0 < 256
-      go (yes h) = let e : length l + (j - length l) ≡ j = omega arith in subst (λ (k : ℕ). getD (l ++ m) k 0 < 256) e (rw (getD-append-add l m (j - length l) 0) (g (j - length l)))
+      go (yes h) =
+          let e : length l + (j - length l) ≡ j = omega arith in
+          subst (λ (k : ℕ). getD (l ++ m) k 0 < 256) e (rw (getD-append-add l m (j - length l) 0) (g (j - length l)))
       go (no h) = let k : j < length l = omega arith in rw (List·getD-append l m 0 j k) (f j)
 
 pub block-bytes : (l : List ℕ) (i : ℕ) → Bytes l → Bytes (blockAt l i)

@@ -1,4 +1,5 @@
--- Each way that the code takes through a step leads to what the definition says: `stepOf`, by the kind of the block and of its answer; and what it tells can be printed.
+-- Each way that the code takes through a step leads to what the definition says: `stepOf`, by the kind of the block and of its answer; and what it tells can
+-- be printed.
 use Prim.Native.Nat.{ℕ, _+_, _*_, _/_, _%_, _≤_}
 use mathlib.Core.Path.{_≡_, refl, sym, ap, _∙_, subst}
 use mathlib.Core.Bool.{Bool, true, false, _&&_}
@@ -37,13 +38,18 @@ module _ (s : State) (ps : List ℤ) (l : List Float) (rs : List ℕ) where
   pub refuses : (qs : List ℤ) (a : Block) (code n : ℕ) (q : State) → a ≡ Refused code n → q ≡ closed s
       → Steps (taken s ps l rs qs a) (record { state = q; told = Told.Block n code }) ps l rs noCells
   unfolding taken ends
-  refuses qs a code n q e d = rw e (record { state = d; points = refl; nodes = refl; rims = refl; cells = refl; told = refl; tells = record { shown = tt; few = few-cells noCells refl } })
+  refuses qs a code n q e d =
+      rw e
+      (record { state = d; points = refl; nodes = refl; rims = refl; cells = refl; told = refl; tells = record { shown = tt; few = few-cells noCells refl } })
 
   -- a ring's answer, its points kept
   pub ring-waits : (qs : List ℤ) (a : Block) (count size : ℕ) → a ≡ Ring count size → (q : List ℤ) → q ≡ qs
-      → Steps (taken s ps l rs qs a) (record { state = record { block = s .block + 1; count = count; size = size; used = s .used; ended = false }; told = Told.Nothing }) q l rs noCells
+      → Steps (taken s ps l rs qs a)
+      (record { state = record { block = s .block + 1; count = count; size = size; used = s .used; ended = false }; told = Told.Nothing }) q l rs noCells
   unfolding taken waits
-  ring-waits qs a count size d q g = rw d (record { state = refl; points = g; nodes = refl; rims = refl; cells = refl; told = refl; tells = record { shown = tt; few = few-cells noCells refl } })
+  ring-waits qs a count size d q g =
+      rw d
+      (record { state = refl; points = g; nodes = refl; rims = refl; cells = refl; told = refl; tells = record { shown = tt; few = few-cells noCells refl } })
 
   -- a chain's answer
   pub chain-divides : (qs : List ℤ) (a : Block) (count : ℕ) → a ≡ Chain count → (q : List ℤ) (m : List Float) (w p : List ℕ) (x : Stepped)
@@ -62,14 +68,21 @@ module _ (s : State) (ps : List ℤ) (l : List Float) (rs : List ℕ) where
 
     pub has-ended : t ≡ true → (q : State) → q ≡ closed s → Steps (stepOf s ps l rs b) (record { state = q; told = Told.Nothing }) ps l rs noCells
     unfolding stepOf ends
-    has-ended f q d = rw (sym h ∙ f) (record { state = d; points = refl; nodes = refl; rims = refl; cells = refl; told = refl; tells = record { shown = tt; few = few-cells noCells refl } })
+    has-ended f q d =
+        rw (sym h ∙ f)
+        (record { state = d; points = refl; nodes = refl; rims = refl; cells = refl; told = refl; tells = record { shown = tt; few = few-cells noCells refl } })
 
   -- the ring that waits was divided, by a call over the empty cell list that kept its promise
   abbrev lentOver : List ℤ → List ℕ → Lent
-  lentOver chain k = record { ring = take (s .count * 2) ps; chain = chain; size = s .size; nodes = l; nodeCount = s .used; rims = rs; cells = k; cellCount = 0 }
+  lentOver chain k =
+      record { ring = take (s .count * 2) ps; chain = chain; size = s .size; nodes = l; nodeCount = s .used; rims = rs; cells = k; cellCount = 0 }
 
-  pub divided : (chain : List ℤ) (k : List ℕ) → k ≡ noCells → (v : Row) (m : List Float) (y p : List ℕ) → Promise delivered (lentOver chain k) v m y p → length p ≡ length k → (w : Row) → w ≡ v
-      → Steps (divides s ps l rs chain) (record { state = record { block = s .block + 1; count = s .count; size = s .size; used = w .nodes; ended = false }; told = Told.Ring (s .block / 2) (s .used) w }) ps m y p
+  pub divided : (chain : List ℤ) (k : List ℕ) → k ≡ noCells → (v : Row) (m : List Float) (y p : List ℕ) → Promise delivered (lentOver chain k) v m y p
+      → length p ≡ length k → (w : Row) → w ≡ v
+      → Steps (divides s ps l rs chain) (record {
+        state = record { block = s .block + 1; count = s .count; size = s .size; used = w .nodes; ended = false };
+        told = Told.Ring (s .block / 2) (s .used) w;
+      }) ps m y p
   unfolding divides
   divided chain k z v m y p q n w e =
       let h : Promise delivered (lentBy s ps l rs chain) v m y p = subst (λ (x : List ℕ). Promise delivered (lentOver chain x) v m y p) z q in

@@ -21,7 +21,8 @@ use Rattle.told.specs.Text.{toldText, CanTell}
 use Rattle.job.specs.declared.State.{State}
 use Rattle.job.specs.declared.Stepped.{Stepped}
 
--- what a step leaves: the state, the points of the ring that waits for its chain, in all 60 places, the nodes and their rim marks, and the cells; and what it tells of its block
+-- what a step leaves: the state, the points of the ring that waits for its chain, in all 60 places, the nodes and their rim marks, and the cells; and what it
+-- tells of its block
 pub record Step : Type 0 where
   pub state : State
   pub points : List ℤ
@@ -47,11 +48,20 @@ ends s ps l rs t = record { state = closed s; points = ps; nodes = l; rims = rs;
 
 -- a ring block: its ring waits for its chain, and nothing is told yet
 unfoldable pub waits : State → List Float → List ℕ → ℕ → ℕ → List ℤ → Step
-waits s l rs count size qs = record { state = record { block = s .block + 1; count = count; size = size; used = s .used; ended = false }; points = qs; nodes = l; rims = rs; cells = noCells; told = Told.Nothing }
+waits s l rs count size qs =
+    record {
+      state = record { block = s .block + 1; count = count; size = size; used = s .used; ended = false };
+      points = qs;
+      nodes = l;
+      rims = rs;
+      cells = noCells;
+      told = Told.Nothing;
+    }
 
 -- the call of the ring that waits, with its chain, over the run's node list and the rim marks beside it
 abbrev pub lentBy : State → List ℤ → List Float → List ℕ → List ℤ → Lent
-lentBy s ps l rs chain = record { ring = take (s .count * 2) ps; chain = chain; size = s .size; nodes = l; nodeCount = s .used; rims = rs; cells = noCells; cellCount = 0 }
+lentBy s ps l rs chain =
+    record { ring = take (s .count * 2) ps; chain = chain; size = s .size; nodes = l; nodeCount = s .used; rims = rs; cells = noCells; cellCount = 0 }
 
 -- a chain block: the ring that waits is divided, and its row told. "ring number from 0, refused rings counted": two blocks a ring
 unfoldable pub divides : State → List ℤ → List Float → List ℕ → List ℤ → Step
@@ -72,8 +82,8 @@ taken s ps l rs qs (Ring count size) = waits s l rs count size qs
 taken s ps l rs qs (Chain count) = divides s ps l rs (take (count * 2) qs)
 taken s ps l rs qs (Refused code n) = ends s ps l rs (Told.Block n code)
 
--- the step over the bytes b of the next block: 512 of them, or what is left of the input, or none where it has ended. "part of a block, or the input ends after a
--- ring block" is 9, with the number "of the missing chain block"; where the input ends after a chain block, or is empty, nothing is printed
+-- the step over the bytes b of the next block: 512 of them, or what is left of the input, or none where it has ended. "part of a block, or the input ends
+-- after a ring block" is 9, with the number "of the missing chain block"; where the input ends after a chain block, or is empty, nothing is printed
 unfoldable pub stepOf : State → List ℤ → List Float → List ℕ → List ℕ → Step
 stepOf s ps l rs b =
     let r = readBlock b (s .block) in

@@ -86,7 +86,8 @@ fn divide_ring(
     cells: &mut [NodeNumber],
 ) -> Stepped
     requires { ⌜ CanStep s (now ring) × (now cells ≡ noCells) × (s .block < 65536) × (run ≤ 60) × (length (now chain) ≡ 120) ⌝ }
-    ensures { λ r. ⌜ Steps (divides s (now (ring .entry)) (now (nodes .entry)) (now (rims .entry)) (take (run * 2) (now (chain .entry)))) r (now (ring .entry)) (now (nodes .exit)) (now (rims .exit)) (now (cells .exit)) ⌝ }
+    ensures { λ r. ⌜ Steps (divides s (now (ring .entry)) (now (nodes .entry)) (now (rims .entry)) (take (run * 2) (now (chain .entry)))) r
+        (now (ring .entry)) (now (nodes .exit)) (now (rims .exit)) (now (cells .exit)) ⌝ }
 {
     let end = s.count * 2;
     let stop = run * 2;
@@ -150,7 +151,8 @@ fn keep(ring: &mut [i32], points: &[i32])
 // A ring block: its ring waits for its chain.
 fn ring_block(s: State, head: Block, points: &[i32], ring: &mut [i32]) -> Stepped
     requires { ⌜ CanStep s (now ring) × Answered (s .block) head (now points) × (s .block % 2 ≡ 0) ⌝ }
-    ensures { λ r. ⌜ ((l : List Float) (rs : List ℕ) → Steps (taken s (now (ring .entry)) l rs (now (points .entry)) head) r (now (ring .exit)) l rs noCells) ⌝ }
+    ensures { λ r. ⌜ ((l : List Float) (rs : List ℕ) → Steps (taken s (now (ring .entry)) l rs (now (points .entry)) head) r
+        (now (ring .exit)) l rs noCells) ⌝ }
 {
     let Block::Ring { count, size } = head else {
         return refuse(s, head);
@@ -180,7 +182,8 @@ fn chain_block(
     cells: &mut [NodeNumber],
 ) -> Stepped
     requires { ⌜ CanStep s (now ring) × (now cells ≡ noCells) × Answered (s .block) tail (now points) × (s .block % 2 ≡ 1) ⌝ }
-    ensures { λ r. ⌜ Steps (taken s (now (ring .entry)) (now (nodes .entry)) (now (rims .entry)) (now (points .entry)) tail) r (now (ring .entry)) (now (nodes .exit)) (now (rims .exit)) (now (cells .exit)) ⌝ }
+    ensures { λ r. ⌜ Steps (taken s (now (ring .entry)) (now (nodes .entry)) (now (rims .entry)) (now (points .entry)) tail) r (now (ring .entry))
+        (now (nodes .exit)) (now (rims .exit)) (now (cells .exit)) ⌝ }
 {
     let Block::Chain { count } = tail else {
         return refuse(s, tail);
@@ -209,7 +212,8 @@ pub fn step(
     cells: &mut [NodeNumber],
 ) -> Stepped
     requires { ⌜ CanStep s (now ring) × (length (now cells) ≡ 496) ⌝ }
-    ensures { λ r. ⌜ Steps (stepOf s (now (ring .entry)) (now (nodes .entry)) (now (rims .entry)) (now (bytes .entry))) r (now (ring .exit)) (now (nodes .exit)) (now (rims .exit)) (now (cells .exit)) × Bytes (now (bytes .entry)) ⌝ }
+    ensures { λ r. ⌜ Steps (stepOf s (now (ring .entry)) (now (nodes .entry)) (now (rims .entry)) (now (bytes .entry))) r (now (ring .exit))
+        (now (nodes .exit)) (now (rims .exit)) (now (cells .exit)) × Bytes (now (bytes .entry)) ⌝ }
 {
     clear(cells);
     if at_end(s.block, bytes) {

@@ -30,7 +30,8 @@ kept-many : (size : ℕ) (r : List GridPoint) → length (keptPlaces size r) ≡
 kept-many size r = sym (ap length (kept-image size r) ∙ pick-length r (keptPlaces size r))
 
 -- own is the ring as it was read, of which cleaning left c
-module _ (ring : List ℤ) (g : Marking) (size : ℕ) (h : Tested ring g) (own : Ring) (v : OnSheetRing own) (n : own .count ≡ length ring / 2) (a : pointsOf own ≡ allPoints ring)
+module _ (ring : List ℤ) (g : Marking) (size : ℕ) (h : Tested ring g) (own : Ring) (v : OnSheetRing own) (n : own .count ≡ length ring / 2)
+    (a : pointsOf own ≡ allPoints ring)
     (c : CleanedRing) (w : Cleaned size (pointsOf own) c) where
   many : length (pointsOf own) ≡ own .count
   many = length-take-le (own .count) (own .points) (rings.room own v)

@@ -50,7 +50,16 @@ fn refusal(
     cell_count: usize,
 ) -> u32
     ensures { λ r. ⌜ ((q : List ℕ) → length q / 4 ≡ «cell_places»
-        → r ≡ firstOf (markedTests limits (record { ring = now (ring .entry); marking = record { kinds = now (kinds .entry); snaps = now (snaps .entry); outline = now (outline .entry); loops = now (loops .entry) }; size = size; nodes = now (nodes .entry); nodeCount = «node_count»; rims = now (rims .entry); cells = q; cellCount = «cell_count» }))) ⌝ }
+        → r ≡ firstOf (markedTests limits (record {
+          ring = now (ring .entry);
+          marking = record { kinds = now (kinds .entry); snaps = now (snaps .entry); outline = now (outline .entry); loops = now (loops .entry) };
+          size = size;
+          nodes = now (nodes .entry);
+          nodeCount = «node_count»;
+          rims = now (rims .entry);
+          cells = q;
+          cellCount = «cell_count»;
+        }))) ⌝ }
 {
     if entry::counts_out(ring.len(), 0) {
         return 1;
@@ -91,7 +100,12 @@ fn marked_ring(
     size: u32,
 ) -> MarkedRing
     requires { ⌜ Tested (now ring) (record { kinds = now kinds; snaps = now snaps; outline = now outline; loops = now loops }) ⌝ }
-    ensures { λ r. ⌜ Prepares (now (ring .entry)) (record { kinds = now (kinds .entry); snaps = now (snaps .entry); outline = now (outline .entry); loops = now (loops .entry) }) size r ⌝ }
+    ensures { λ r. ⌜ Prepares (now (ring .entry)) (record {
+      kinds = now (kinds .entry);
+      snaps = now (snaps .entry);
+      outline = now (outline .entry);
+      loops = now (loops .entry);
+    }) size r ⌝ }
 {
     let n = ring.len() / 2;
     let own = entry::points(ring, n);
@@ -119,7 +133,16 @@ pub fn divide_marked_set(
     cells: &mut [NodeNumber],
     cell_count: usize,
 ) -> Answer
-    ensures { λ a. ⌜ MarkedPromise limits (record { ring = now (ring .entry); marking = record { kinds = now (kinds .entry); snaps = now (snaps .entry); outline = now (outline .entry); loops = now (loops .entry) }; size = size; nodes = now (nodes .entry); nodeCount = «node_count»; rims = now (rims .entry); cells = now (cells .entry); cellCount = «cell_count» })
+    ensures { λ a. ⌜ MarkedPromise limits (record {
+      ring = now (ring .entry);
+      marking = record { kinds = now (kinds .entry); snaps = now (snaps .entry); outline = now (outline .entry); loops = now (loops .entry) };
+      size = size;
+      nodes = now (nodes .entry);
+      nodeCount = «node_count»;
+      rims = now (rims .entry);
+      cells = now (cells .entry);
+      cellCount = «cell_count»;
+    })
         (Answers.values a) (now (nodes .exit)) (now (rims .exit)) (now (cells .exit)) ⌝ }
 {
     let places = cells.len() / 4;
@@ -172,7 +195,16 @@ pub fn divide_marked(
     cells: &mut [NodeNumber],
     cell_count: usize,
 ) -> Answer
-    ensures { λ a. ⌜ MarkedPromise delivered (record { ring = now (ring .entry); marking = record { kinds = now (kinds .entry); snaps = now (snaps .entry); outline = now (outline .entry); loops = now (loops .entry) }; size = size; nodes = now (nodes .entry); nodeCount = «node_count»; rims = now (rims .entry); cells = now (cells .entry); cellCount = «cell_count» })
+    ensures { λ a. ⌜ MarkedPromise delivered (record {
+      ring = now (ring .entry);
+      marking = record { kinds = now (kinds .entry); snaps = now (snaps .entry); outline = now (outline .entry); loops = now (loops .entry) };
+      size = size;
+      nodes = now (nodes .entry);
+      nodeCount = «node_count»;
+      rims = now (rims .entry);
+      cells = now (cells .entry);
+      cellCount = «cell_count»;
+    })
         (Answers.values a) (now (nodes .exit)) (now (rims .exit)) (now (cells .exit)) ⌝ }
 {
     let limits = Limits::on_delivery();

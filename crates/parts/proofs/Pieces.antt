@@ -1,4 +1,4 @@
--- The pieces that the code holds, one by one: their size, points and marks. Assumes nothing.
+-- The pieces that the code holds, one by one: their size, points and marks.
 use Prim.Native.Nat.{ℕ, zero, suc, _+_, _-_, _≤_, _<_}
 use native.Mathlib.Numerals.{add-one}
 use native.Mathlib.Omega.{arith}
@@ -24,7 +24,8 @@ module _ (p : PartList) (i : ℕ) (l : i < p .count) where
   piece-nth ring es = getD-tab (nth ring es p) (p .count) i noPart l
 
   pub piece-length : (ring : List GridPoint) (es : List EdgeMark) → size p i ≡ length (pieceIn ring es p i .points)
-  piece-length ring es = sym (ap (λ (q : Part). length (q .points)) (piece-nth ring es) ∙ length-tab (λ j. cornerPoint ring (p .corners) (end p i + j)) (size p i))
+  piece-length ring es =
+      sym (ap (λ (q : Part). length (q .points)) (piece-nth ring es) ∙ length-tab (λ j. cornerPoint ring (p .corners) (end p i + j)) (size p i))
 
   -- where the piece stands, as the code reads it
   pub placed : ValidParts p → (end p i + 3 ≤ end p (i + 1)) × (end p (i + 1) ≤ end p i + 60) × (end p (i + 1) ≤ 124) × (end p (i + 1) - end p i ≡ size p i)
@@ -49,14 +50,20 @@ abbrev pub markAt : List Edge → List Vertex → ℕ → Edge
 markAt marks vs i = getD marks (vertex vs i .edge) straightEdge
 
 map-tab : {A B : Type 0} (f : A → B) (g : ℕ → A) (n : ℕ) (d : A) → map f (tab g n) ≡ tab (λ i. f (g i)) n
-map-tab f g n d = is-tab (map f (tab g n)) (λ i. f (g i)) n (f d) (length-map (tab g n) f ∙ length-tab g n) (λ i l. List·getD-map f (tab g n) i d ∙ ap f (getD-tab g n i d l))
+map-tab f g n d =
+    is-tab (map f (tab g n)) (λ i. f (g i)) n (f d) (length-map (tab g n) f ∙ length-tab g n)
+    (λ i l. List·getD-map f (tab g n) i d ∙ ap f (getD-tab g n i d l))
 
-pub marks-are : (p : PartList) (i : ℕ) → i < p .count → (marks out : List Edge) → take (size p i) out ≡ tab (λ j. markAt marks (p .corners) (end p i + j)) (size p i) → (ring : List GridPoint) → marksOf (take (size p i) out) ≡ pieceIn ring (marksOf marks) p i .edges
+pub marks-are : (p : PartList) (i : ℕ) → i < p .count → (marks out : List Edge)
+    → take (size p i) out ≡ tab (λ j. markAt marks (p .corners) (end p i + j)) (size p i) → (ring : List GridPoint)
+    → marksOf (take (size p i) out) ≡ pieceIn ring (marksOf marks) p i .edges
 marks-are p i l marks out e ring =
     let f : Edge → EdgeMark = (λ e. e .mark) in
     ap marksOf e ∙ map-tab f (λ j. markAt marks (p .corners) (end p i + j)) (size p i) straightEdge
-    ∙ tab-ext (λ j. f (markAt marks (p .corners) (end p i + j))) (λ j. edgeAt (marksOf marks) (p .corners) (end p i + j)) (size p i) (λ j h. sym (List·getD-map f marks (vertex (p .corners) (end p i + j) .edge) straightEdge))
+    ∙ tab-ext (λ j. f (markAt marks (p .corners) (end p i + j))) (λ j. edgeAt (marksOf marks) (p .corners) (end p i + j)) (size p i)
+    (λ j h. sym (List·getD-map f marks (vertex (p .corners) (end p i + j) .edge) straightEdge))
     ∙ sym (ap (λ (q : Part). q .edges) (piece-nth p i l ring (marksOf marks)))
 
-pub points-are : (p : PartList) (i : ℕ) → i < p .count → (ring : List GridPoint) (es : List EdgeMark) → tab (λ j. cornerPoint ring (p .corners) (end p i + j)) (size p i) ≡ pieceIn ring es p i .points
+pub points-are : (p : PartList) (i : ℕ) → i < p .count → (ring : List GridPoint) (es : List EdgeMark)
+    → tab (λ j. cornerPoint ring (p .corners) (end p i + j)) (size p i) ≡ pieceIn ring es p i .points
 points-are p i l ring es = sym (ap (λ (q : Part). q .points) (piece-nth p i l ring es))

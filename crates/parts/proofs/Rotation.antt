@@ -43,7 +43,9 @@ rotate-at v r k g h = go (decLt (v + k) (length r))
     small n = omega arith
 
     go : Dec (v + k < length r) → getD (rotate v r) k origin ≡ getD r ((v + k) % length r) origin
-    go (yes n) = List·getD-append (drop v r) (take v r) origin k (omega (arith, length-drop v r)) ∙ getD-drop v r k origin ∙ ap (λ i. getD r i origin) (sym (mod-eq-of-lt n))
+    go (yes n) =
+        List·getD-append (drop v r) (take v r) origin k (omega (arith, length-drop v r)) ∙ getD-drop v r k origin
+        ∙ ap (λ i. getD r i origin) (sym (mod-eq-of-lt n))
     go (no n) =
         ap (λ i. getD (rotate v r) i origin) (sym (past n)) ∙ getD-append-add (drop v r) (take v r) (v + k - length r) origin
         ∙ getD-take v r (v + k - length r) origin (omega arith)

@@ -1,4 +1,4 @@
--- The corners that the code copies out of a part, closes with the diagonal and turns round are those of make_sub_polygon, of the first part and of the second. Assumes nothing.
+-- The corners that the code copies out of a part, closes with the diagonal and turns round are those of make_sub_polygon, of the first part and of the second.
 use Prim.Native.Nat.{ℕ, suc, _+_, _-_, _%_, _≤_, _<_}
 use native.Mathlib.Nat.{mod-eq-of-lt, add-mod-right, add-zero, zero-add, add-mod-mod, add-comm}
 use native.Mathlib.Numerals.{add-one}
@@ -41,7 +41,8 @@ module _ (vs : List Vertex) (n v m : ℕ) where
   closing-last i j h e = rw (le-ltb (m - 1) (m - 1) (omega arith), ← h) (ap (λ (k : ℕ). straight (vertex vs k)) e)
 
 module _ (vs : List Vertex) (m : ℕ) where
-  pub backward-in : (i : ℕ) (a : Vertex) → i < m - 1 → a ≡ vertex vs (m - 1 - i) → _≡_ {A = Vertex} (record { at = a .at; edge = vertex vs (m - 2 - i) .edge }) (backward vs m i)
+  pub backward-in : (i : ℕ) (a : Vertex) → i < m - 1 → a ≡ vertex vs (m - 1 - i)
+      → _≡_ {A = Vertex} (record { at = a .at; edge = vertex vs (m - 2 - i) .edge }) (backward vs m i)
   unfolding backward
   backward-in i a h e = rw (lt-ltb i (m - 1) h, e)
 
@@ -70,7 +71,8 @@ last-more f m h = let e : m ≡ suc (m - 1) = omega arith in ap (tab f) e
 -- counted from the first corner
 pub from-first : (ring : List GridPoint) (vs : List Vertex) (m : ℕ) → tab (λ i. cornerPoint ring vs ((0 + i) % m)) m ≡ tab (cornerPoint ring vs) m
 from-first ring vs m =
-    tab-ext (λ i. cornerPoint ring vs ((0 + i) % m)) (cornerPoint ring vs) m (λ i l. ap (cornerPoint ring vs) (ap (λ (x : ℕ). x % m) (zero-add i) ∙ mod-eq-of-lt l))
+    tab-ext (λ i. cornerPoint ring vs ((0 + i) % m)) (cornerPoint ring vs) m
+    (λ i l. ap (cornerPoint ring vs) (ap (λ (x : ℕ). x % m) (zero-add i) ∙ mod-eq-of-lt l))
 
 -- ---- make_sub_polygon: the area of the points ps is not negative, or it is
 module _ (ring : List GridPoint) (vs : List Vertex) (m : ℕ) (ps : List GridPoint) (ep : ps ≡ tab (cornerPoint ring vs) m) where
@@ -113,10 +115,12 @@ module _ (ring : List GridPoint) (vs : List Vertex) (m : ℕ) (ps : List GridPoi
       unfolding makeSubPolygon oriented
       turned-part n =
           let a : tab (cornerPoint ring r) m ≡ reverse (tab (cornerPoint ring vs) m) =
-          tab-ext (cornerPoint ring r) (λ i. cornerPoint ring vs (m - 1 - i)) m (λ i l. back-point i l (ltb i (m - 1)) refl) ∙ sym (reverse-of (cornerPoint ring vs) m) in
+          tab-ext (cornerPoint ring r) (λ i. cornerPoint ring vs (m - 1 - i)) m (λ i l. back-point i l (ltb i (m - 1)) refl)
+          ∙ sym (reverse-of (cornerPoint ring vs) m) in
           let c : tab (edgeAt es r) (m - 1) ≡ reverse (tab (edgeAt es vs) (m - 1)) =
           tab-ext (edgeAt es r) (λ i. edgeAt es vs (m - 1 - 1 - i)) (m - 1) back-edge ∙ sym (reverse-of (edgeAt es vs) (m - 1)) in
-          let d : tab (edgeAt es r) m ≡ reverse (tab (edgeAt es vs) (m - 1)) ++ (Straight ∷ []) = last-more (edgeAt es r) m h ∙ (λ j. c j ++ (back-last j ∷ [])) in
+          let d : tab (edgeAt es r) m ≡ reverse (tab (edgeAt es vs) (m - 1)) ++ (Straight ∷ []) =
+          last-more (edgeAt es r) m h ∙ (λ j. c j ++ (back-last j ∷ [])) in
           rw (sign false n) (λ j. record { points = a j; edges = d j })
 
 -- ---- a segment that is closed
@@ -127,7 +131,8 @@ module _ (vs r : List Vertex) (n v m : ℕ) (h : 1 ≤ m) (e : take m r ≡ tab 
   seg-at i l false b = ap (λ (c : Vertex). c .at) (read r (closing vs n v m) m e i l) ∙ rw b
 
   seg-points : (ring : List GridPoint) → tab (cornerPoint ring r) m ≡ tab (λ i. cornerPoint ring vs ((v + i) % n)) m
-  seg-points ring = tab-ext (cornerPoint ring r) (λ i. cornerPoint ring vs ((v + i) % n)) m (λ i l. ap (λ (k : ℕ). getD ring k origin) (seg-at i l (ltb i (m - 1)) refl))
+  seg-points ring =
+      tab-ext (cornerPoint ring r) (λ i. cornerPoint ring vs ((v + i) % n)) m (λ i l. ap (λ (k : ℕ). getD ring k origin) (seg-at i l (ltb i (m - 1)) refl))
 
   pub seg-straight : vertex r (m - 1) .edge ≡ 60
   unfolding closing
@@ -147,23 +152,31 @@ mod-shift v k i n =
 
 -- ---- the two parts of a cut
 module _ (ring : List GridPoint) (vs : List Vertex) (n v k : ℕ) (hv : v < n) (r : List Vertex) where
-  pub first-points : k < n → take (k + 1) r ≡ tab (closing vs n v (k + 1)) (k + 1) → tab (cornerPoint ring r) (k + 1) ≡ firstPoints (rotate v (tab (cornerPoint ring vs) n)) k
+  pub first-points : k < n → take (k + 1) r ≡ tab (closing vs n v (k + 1)) (k + 1)
+      → tab (cornerPoint ring r) (k + 1) ≡ firstPoints (rotate v (tab (cornerPoint ring vs) n)) k
   first-points hk e =
       seg-points vs r n v (k + 1) (omega arith) e ring
-      ∙ sym (ap (λ (x : ℕ). take x (rotate v (tab (cornerPoint ring vs) n))) (sym (add-one k)) ∙ ap (take (k + 1)) (rotation-of (cornerPoint ring vs) n v hv origin) ∙ take-of (λ i. cornerPoint ring vs ((v + i) % n)) n origin (k + 1) (omega arith))
+      ∙ sym
+      (ap (λ (x : ℕ). take x (rotate v (tab (cornerPoint ring vs) n))) (sym (add-one k)) ∙ ap (take (k + 1)) (rotation-of (cornerPoint ring vs) n v hv origin)
+      ∙ take-of (λ i. cornerPoint ring vs ((v + i) % n)) n origin (k + 1) (omega arith))
 
-  pub second-points : 0 < k → k < n → take (n - k + 1) r ≡ tab (closing vs n ((v + k) % n) (n - k + 1)) (n - k + 1) → tab (cornerPoint ring r) (n - k + 1) ≡ secondPoints (rotate v (tab (cornerPoint ring vs) n)) k
+  pub second-points : 0 < k → k < n → take (n - k + 1) r ≡ tab (closing vs n ((v + k) % n) (n - k + 1)) (n - k + 1)
+      → tab (cornerPoint ring r) (n - k + 1) ≡ secondPoints (rotate v (tab (cornerPoint ring vs) n)) k
   second-points hz hk e =
       let f : ℕ → GridPoint = (λ i. cornerPoint ring vs ((v + i) % n)) in
       let g : ℕ → GridPoint = (λ i. cornerPoint ring vs (((v + k) % n + i) % n)) in
       let t = rotation-of (cornerPoint ring vs) n v hv origin in
       let q : k + (n - k) ≡ n = omega arith in
-      let w : (v + 0) % n ≡ ((v + k) % n + (n - k)) % n = ap (λ (x : ℕ). x % n) (add-zero v) ∙ sym (mod-shift v k (n - k) n ∙ ap (λ (x : ℕ). (v + x) % n) q ∙ add-mod-right v n) in
+      let w : (v + 0) % n ≡ ((v + k) % n + (n - k)) % n =
+      ap (λ (x : ℕ). x % n) (add-zero v) ∙ sym (mod-shift v k (n - k) n ∙ ap (λ (x : ℕ). (v + x) % n) q ∙ add-mod-right v n) in
       seg-points vs r n ((v + k) % n) (n - k + 1) (omega arith) e ring
-      ∙ sym ((λ j. drop k (t j) ++ take 1 (t j)) ∙ round-of f n origin k hk g (λ i l. ap (cornerPoint ring vs) (sym (mod-shift v k i n))) (ap (cornerPoint ring vs) w))
+      ∙ sym
+      ((λ j. drop k (t j) ++ take 1 (t j))
+      ∙ round-of f n origin k hk g (λ i l. ap (cornerPoint ring vs) (sym (mod-shift v k i n))) (ap (cornerPoint ring vs) w))
 
   module _ (es : List EdgeMark) where
-    pub first-is : k < n → take (k + 1) r ≡ tab (closing vs n v (k + 1)) (k + 1) → makeSubPolygon (tab (cornerPoint ring r) (k + 1)) (tab (edgeAt es r) (k + 1 - 1)) ≡ firstPart (partOf ring es vs n) v k
+    pub first-is : k < n → take (k + 1) r ≡ tab (closing vs n v (k + 1)) (k + 1)
+        → makeSubPolygon (tab (cornerPoint ring r) (k + 1)) (tab (edgeAt es r) (k + 1 - 1)) ≡ firstPart (partOf ring es vs n) v k
     unfolding firstPart
     first-is hk e =
         let m : k + 1 - 1 ≡ k = omega arith in
@@ -173,7 +186,8 @@ module _ (ring : List GridPoint) (vs : List Vertex) (n v k : ℕ) (hv : v < n) (
         ∙ sym (ap (take k) (rotation-of (edgeAt es vs) n v hv Straight) ∙ take-of (λ i. edgeAt es vs ((v + i) % n)) n Straight k (omega arith)) in
         λ j. makeSubPolygon (a j) (b j)
 
-    pub second-is : 0 < k → k < n → take (n - k + 1) r ≡ tab (closing vs n ((v + k) % n) (n - k + 1)) (n - k + 1) → makeSubPolygon (tab (cornerPoint ring r) (n - k + 1)) (tab (edgeAt es r) (n - k + 1 - 1)) ≡ secondPart (partOf ring es vs n) v k
+    pub second-is : 0 < k → k < n → take (n - k + 1) r ≡ tab (closing vs n ((v + k) % n) (n - k + 1)) (n - k + 1)
+        → makeSubPolygon (tab (cornerPoint ring r) (n - k + 1)) (tab (edgeAt es r) (n - k + 1 - 1)) ≡ secondPart (partOf ring es vs n) v k
     unfolding secondPart
     second-is hz hk e =
         let m : n - k + 1 - 1 ≡ n - k = omega arith in
@@ -182,5 +196,8 @@ module _ (ring : List GridPoint) (vs : List Vertex) (n v k : ℕ) (hv : v < n) (
         let g : ℕ → EdgeMark = (λ i. edgeAt es vs (((v + k) % n + i) % n)) in
         let b : tab (edgeAt es r) (n - k + 1 - 1) ≡ drop k (rotate v (tab (edgeAt es vs) n)) =
         seg-edges vs r n ((v + k) % n) (n - k + 1) (omega arith) e es ∙ ap (tab g) m
-        ∙ sym (ap (drop k) (rotation-of (edgeAt es vs) n v hv Straight) ∙ drop-of f n Straight k (omega arith) ∙ tab-ext (λ i. f (k + i)) g (n - k) (λ i l. ap (edgeAt es vs) (sym (mod-shift v k i n)))) in
+        ∙ sym
+        (ap (drop k) (rotation-of (edgeAt es vs) n v hv Straight) ∙ drop-of f n Straight k (omega arith)
+        ∙ tab-ext (λ i. f (k + i)) g (n - k) (λ i l. ap (edgeAt es vs) (sym (mod-shift v k i n))))
+        in
         λ j. makeSubPolygon (a j) (b j)

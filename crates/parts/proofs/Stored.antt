@@ -1,4 +1,4 @@
--- A part that is stored after others leaves those as they are, and adds itself to the stack and to the list that they are read back as. Assumes nothing.
+-- A part that is stored after others leaves those as they are, and adds itself to the stack and to the list that they are read back as.
 use Prim.Native.Nat.{ℕ, zero, suc, _+_, _-_, _≤_, _<_}
 use native.Mathlib.Numerals.{add-one}
 use native.Mathlib.Omega.{arith}
@@ -20,20 +20,23 @@ use Rattle.parts.specs.Layout.{end, partAt, nth, stackOf, listOf, ValidP
 use Rattle.parts.proofs.Segments.{read, point-of, edge-of}
 
 -- ---- parts whose corners agree
-pub same-part : (ring : List GridPoint) (es : List EdgeMark) (c vs : List Vertex) (a n : ℕ) → ((i : ℕ) → i < n → vertex c (a + i) ≡ vertex vs i) → partAt ring es c a n ≡ partOf ring es vs n
+pub same-part : (ring : List GridPoint) (es : List EdgeMark) (c vs : List Vertex) (a n : ℕ) → ((i : ℕ) → i < n → vertex c (a + i) ≡ vertex vs i)
+    → partAt ring es c a n ≡ partOf ring es vs n
 same-part ring es c vs a n h =
     let x = tab-ext (λ i. cornerPoint ring c (a + i)) (cornerPoint ring vs) n (λ i l. point-of ring _ _ (h i l)) in
     let y = tab-ext (λ i. edgeAt es c (a + i)) (edgeAt es vs) n (λ i l. edge-of es _ _ (h i l)) in
     λ j. record { points = x j; edges = y j }
 
-same-place : (ring : List GridPoint) (es : List EdgeMark) (c d : List Vertex) (a n : ℕ) → ((i : ℕ) → i < n → vertex c (a + i) ≡ vertex d (a + i)) → partAt ring es c a n ≡ partAt ring es d a n
+same-place : (ring : List GridPoint) (es : List EdgeMark) (c d : List Vertex) (a n : ℕ) → ((i : ℕ) → i < n → vertex c (a + i) ≡ vertex d (a + i))
+    → partAt ring es c a n ≡ partAt ring es d a n
 same-place ring es c d a n h =
     let x = tab-ext (λ i. cornerPoint ring c (a + i)) (λ i. cornerPoint ring d (a + i)) n (λ i l. point-of ring _ _ (h i l)) in
     let y = tab-ext (λ i. edgeAt es c (a + i)) (λ i. edgeAt es d (a + i)) n (λ i l. edge-of es _ _ (h i l)) in
     λ j. record { points = x j; edges = y j }
 
 -- the corners that were copied out of a list are those of the part there
-pub part-loaded : (ring : List GridPoint) (es : List EdgeMark) (c vs : List Vertex) (a n : ℕ) → take n vs ≡ tab (λ i. vertex c (a + i)) n → partAt ring es c a n ≡ partOf ring es vs n
+pub part-loaded : (ring : List GridPoint) (es : List EdgeMark) (c vs : List Vertex) (a n : ℕ) → take n vs ≡ tab (λ i. vertex c (a + i)) n
+    → partAt ring es c a n ≡ partOf ring es vs n
 part-loaded ring es c vs a n e = same-part ring es c vs a n (λ i l. sym (read vs (λ j. vertex c (a + j)) n e i l))
 
 -- ends that rise
@@ -46,14 +49,16 @@ kept-rises p k j l = omega (arith, k .step j l .0)
 
 -- what lies below a store stays
 module _ (ring : List GridPoint) (es : List EdgeMark) (p r : PartList) where
-  module _ (t : ℕ) (e : (j : ℕ) → j ≤ t → end r j ≡ end p j) (m : (j : ℕ) → j < t → end p j ≤ end p (suc j)) (h : (i : ℕ) → i < end p t → vertex (r .corners) i ≡ vertex (p .corners) i) where
+  module _ (t : ℕ) (e : (j : ℕ) → j ≤ t → end r j ≡ end p j) (m : (j : ℕ) → j < t → end p j ≤ end p (suc j))
+      (h : (i : ℕ) → i < end p t → vertex (r .corners) i ≡ vertex (p .corners) i) where
     nth-same : (j : ℕ) → j < t → nth ring es r j ≡ nth ring es p j
     nth-same j l =
         let a = e j (omega arith) in
         let b = e (suc j) (omega arith) in
         let k = m j l in
         let s = rises p t m (t - suc j) (suc j) (omega arith) in
-        (λ i. partAt ring es (r .corners) (a i) (b i - a i)) ∙ same-place ring es (r .corners) (p .corners) (end p j) (end p (suc j) - end p j) (λ i q. h (end p j + i) (omega arith))
+        (λ i. partAt ring es (r .corners) (a i) (b i - a i))
+        ∙ same-place ring es (r .corners) (p .corners) (end p j) (end p (suc j) - end p j) (λ i q. h (end p j + i) (omega arith))
 
   stack-ext : (t : ℕ) → ((j : ℕ) → j < t → nth ring es r j ≡ nth ring es p j) → stackOf ring es r t ≡ stackOf ring es p t
   unfolding stackOf
@@ -63,7 +68,8 @@ module _ (ring : List GridPoint) (es : List EdgeMark) (p r : PartList) where
       let y = stack-ext t (λ j l. h j (omega arith)) in
       λ j. x j ∷ y j
 
-  module _ (t : ℕ) (e : (j : ℕ) → j ≤ t → end r j ≡ end p j) (m : (j : ℕ) → j < t → end p j ≤ end p (suc j)) (h : (i : ℕ) → i < end p t → vertex (r .corners) i ≡ vertex (p .corners) i) where
+  module _ (t : ℕ) (e : (j : ℕ) → j ≤ t → end r j ≡ end p j) (m : (j : ℕ) → j < t → end p j ≤ end p (suc j))
+      (h : (i : ℕ) → i < end p t → vertex (r .corners) i ≡ vertex (p .corners) i) where
     pub same-stack : stackOf ring es r t ≡ stackOf ring es p t
     same-stack = stack-ext t (nth-same t e m h)
 
@@ -115,7 +121,15 @@ module _ (p : PartList) (k : ValidParts p) (few : p .count < 33) (ps : List Vert
       rw g (omega arith, omega arith)
 
   is-kept : ValidParts after
-  is-kept = record { few = omega arith; wide = simp length-set (k .wide); long = long; step = λ j q. step-at j q (ltb j (p .count)) refl; fits = rw new-end room; below = b }
+  is-kept =
+      record {
+        few = omega arith;
+        wide = simp length-set (k .wide);
+        long = long;
+        step = λ j q. step-at j q (ltb j (p .count)) refl;
+        fits = rw new-end room;
+        below = b;
+      }
 
   new-part : (ring : List GridPoint) (es : List EdgeMark) → nth ring es after (p .count) ≡ partOf ring es ps n
   new-part ring es =
@@ -136,7 +150,11 @@ module _ (p : PartList) (k : ValidParts p) (few : p .count < 33) (ps : List Vert
     kept = is-kept;
     count = refl;
     last = new-end;
-    stack = λ ring es. ap (stackOf ring es after) (add-one (p .count)) ∙ (λ j. new-part ring es j ∷ same-stack ring es p after (p .count) old-end (kept-rises p k) (s .low) j);
-    list = λ ring es. ap (listOf ring es after) (add-one (p .count)) ∙ (λ j. same-list ring es p after (p .count) old-end (kept-rises p k) (s .low) j ++ (new-part ring es j ∷ []));
+    stack =
+        λ ring es. ap (stackOf ring es after) (add-one (p .count))
+        ∙ (λ j. new-part ring es j ∷ same-stack ring es p after (p .count) old-end (kept-rises p k) (s .low) j);
+    list =
+        λ ring es. ap (listOf ring es after) (add-one (p .count))
+        ∙ (λ j. same-list ring es p after (p .count) old-end (kept-rises p k) (s .low) j ++ (new-part ring es j ∷ []));
     packed = is-packed;
   }

@@ -95,7 +95,8 @@ pub fn make_sub_polygon(
     m: usize,
 ) -> SubPolygon
     requires { ⌜ (3 ≤ m) × (m ≤ mostPoints) × Below vs × AllOnSheet ring × (vertex vs (m - 1) .edge ≡ straightNumber) ⌝ }
-    ensures { λ r. ⌜ ((es : List EdgeMark) → length es ≡ mostPoints → partOf ring es (r .corners) m ≡ Cut.makeSubPolygon (tab (cornerPoint ring vs) m) (tab (edgeAt es vs) (m - 1)))
+    ensures { λ r. ⌜ ((es : List EdgeMark) → length es ≡ mostPoints → partOf ring es (r .corners) m ≡ Cut.makeSubPolygon (tab (cornerPoint ring vs) m)
+        (tab (edgeAt es vs) (m - 1)))
         × (r .turned ≡ Cut.turnedArea (tab (cornerPoint ring vs) m)) × Below (r .corners) × (r .turned ≤ 2 ^ 53) ⌝ }
 {
     let area = vector::polygon_area(rotated_points(ring, vs, m, 0));

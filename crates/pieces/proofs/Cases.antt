@@ -30,4 +30,9 @@ if-done (failed ns n k) e = let z : _≡_ {A = ℕ} 0 8 = ap (λ (r : PiecesRow)
 
 pub if-failed : (o : Outcome) {n k u : ℕ} → row (Failed n k u) ≡ rowOf o → OneFailed o n k u
 if-failed (done ns cs) e = let z : _≡_ {A = ℕ} 8 0 = ap (λ (r : PiecesRow). r .code) e in absurd (omega arith)
-if-failed (failed ns n k) e = record { ns = ns; is = λ j. failed ns (sym (ap (λ (r : PiecesRow). r .corners) e) j) (sym (ap (λ (r : PiecesRow). r .k) e) j); nodes = ap (λ (r : PiecesRow). r .nodes) e }
+if-failed (failed ns n k) e =
+    record {
+      ns = ns;
+      is = λ j. failed ns (sym (ap (λ (r : PiecesRow). r .corners) e) j) (sym (ap (λ (r : PiecesRow). r .k) e) j);
+      nodes = ap (λ (r : PiecesRow). r .nodes) e;
+    }

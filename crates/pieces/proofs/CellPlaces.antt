@@ -30,10 +30,17 @@ from-none q a = sym (take-append-drop (a * 4) q) ∙ ap (λ (l : List ℕ). take
 pub length-from : (q : List ℕ) (a : ℕ) (cs : List Cell) → (a + length cs) * 4 ≤ length q → length (overFrom q a cs) ≡ length q
 unfolding overFrom
 length-from q a cs h =
-    omega (arith, length-append (take (a * 4) q) (overCells (drop (a * 4) q) cs), length-take-le (a * 4) q (omega arith), length-drop (a * 4) q, length-over (drop (a * 4) q) cs (omega (arith, length-drop (a * 4) q)))
+    omega (
+      arith,
+      length-append (take (a * 4) q) (overCells (drop (a * 4) q) cs),
+      length-take-le (a * 4) q (omega arith),
+      length-drop (a * 4) q,
+      length-over (drop (a * 4) q) cs (omega (arith, length-drop (a * 4) q)),
+    )
 
 -- a callee wrote the cells ds over the part from place a on, which is back
-pub part-back : (r x : List ℕ) (a : ℕ) (ds : List Cell) → x ≡ overCells (take (length r - a * 4) (drop (a * 4) r)) ds → putMid (a * 4) (length r - a * 4) r x ≡ overFrom r a ds
+pub part-back : (r x : List ℕ) (a : ℕ) (ds : List Cell) → x ≡ overCells (take (length r - a * 4) (drop (a * 4) r)) ds
+    → putMid (a * 4) (length r - a * 4) r x ≡ overFrom r a ds
 unfolding overFrom
 part-back r x a ds e =
     let n : length (drop (a * 4) r) ≤ length r - a * 4 = omega (arith, length-drop (a * 4) r) in
@@ -59,18 +66,22 @@ module _ (q : List ℕ) (a : ℕ) (cs ds : List Cell) (h : (a + length cs) * 4 �
   pub from-more : overFrom (overFrom q a cs) (a + length cs) ds ≡ overFrom q a (cs ++ ds)
   from-more =
       let p = parted in
-      let t : take ((a + length cs) * 4) (overFrom q a cs) ≡ front = ap (take ((a + length cs) * 4)) p ∙ take-at front rest ((a + length cs) * 4) length-front in
+      let t : take ((a + length cs) * 4) (overFrom q a cs) ≡ front =
+      ap (take ((a + length cs) * 4)) p ∙ take-at front rest ((a + length cs) * 4) length-front in
       let d : drop ((a + length cs) * 4) (overFrom q a cs) ≡ rest = ap (drop ((a + length cs) * 4)) p ∙ drop-at front rest ((a + length cs) * 4) length-front in
       let e : length cs * 4 + length ds * 4 ≡ length (cs ++ ds) * 4 = omega (arith, length-append cs ds) in
-      let z : drop (length ds * 4) rest ≡ drop (length (cs ++ ds) * 4) (drop (a * 4) q) = drop-drop (length ds * 4) (length cs * 4) (drop (a * 4) q) ∙ ap (λ (k : ℕ). drop k (drop (a * 4) q)) e in
+      let z : drop (length ds * 4) rest ≡ drop (length (cs ++ ds) * 4) (drop (a * 4) q) =
+      drop-drop (length ds * 4) (length cs * 4) (drop (a * 4) q) ∙ ap (λ (k : ℕ). drop k (drop (a * 4) q)) e in
       joined t d z
     where
-      joined : take ((a + length cs) * 4) (overFrom q a cs) ≡ front → drop ((a + length cs) * 4) (overFrom q a cs) ≡ rest → drop (length ds * 4) rest ≡ drop (length (cs ++ ds) * 4) (drop (a * 4) q)
+      joined : take ((a + length cs) * 4) (overFrom q a cs) ≡ front → drop ((a + length cs) * 4) (overFrom q a cs) ≡ rest
+          → drop (length ds * 4) rest ≡ drop (length (cs ++ ds) * 4) (drop (a * 4) q)
           → overFrom (overFrom q a cs) (a + length cs) ds ≡ overFrom q a (cs ++ ds)
       joined t d z = unfold overFrom overCells in
           (λ j. t j ++ (flatCells ds ++ drop (length ds * 4) (d j)))
           ∙ append-assoc (take (a * 4) q) (flatCells cs) (flatCells ds ++ drop (length ds * 4) rest)
-          ∙ ap (λ (l : List ℕ). take (a * 4) q ++ l) (sym (append-assoc (flatCells cs) (flatCells ds) (drop (length ds * 4) rest)) ∙ (λ j. sym (cells-append cs ds) j ++ z j))
+          ∙ ap (λ (l : List ℕ). take (a * 4) q ++ l)
+          (sym (append-assoc (flatCells cs) (flatCells ds) (drop (length ds * 4) rest)) ∙ (λ j. sym (cells-append cs ds) j ++ z j))
 
 -- cells over cells, no fewer
 pub from-again : (q : List ℕ) (a : ℕ) (cs ds : List Cell) → a * 4 ≤ length q → length cs ≤ length ds → overFrom (overFrom q a cs) a ds ≡ overFrom q a ds

@@ -54,8 +54,10 @@ use Rattle.pieces.proofs.CellPlaces.{from-none, length-from, part-back,
 abbrev pub asksAt : Float → List Float → ℕ → List GridPoint → List Edge → PartList → ℕ → List Ask
 asksAt share l u ring es p i = asksTo share (piecesIn ring es p) (labelledIn ring p) (nodesIn l u) i
 
--- the first i pieces are done: the list of nodes is now m, with v used, that of cells r, and the next cell goes to place at; the rim marks are ts where they were rs
-pub record Reached (share : Float) (l : List Float) (u : ℕ) (rs q : List ℕ) (first : ℕ) (ring : List GridPoint) (es : List Edge) (p : PartList) (i : ℕ) (m : List Float) (v : ℕ) (ts r : List ℕ) (at : ℕ) : Type 0 where
+-- the first i pieces are done: the list of nodes is now m, with v used, that of cells r, and the next cell goes to place at; the rim marks are ts where they
+-- were rs
+pub record Reached (share : Float) (l : List Float) (u : ℕ) (rs q : List ℕ) (first : ℕ) (ring : List GridPoint) (es : List Edge) (p : PartList) (i : ℕ)
+    (m : List Float) (v : ℕ) (ts r : List ℕ) (at : ℕ) : Type 0 where
   pub ns : List Point
   pub cs : List Cell
   pub is : piecesTo share (piecesIn ring es p) (nodesIn l u) i ≡ done ns cs
@@ -77,7 +79,8 @@ pub record Read (ring : List GridPoint) (es : List Edge) (p : PartList) (i : ℕ
 
 -- what is left when the loop ends: the answer, the nodes, the cells and, with all that was asked for, the rim marks
 abbrev pub Left : List Float → ℕ → List ℕ → List ℕ → ℕ → ℕ → Outcome → List Ask → Subdivision → List Float → List ℕ → List ℕ → Type 0
-Left l u rs q first reserve o ks a m ts r = (row a ≡ rowOf o) × (m ≡ over l (nodesOf o)) × (r ≡ overFrom q first (cellsLeft reserve o)) × (ts ≡ rimsBy u (length (nodesOf o)) ks rs)
+Left l u rs q first reserve o ks a m ts r =
+    (row a ≡ rowOf o) × (m ≡ over l (nodesOf o)) × (r ≡ overFrom q first (cellsLeft reserve o)) × (ts ≡ rimsBy u (length (nodesOf o)) ks rs)
 
 corners-rise : (ps : List Part) (i d : ℕ) → cornersTo ps i ≤ cornersTo ps (i + d)
 corners-rise ps i zero = let e : i + zero ≡ i = omega arith in subst (λ (k : ℕ). cornersTo ps i ≤ cornersTo ps k) (sym e) (le-refl (cornersTo ps i))
@@ -85,7 +88,8 @@ corners-rise ps i (suc d) =
     let e : i + suc d ≡ suc (i + d) = omega arith in
     subst (λ (k : ℕ). cornersTo ps i ≤ cornersTo ps k) (sym e) (omega (arith, corners-rise ps i d))
 
-module _ {share : Float} {l : List Float} {u : ℕ} {q : List ℕ} {first reserve : ℕ} {ring : List GridPoint} {es : List Edge} {p : PartList} (f : CanSubdivide share l u q first reserve ring es p) (rs : List ℕ) where
+module _ {share : Float} {l : List Float} {u : ℕ} {q : List ℕ} {first reserve : ℕ} {ring : List GridPoint} {es : List Edge} {p : PartList}
+    (f : CanSubdivide share l u q first reserve ring es p) (rs : List ℕ) where
   abbrev ps : List Part
   ps = piecesIn ring es p
 
@@ -142,13 +146,15 @@ module _ {share : Float} {l : List Float} {u : ℕ} {q : List ℕ} {first reserv
     usable : i ≤ p .count → Usable m v
     usable h =
         over-usable l (s .ns) (s .nodes) (s .used)
-        (subst (λ (o : Outcome). EachNode InRange (nodesOf o)) (s .is) (pieces-in-range share ps (nodesIn l u) i (λ k a. f .fair k (omega arith)) (nodes-ranged (f .usable))))
+        (subst (λ (o : Outcome). EachNode InRange (nodesOf o)) (s .is)
+        (pieces-in-range share ps (nodesIn l u) i (λ k a. f .fair k (omega arith)) (nodes-ranged (f .usable))))
         (omega (arith, listed, rise i h, f .fits)) (omega (arith, listed, rise i h, f .room))
 
     -- what was collected of the nodes at first stays true of them
     pub held : {c : Nearby} {numbers : List ℕ} {xs : List Float} → ValidNearby l u c numbers xs → ValidNearby m v c numbers xs
     held {c} {numbers} {xs} h =
-        held-over l m u v (s .ns) c numbers xs (s .nodes) (s .used) (subst (λ (o : Outcome). Grown Anything (nodesIn l u) (nodesOf o)) (s .is) (pieces-any share ps (nodesIn l u) i)) h
+        held-over l m u v (s .ns) c numbers xs (s .nodes) (s .used)
+        (subst (λ (o : Outcome). Grown Anything (nodesIn l u) (nodesOf o)) (s .is) (pieces-any share ps (nodesIn l u) i)) h
 
     pub all-done : i ≡ p .count → Left l u rs q first reserve (O (p .count)) (asks (p .count)) (Done v (at - first)) m ts r
     all-done e =
@@ -182,7 +188,9 @@ module _ {share : Float} {l : List Float} {u : ℕ} {q : List ℕ} {first reserv
       next-is = ap O (add-one i) ∙ ap (λ (o : Outcome). onward share o P) (s .is)
 
       grown : length (S .nodes) ≤ length (nodesOf (O (p .count)))
-      grown = omega (arith, ap (λ (o : Outcome). length (nodesOf o)) next-is, ap length (onward-done share (s .ns) (s .cs) P), rise (i + 1) (omega (arith, k .count)))
+      grown =
+          omega
+          (arith, ap (λ (o : Outcome). length (nodesOf o)) next-is, ap length (onward-done share (s .ns) (s .cs) P), rise (i + 1) (omega (arith, k .count)))
 
       -- the cells of this piece stay k .count the reserve
       ahead : length (s .cs) + (piece .ring .count) ≤ reserve
@@ -229,7 +237,8 @@ module _ {share : Float} {l : List Float} {u : ℕ} {q : List ℕ} {first reserv
 
       -- what `subdivide` left: its answer t, the nodes m', the rim marks ts', and x in the part of the cells
       module _ {t : Tried} {m' : List Float} {ts' x : List ℕ}
-          (e : (t ≡ triedOf (subdivideIn share m v piece)) × (m' ≡ over m (subdivideIn share m v piece .nodes)) × (x ≡ overCells (take (length r - at * 4) (drop (at * 4) r)) (subdivideIn share m v piece .cells))
+          (e : (t ≡ triedOf (subdivideIn share m v piece)) × (m' ≡ over m (subdivideIn share m v piece .nodes))
+          × (x ≡ overCells (take (length r - at * 4) (drop (at * 4) r)) (subdivideIn share m v piece .cells))
           × (ts' ≡ rimsBy v (length (subdivideIn share m v piece .nodes)) (subdivideAsksIn share m v piece bs) ts)) where
         abbrev r' : List ℕ
         r' = putMid (at * 4) (length r - at * 4) r x
@@ -268,7 +277,8 @@ module _ {share : Float} {l : List Float} {u : ℕ} {q : List ℕ} {first reserv
         lost : (S .fails ≡ (piece .ring .count) → ⊥) → O (i + 1) ≡ failed (S .nodes) (piece .ring .count) (S .fails)
         unfolding onward
         lost g =
-            let a : onward share (done (s .ns) (s .cs)) P ≡ failed (S .nodes) (length (P .points)) (S .fails) = rw (ne-eqb (S .fails) (length (P .points)) (λ b. g (b ∙ corners))) in
+            let a : onward share (done (s .ns) (s .cs)) P ≡ failed (S .nodes) (length (P .points)) (S .fails) =
+            rw (ne-eqb (S .fails) (length (P .points)) (λ b. g (b ∙ corners))) in
             next-is ∙ a ∙ ap (λ (k : ℕ). failed (S .nodes) k (S .fails)) corners
 
         pub go-on : t .fails ≡ (piece .ring .count) → Reached share l u rs q first ring es p (i + 1) m' (t .used) ts' r' (at + (piece .ring .count))
@@ -288,7 +298,8 @@ module _ {share : Float} {l : List Float} {u : ℕ} {q : List ℕ} {first reserv
         stays : (d : ℕ) → O (i + 1) ≡ failed (S .nodes) (piece .ring .count) (S .fails) → O (i + 1 + d) ≡ failed (S .nodes) (piece .ring .count) (S .fails)
         unfolding piecesTo onward
         stays zero g = let a : i + 1 + zero ≡ i + 1 = omega arith in ap O a ∙ g
-        stays (suc d) g = let a : i + 1 + suc d ≡ suc (i + 1 + d) = omega arith in ap O a ∙ ap (λ (o : Outcome). onward share o (getD ps (i + 1 + d) noPart)) (stays d g)
+        stays (suc d) g =
+            let a : i + 1 + suc d ≡ suc (i + 1 + d) = omega arith in ap O a ∙ ap (λ (o : Outcome). onward share o (getD ps (i + 1 + d) noPart)) (stays d g)
 
         -- and none asks for anything
         none-asked : (d : ℕ) → O (i + 1) ≡ failed (S .nodes) (piece .ring .count) (S .fails) → asks (i + 1 + d) ≡ asks (i + 1)
@@ -297,7 +308,8 @@ module _ {share : Float} {l : List Float} {u : ℕ} {q : List ℕ} {first reserv
         none-asked (suc d) g =
             let a : i + 1 + suc d ≡ suc (i + 1 + d) = omega arith in
             ap asks a
-            ∙ ap (λ (o : Outcome). asks (i + 1 + d) ++ onwardAsks share o (getD ps (i + 1 + d) noPart) (getD (labelledIn ring p) (i + 1 + d) noPart)) (stays d g)
+            ∙ ap (λ (o : Outcome). asks (i + 1 + d) ++ onwardAsks share o (getD ps (i + 1 + d) noPart) (getD (labelledIn ring p) (i + 1 + d) noPart))
+            (stays d g)
             ∙ append-nil (asks (i + 1 + d)) ∙ none-asked d g
 
         -- y is what `clear` left in the part of the cells from `first` on
@@ -309,19 +321,22 @@ module _ {share : Float} {l : List Float} {u : ℕ} {q : List ℕ} {first reserv
           cleared =
               part-back r' y first (replicate reserve noCell) c
               ∙ (λ j. overFrom (cells-now j) first (replicate reserve noCell))
-              ∙ from-again q first (s .cs ++ S .cells) (replicate reserve noCell) (omega (arith, f .places)) (omega (arith, both, ahead, length-replicate reserve noCell))
+              ∙ from-again q first (s .cs ++ S .cells) (replicate reserve noCell) (omega (arith, f .places))
+              (omega (arith, both, ahead, length-replicate reserve noCell))
 
           pub long-cleared : length r'' ≡ length q
           long-cleared = ap length cleared ∙ length-from q first (replicate reserve noCell) (omega (arith, length-replicate reserve noCell, f .places))
 
-          pub after-failure : (t .fails ≡ (piece .ring .count) → ⊥) → Left l u rs q first reserve (O (p .count)) (asks (p .count)) (Failed (piece .ring .count) (t .fails) (t .used)) m' ts' r''
+          pub after-failure : (t .fails ≡ (piece .ring .count) → ⊥)
+              → Left l u rs q first reserve (O (p .count)) (asks (p .count)) (Failed (piece .ring .count) (t .fails) (t .used)) m' ts' r''
           after-failure g =
               let a = ap (λ (t : Tried). t .fails) told in
               let b : i + 1 + (p .count - (i + 1)) ≡ p .count = omega (arith, k .count) in
               let w = lost (λ z. g (a ∙ z)) in
               let o : O (p .count) ≡ failed (S .nodes) (piece .ring .count) (S .fails) = ap O (sym b) ∙ stays (p .count - (i + 1)) w in
               let d : asks (p .count) ≡ asks (i + 1) = ap asks (sym b) ∙ none-asked (p .count - (i + 1)) w in (
-                subst (λ (o : Outcome). row (Failed (piece .ring .count) (t .fails) (t .used)) ≡ rowOf o) (sym o) (λ j. row (Failed (piece .ring .count) (a j) (told j .used))),
+                subst (λ (o : Outcome). row (Failed (piece .ring .count) (t .fails) (t .used)) ≡ rowOf o) (sym o)
+                    (λ j. row (Failed (piece .ring .count) (a j) (told j .used))),
                 nodes-now ∙ ap (λ (o : Outcome). over l (nodesOf o)) (sym o),
                 cleared ∙ ap (λ (o : Outcome). overFrom q first (cellsLeft reserve o)) (sym o),
                 rims-now ∙ (λ j. rimsBy u (length (nodesOf (sym o j))) (sym d j) rs),

@@ -1,5 +1,5 @@
--- Which edges of a piece are ring edges, as the code reads it: the number of the edge is one of the ring's, below 60. It is what the split says of the ring with every edge marked
--- (`sides-are`), and that ring is the cleaned one with its edges marked (`labelled-ring`).
+-- Which edges of a piece are ring edges, as the code reads it: the number of the edge is one of the ring's, below 60. It is what the split says of the ring
+-- with every edge marked (`sides-are`), and that ring is the cleaned one with its edges marked (`labelled-ring`).
 use Prim.Native.Nat.{ℕ, zero, suc, _+_, _≤_, _<_}
 use native.Mathlib.Decide.{decLt}
 use native.Mathlib.Omega.{arith}
@@ -38,9 +38,12 @@ mark-at e = go (decLt e 60)
   where
     go : Dec (e < 60) → ltb e 60 ≡ isMarked (getD (replicate 60 label) e Straight)
     go (yes h) = lt-ltb e 60 h ∙ ap isMarked (sym (getD-replicate 60 e label Straight h))
-    go (no h) = le-ltb e 60 (omega arith) ∙ ap isMarked (sym (List·getD-eq-default (replicate 60 label) Straight {n = e} (omega (arith, h, length-replicate 60 label))))
+    go (no h) =
+        le-ltb e 60 (omega arith)
+        ∙ ap isMarked (sym (List·getD-eq-default (replicate 60 label) Straight {n = e} (omega (arith, h, length-replicate 60 label))))
 
-pub sides-are : (p : PartList) (i : ℕ) → i < p .count → (out : List Bool) → take (size p i) out ≡ tab (sideOf p (end p i)) (size p i) → ((k : ℕ) → size p i ≤ k → getD out k false ≡ false)
+pub sides-are : (p : PartList) (i : ℕ) → i < p .count → (out : List Bool) → take (size p i) out ≡ tab (sideOf p (end p i)) (size p i)
+    → ((k : ℕ) → size p i ≤ k → getD out k false ≡ false)
     → (ring : List GridPoint) (j : ℕ) → getD out j false ≡ ofRing (pieceIn ring everyMark p i) j
 sides-are p i l out e f ring j = go (decLt j (size p i)) ∙ ap (λ (q : Part). ofRing q j) (sym (piece-nth p i l ring everyMark))
   where
@@ -61,7 +64,8 @@ sides-are p i l out e f ring j = go (decLt j (size p i)) ∙ ap (λ (q : Part). 
 marks-are : (n m : ℕ) (es : List EdgeMark) → length es ≡ m → take n (replicate m label) ≡ map (λ (e : EdgeMark). label) (take n es)
 marks-are zero m es h = refl
 marks-are (suc n) m [] h = ap (λ (k : ℕ). take (suc n) (replicate k label)) (sym h)
-marks-are (suc n) m (e ∷ es) h = ap (λ (k : ℕ). take (suc n) (replicate k label)) (sym h) ∙ ap (λ (l : List EdgeMark). label ∷ l) (marks-are n (length es) es refl)
+marks-are (suc n) m (e ∷ es) h =
+    ap (λ (k : ℕ). take (suc n) (replicate k label)) (sym h) ∙ ap (λ (l : List EdgeMark). label ∷ l) (marks-are n (length es) es refl)
 
 pub labelled-ring : (ring : List GridPoint) (es : List EdgeMark) (n : ℕ) → length es ≡ 60 → ringPart ring everyMark n ≡ allMarked (ringPart ring es n)
 unfolding everyMark allMarked

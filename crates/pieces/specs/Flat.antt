@@ -45,7 +45,8 @@ asksIn share l u ring es p = asksTo share (piecesIn ring es p) (labelledIn ring 
 
 -- ---- what is asked
 -- the pieces are fair, and there is room for all their nodes, and for a cell a corner in the reserve of places from `first` on
-pub record CanSubdivide (share : Float) (l : List Float) (u : ℕ) (q : List ℕ) (first reserve : ℕ) (ring : List GridPoint) (es : List Edge) (p : PartList) : Type 0 where
+pub record CanSubdivide (share : Float) (l : List Float) (u : ℕ) (q : List ℕ) (first reserve : ℕ) (ring : List GridPoint) (es : List Edge) (p : PartList) :
+    Type 0 where
   pub usable : Usable l u
   pub sheet : AllOnSheet ring
   pub kept : ValidParts p

@@ -84,8 +84,10 @@ pub fn subdivide_all(
         × (length (nodesOf (outcomeIn share (now nodes) used (ring .ring .points) (ring .edges) pieces)) ≤ length (now rims)) ⌝ }
     ensures { λ r. ⌜ (row r ≡ rowOf (outcomeIn share (now (nodes .entry)) used (ring .ring .points) (ring .edges) pieces))
         × (now (nodes .exit) ≡ over (now (nodes .entry)) (nodesOf (outcomeIn share (now (nodes .entry)) used (ring .ring .points) (ring .edges) pieces)))
-        × (now (cells .exit) ≡ overFrom (now (cells .entry)) first (cellsLeft reserve (outcomeIn share (now (nodes .entry)) used (ring .ring .points) (ring .edges) pieces)))
-        × (now (rims .exit) ≡ rimsBy used (length (nodesOf (outcomeIn share (now (nodes .entry)) used (ring .ring .points) (ring .edges) pieces))) (asksIn share (now (nodes .entry)) used (ring .ring .points) (ring .edges) pieces) (now (rims .entry))) ⌝ }
+        × (now (cells .exit) ≡ overFrom (now (cells .entry)) first (cellsLeft reserve
+        (outcomeIn share (now (nodes .entry)) used (ring .ring .points) (ring .edges) pieces)))
+        × (now (rims .exit) ≡ rimsBy used (length (nodesOf (outcomeIn share (now (nodes .entry)) used (ring .ring .points) (ring .edges) pieces)))
+        (asksIn share (now (nodes .entry)) used (ring .ring .points) (ring .edges) pieces) (now (rims .entry))) ⌝ }
 {
     let own = ring.ring;
     let points = own.points;

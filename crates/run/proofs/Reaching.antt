@@ -1,5 +1,6 @@
--- What a turn of the loop does to what was reached: one block more (`turned`), of which the text is owed (`owes`) and, once it is sent, was written (`wrote`); no run goes on
--- past 65,536 blocks; and where it has ended, `printed` of the input was written (`finished`), and the nodes are those of its run (`listed`).
+-- What a turn of the loop does to what was reached: one block more (`turned`), of which the text is owed (`owes`) and, once it is sent, was written
+-- (`wrote`); no run goes on past 65,536 blocks; and where it has ended, `printed` of the input was written (`finished`), and the nodes are those of its run
+-- (`listed`).
 use Prim.Native.Nat.{ℕ, suc, _+_, _-_, _*_, _≤_, _<_}
 use mathlib.Core.Path.{_≡_, refl, sym, ap, _∙_, subst}
 use mathlib.Core.Bool.{Bool, true, false, cond}
@@ -30,14 +31,18 @@ unfolding ofBits
 zero-bits = refl
 
 pub begun-so : (s : State) → s ≡ start → Reached s noPoints (replicate 3072 (ofBits binary64 0)) noRims
-begun-so s e = subst (λ (x : Float). Reached s noPoints (replicate 3072 x) noRims) (sym zero-bits) (subst (λ (q : State). Reached q noPoints noNodes noRims) (sym e) begun)
+begun-so s e =
+    subst (λ (x : Float). Reached s noPoints (replicate 3072 x) noRims) (sym zero-bits)
+    (subst (λ (q : State). Reached q noPoints noNodes noRims) (sym e) begun)
 
 none-written : Wrote start noPoints noNodes noRims 0
 unfolding ran readTo begun
 none-written = record { reached = begun; text = refl; bound = omega arith }
 
 pub begun-unwritten : (s : State) → s ≡ start → Wrote s noPoints (replicate 3072 (ofBits binary64 0)) noRims 0
-begun-unwritten s e = subst (λ (x : Float). Wrote s noPoints (replicate 3072 x) noRims 0) (sym zero-bits) (subst (λ (q : State). Wrote q noPoints noNodes noRims 0) (sym e) none-written)
+begun-unwritten s e =
+    subst (λ (x : Float). Wrote s noPoints (replicate 3072 x) noRims 0) (sym zero-bits)
+    (subst (λ (q : State). Wrote q noPoints noNodes noRims 0) (sym e) none-written)
 
 module _ (s : State) (ps : List ℤ) (l : List Float) (rs : List ℕ) (r : Reached s ps l rs) where
   -- a step can be made
@@ -60,7 +65,8 @@ module _ (s : State) (ps : List ℤ) (l : List Float) (rs : List ℕ) (r : Reach
         go (no h) = not-both (s .ended) (ap (λ (z : State). z .ended) (r .state) ∙ in-time (r .input) (r .bytes) (r .blocks) (omega arith)) e
 
     -- the number of the next block falls short of 65,537 by ever less, until the run has ended
-    pub falls : (b : List ℕ) → Bytes b → (x : State) → x ≡ stepOf s ps l rs b .state → cond (x .ended) 0 (65537 - x .block) < cond (s .ended) 0 (65537 - s .block)
+    pub falls : (b : List ℕ) → Bytes b → (x : State) → x ≡ stepOf s ps l rs b .state
+        → cond (x .ended) 0 (65537 - x .block) < cond (s .ended) 0 (65537 - s .block)
     falls b f x q = rw e (by (outcome s ps l rs b))
       where
         now : s .block ≡ r .blocks
@@ -75,7 +81,14 @@ module _ (s : State) (ps : List ℤ) (l : List Float) (rs : List ℕ) (r : Reach
       longer : readTo (r .input ++ b) (r .blocks) ≡ readTo (r .input) (r .blocks)
       longer = read-more (r .input) b (r .blocks) (omega (arith, r .whole e))
 
-      after : ran (readTo (r .input ++ b) (suc (r .blocks))) ≡ record { state = stepOf s ps l rs b .state; points = stepOf s ps l rs b .points; nodes = stepOf s ps l rs b .nodes; rims = stepOf s ps l rs b .rims; text = ran (readTo (r .input) (r .blocks)) .text ++ textOf (stepOf s ps l rs b) }
+      after : ran (readTo (r .input ++ b) (suc (r .blocks))) ≡ record {
+        state = stepOf s ps l rs b .state;
+        points = stepOf s ps l rs b .points;
+        nodes = stepOf
+            s ps l rs b .nodes;
+        rims = stepOf s ps l rs b .rims;
+        text = ran (readTo (r .input) (r .blocks)) .text ++ textOf (stepOf s ps l rs b);
+      }
       after =
           one-more (r .input ++ b) (r .blocks)
           ∙ (λ i. onward (ran (longer i)) (read-added (r .input) b (r .blocks) (r .whole e) h i))
@@ -84,7 +97,15 @@ module _ (s : State) (ps : List ℤ) (l : List Float) (rs : List ℕ) (r : Reach
           let q = sym (r .points) in
           let d = sym (r .nodes) in
           let w = sym (r .rims) in
-          λ i. record { state = stepOf (a i) (q i) (d i) (w i) b .state; points = stepOf (a i) (q i) (d i) (w i) b .points; nodes = stepOf (a i) (q i) (d i) (w i) b .nodes; rims = stepOf (a i) (q i) (d i) (w i) b .rims; text = ran (readTo (r .input) (r .blocks)) .text ++ textOf (stepOf (a i) (q i) (d i) (w i) b) })
+          λ i. record {
+            state = stepOf (a i) (q i) (d i) (w i) b .state;
+            points = stepOf (a i) (q i) (d i) (w i) b .points;
+            nodes = stepOf (a i) (q i) (d i)
+                (w i) b .nodes;
+            rims = stepOf (a i) (q i) (d i) (w i) b .rims;
+            text = ran (readTo (r .input) (r .blocks)) .text ++ textOf
+                (stepOf (a i) (q i) (d i) (w i) b);
+          })
 
       module _ (x : Stepped) (qs : List ℤ) (m : List Float) (w p : List ℕ) (t : Steps (stepOf s ps l rs b) x qs m w p) where
         still-whole : x .state .ended ≡ false → length (r .input ++ b) ≡ 512 * suc (r .blocks)
@@ -115,12 +136,18 @@ module _ (s : State) (ps : List ℤ) (l : List Float) (rs : List ℕ) (sent : �
   pub finished : s .ended ≡ true → Finished sent
   finished e =
       let g = r .reached in
-      record { input = g .input; bytes = g .bytes; all = r .text ∙ ap length (prints (g .input) (g .blocks) (ap (λ (z : State). z .ended) (sym (g .state)) ∙ e)) }
+      record {
+        input = g .input;
+        bytes = g .bytes;
+        all = r .text ∙ ap length (prints (g .input) (g .blocks) (ap (λ (z : State). z .ended) (sym (g .state)) ∙ e));
+      }
 
-  module _ (e : s .ended ≡ false) (b : List ℕ) (f : Bytes b) (h : length b ≤ 512) (x : Stepped) (qs : List ℤ) (m : List Float) (w p : List ℕ) (t : Steps (stepOf s ps l rs b) x qs m w p) where
+  module _ (e : s .ended ≡ false) (b : List ℕ) (f : Bytes b) (h : length b ≤ 512) (x : Stepped) (qs : List ℤ) (m : List Float) (w p : List ℕ)
+      (t : Steps (stepOf s ps l rs b) x qs m w p) where
     -- the text of what the step tells is owed
     pub owes : Owed sent (toldText (x .told) p)
-    owes = record { state = s; points = ps; nodes = l; rims = rs; block = b; wrote = r; going = e; text = same-text s ps l rs (r .reached) e b f h x qs m w p t }
+    owes =
+        record { state = s; points = ps; nodes = l; rims = rs; block = b; wrote = r; going = e; text = same-text s ps l rs (r .reached) e b f h x qs m w p t }
 
     -- and once it is sent, it was written
     pub wrote : (n : ℕ) → Sends sent (toldText (x .told) p) n → Wrote (x .state) qs m w n

@@ -1,5 +1,5 @@
--- The loop of a run: what holds between two blocks, and when it has ended. Of what was read and written no contract can speak, so the input stands for the bytes that
--- the loop stepped over, one block after the other, and what was written for its length.
+-- The loop of a run: what holds between two blocks, and when it has ended. Of what was read and written no contract can speak, so the input stands for the
+-- bytes that the loop stepped over, one block after the other, and what was written for its length.
 use Prim.Native.Nat.{ℕ, _+_, _*_, _≤_}
 use mathlib.Core.Path.{_≡_}
 use mathlib.Core.Bool.{true, false}

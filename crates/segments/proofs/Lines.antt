@@ -1,5 +1,5 @@
 -- Cross products of steps between points, in whole numbers: where three points are on one line, the numerator of a parameter is 0 or the
--- denominator. Assumes nothing.
+-- denominator.
 use Prim.Native.Nat.{ℕ, zero, suc, _+_, _*_}
 use native.Mathlib.Omega.{arith}
 use mathlib.Core.Path.{_≡_, refl, sym, ap, _∙_}

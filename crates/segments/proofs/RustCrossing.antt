@@ -64,7 +64,8 @@ crosses : (p q r s : GridPoint) → OnSheet p → OnSheet q → OnSheet r → On
 crosses p q r s hp hq hr hs =
     let u = sym (exact.difference p q hp hq) in
     let v = sym (exact.difference r s hr hs) in
-    subst (λ (x : Float). Holds x (Grid.cross (Grid.sub p q) (Grid.sub r s))) (λ i. Plane.cross (u i) (v i)) (exact.cross (Grid.sub p q) (Grid.sub r s) (step p q hp hq) (step r s hr hs))
+    subst (λ (x : Float). Holds x (Grid.cross (Grid.sub p q) (Grid.sub r s))) (λ i. Plane.cross (u i) (v i))
+    (exact.cross (Grid.sub p q) (Grid.sub r s) (step p q hp hq) (step r s hr hs))
 
 small : (p q r s : GridPoint) → OnSheet p → OnSheet q → OnSheet r → OnSheet s → natAbs (Grid.cross (Grid.sub p q) (Grid.sub r s)) ≤ 2 ^ 53
 small p q r s hp hq hr hs = cross-fits (Grid.sub p q) (Grid.sub r s) (step p q hp hq) (step r s hr hs)
@@ -82,25 +83,32 @@ grouped true true true c d = refl
 
 -- ---- the claim
 module _ (a b c d : GridPoint) (ha : OnSheet a) (hb : OnSheet b) (hc : OnSheet c) (hd : OnSheet d) where
-  pub parallel-is-zero : (magnitude (denominator (Plane.inMm a) (Plane.inMm b) (Plane.inMm c) (Plane.inMm d)) ≤f lit 1 14) ≡ eqZ (Grid.cross (Grid.sub b a) (Grid.sub d c)) (pos 0)
+  pub parallel-is-zero : (magnitude (denominator (Plane.inMm a) (Plane.inMm b) (Plane.inMm c) (Plane.inMm d)) ≤f lit 1 14) ≡ eqZ
+      (Grid.cross (Grid.sub b a) (Grid.sub d c)) (pos 0)
   parallel-is-zero =
       let x = denominator (Plane.inMm a) (Plane.inMm b) (Plane.inMm c) (Plane.inMm d) in
       let z = Grid.cross (Grid.sub b a) (Grid.sub d c) in
-      small-is-zero x z (2 ^ 26) (pow-pos 26) (holds-isZ x z (small b a d c hb ha hd hc) (crosses b a d c hb ha hd hc)) (lit 1 14) (limit .0) (limit .1) (limit .2)
+      small-is-zero x z (2 ^ 26) (pow-pos 26) (holds-isZ x z (small b a d c hb ha hd hc) (crosses b a d c hb ha hd hc)) (lit 1 14) (limit .0) (limit .1)
+      (limit .2)
 
   module _ (n : eqZ (Grid.cross (Grid.sub b a) (Grid.sub d c)) (pos 0) ≡ false) where
     apart : Grid.cross (Grid.sub b a) (Grid.sub d c) ≡ pos 0 → ⊥
     apart e = subst T (sym (ap (λ (z : ℤ). eqZ z (pos 0)) e) ∙ n) tt
 
-    pub first-parameter : Over (firstParameter (Plane.inMm a) (Plane.inMm b) (Plane.inMm c) (Plane.inMm d)) (Grid.cross (Grid.sub c a) (Grid.sub d c)) (Grid.cross (Grid.sub b a) (Grid.sub d c))
+    pub first-parameter : Over (firstParameter (Plane.inMm a) (Plane.inMm b) (Plane.inMm c) (Plane.inMm d)) (Grid.cross (Grid.sub c a) (Grid.sub d c))
+        (Grid.cross (Grid.sub b a) (Grid.sub d c))
     first-parameter = quotient _ _ _ _ (small c a d c hc ha hd hc) (small b a d c hb ha hd hc) apart (crosses c a d c hc ha hd hc) (crosses b a d c hb ha hd hc)
 
-    pub second-parameter : Over (secondParameter (Plane.inMm a) (Plane.inMm b) (Plane.inMm c) (Plane.inMm d)) (Grid.cross (Grid.sub c a) (Grid.sub b a)) (Grid.cross (Grid.sub b a) (Grid.sub d c))
-    second-parameter = quotient _ _ _ _ (small c a b a hc ha hb ha) (small b a d c hb ha hd hc) apart (crosses c a b a hc ha hb ha) (crosses b a d c hb ha hd hc)
+    pub second-parameter : Over (secondParameter (Plane.inMm a) (Plane.inMm b) (Plane.inMm c) (Plane.inMm d)) (Grid.cross (Grid.sub c a) (Grid.sub b a))
+        (Grid.cross (Grid.sub b a) (Grid.sub d c))
+    second-parameter =
+        quotient _ _ _ _ (small c a b a hc ha hb ha) (small b a d c hb ha hd hc) apart (crosses c a b a hc ha hb ha) (crosses b a d c hb ha hd hc)
 
   pub same-crossing : segmentsCross a b c d ≡ rustCrosses (Plane.inMm a) (Plane.inMm b) (Plane.inMm c) (Plane.inMm d)
   unfolding segmentsCross ratio
-  same-crossing = go (eqZ z (pos 0)) refl ∙ sym (ap (λ (p : Bool). not p && (lit 1 9 <f t) && (t <f nat 1 -f lit 1 9) && (lit 1 9 <f u) && (u <f nat 1 -f lit 1 9)) parallel-is-zero)
+  same-crossing =
+      go (eqZ z (pos 0)) refl
+      ∙ sym (ap (λ (p : Bool). not p && (lit 1 9 <f t) && (t <f nat 1 -f lit 1 9) && (lit 1 9 <f u) && (u <f nat 1 -f lit 1 9)) parallel-is-zero)
     where
       z : ℤ
       z = Grid.cross (Grid.sub b a) (Grid.sub d c)

@@ -141,8 +141,11 @@ module _ (a b c d : GridPoint) where
     never-both t = go (which t)
       where
         go : Which → segmentsCross a b c d ≡ false
-        go (inl e) = first-fails (not (eqZ bottom (pos 0))) (interior (ratio first bottom)) (interior (ratio second bottom)) (parameter-out first bottom bottom-size e)
-        go (inr e) = second-fails (not (eqZ bottom (pos 0))) (interior (ratio first bottom)) (interior (ratio second bottom)) (parameter-out second bottom bottom-size e)
+        go (inl e) =
+            first-fails (not (eqZ bottom (pos 0))) (interior (ratio first bottom)) (interior (ratio second bottom)) (parameter-out first bottom bottom-size e)
+        go (inr e) =
+            second-fails (not (eqZ bottom (pos 0))) (interior (ratio first bottom)) (interior (ratio second bottom))
+            (parameter-out second bottom bottom-size e)
 
     -- ---- the answers
     pub told-touching : touching a b c d ≡ true → segmentsMeet a b c d ≡ meets.Touching

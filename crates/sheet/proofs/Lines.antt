@@ -1,5 +1,5 @@
--- The loop over the nodes: the line that was put is the whole of its list (`whole-line`), it is owed (`owes`), and once it is sent the lines so far are one more (`more-lines`);
--- and where a run has ended, its lines are the input's sheet (`finished`).
+-- The loop over the nodes: the line that was put is the whole of its list (`whole-line`), it is owed (`owes`), and once it is sent the lines so far are one
+-- more (`more-lines`); and where a run has ended, its lines are the input's sheet (`finished`).
 use Prim.Native.Nat.{ℕ, suc, _+_, _*_, _<_, _≤_}
 use mathlib.Core.Path.{_≡_, refl, sym, ap, _∙_}
 use mathlib.Core.List.{List}
@@ -33,7 +33,16 @@ more-lines l i sent n t e d h = rw (add-one i) (omega (arith, h, e, ap length d,
 
 -- after fewer bytes than 65 million there is room in the count for a line
 pub few-bytes : (sent : ℕ) (t : List ℕ) → Owed sent t → sent + length t ≤ 65000065
-few-bytes sent t o = omega (arith, o .wrote, o .few, o .below, ap length (o .text), line-long (o .nodes) (o .number) (omega (arith, o .few, o .below)), lines-long (o .nodes) (o .number) (omega (arith, o .few, o .below)))
+few-bytes sent t o =
+    omega (
+      arith,
+      o .wrote,
+      o .few,
+      o .below,
+      ap length (o .text),
+      line-long (o .nodes) (o .number) (omega (arith, o .few, o .below)),
+      lines-long (o .nodes) (o .number) (omega (arith, o .few, o .below)),
+    )
 
 pub finished : (used : ℕ) (l : List Float) (sent : ℕ) → EndedWith used l → sent ≡ length (lines l used) → Finished sent
 unfolding sheeted

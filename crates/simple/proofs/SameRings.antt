@@ -32,5 +32,7 @@ same-rings r = λ k. leb 3 n && not (any (λ i. any (λ j. ltb (suc i) j && not 
     n : ℕ
     n = length r
 
-    told : (i j : ℕ) → segmentsCross (Grid.at r i) (Grid.at r (suc i)) (Grid.at r j) (Grid.at r (suc j)) ≡ isCrossing (segmentsMeet (Grid.at r i) (Grid.at r (suc i)) (Grid.at r j) (Grid.at r (suc j)))
+    told : (i j : ℕ)
+        → segmentsCross (Grid.at r i) (Grid.at r (suc i)) (Grid.at r j) (Grid.at r (suc j)) ≡ isCrossing
+        (segmentsMeet (Grid.at r i) (Grid.at r (suc i)) (Grid.at r j) (Grid.at r (suc j)))
     told i j = sym (crossing-alone (Grid.at r i) (Grid.at r (suc i)) (Grid.at r j) (Grid.at r (suc j)))

@@ -9,7 +9,8 @@ use Rattle.vector.specs.declared.GridPoint.{GridPoint}
 use Rattle.corner.specs.declared.Limits.{Limits}
 use Rattle.diagonal.specs.Diagonal.{meetsRule, score}
 
--- of the diagonals from the corner 0 of r to 2 .. its corners less 2, the one to k is the best: it meets the rule, no other that does has a smaller larger cosine, and none before it an equal one
+-- of the diagonals from the corner 0 of r to 2 .. its corners less 2, the one to k is the best: it meets the rule, no other that does has a smaller larger
+-- cosine, and none before it an equal one
 pub record Best (L : Limits) (r : List GridPoint) (k : ℕ) : Type 0 where
   pub low : 2 ≤ k
   pub high : k + 2 ≤ length r

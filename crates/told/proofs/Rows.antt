@@ -35,7 +35,8 @@ module _ (n used : ℕ) (v : Row) (cells : List ℕ) where
   row-refused h = rw (ne-eqb (v .code) 0 h)
 
   pub row-accepted : v .code ≡ 0
-      → ringText (record { ring = n; corners = v .corners; cuts = v .cuts; turned = v .turned; area = v .area; nodes = v .nodes; added = v .nodes - used }) (take (v .cells * 4) cells) ≡ rowText n used v cells
+      → ringText (record { ring = n; corners = v .corners; cuts = v .cuts; turned = v .turned; area = v .area; nodes = v .nodes; added = v .nodes - used })
+      (take (v .cells * 4) cells) ≡ rowText n used v cells
   unfolding rowText
   row-accepted h = rw (eq-eqb (v .code) 0 h)
 

@@ -14,7 +14,8 @@ use Rattle.told.specs.declared.Told.the-variants.{Nothing, Ring, Block}
 unfoldable pub rowText : ℕ → ℕ → Row → List ℕ → List ℕ
 rowText n used v cells =
     cond (eqb (v .code) 0)
-    (ringText (record { ring = n; corners = v .corners; cuts = v .cuts; turned = v .turned; area = v .area; nodes = v .nodes; added = v .nodes - used }) (take (v .cells * 4) cells))
+    (ringText (record { ring = n; corners = v .corners; cuts = v .cuts; turned = v .turned; area = v .area; nodes = v .nodes; added = v .nodes - used })
+    (take (v .cells * 4) cells))
     (refusedRing n (v .code) (v .corners) (v .k))
 
 -- the text of what was told; "A block refusal ends the run with `block NUMBER refused CODE`"

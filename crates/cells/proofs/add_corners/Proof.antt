@@ -36,8 +36,12 @@ add-node-requires c κs =
     let s = o .before .before .before .before in
     let l = o .loop in
     let t = c .before .before .before .loop-test .taken in
-    let e = c .new .ensures ∙ ap inMm (sym (getD-take (s .args .t3 .count) (s .args .t3 .points) (l .i) origin t)) in
-    (adding.usable (s .pre .0) (l .inv .2) (l .inv .0), subst InRange (sym e) (s .pre .0 .ranged (l .i) t), adding.ahead (s .pre .0) (l .inv .2) t e, adding.held (l .inv .2) (s .pre .2))
+    let e = c .new .ensures ∙ ap inMm (sym (getD-take (s .args .t3 .count) (s .args .t3 .points) (l .i) origin t)) in (
+      adding.usable (s .pre .0) (l .inv .2) (l .inv .0),
+      subst InRange (sym e) (s .pre .0 .ranged (l .i) t),
+      adding.ahead (s .pre .0) (l .inv .2) t e,
+      adding.held (l .inv .2) (s .pre .2),
+    )
 
 mul-list : tie.Need-mul-list Inv-loop μ-loop
 mul-list c = search needs
@@ -58,8 +62,12 @@ loop-again c =
     let l = o .loop in
     let t = c .before .before .before .before .before .before .loop-test .taken in
     let a = c .before .before .add-node in
-    let k = c .before .before .before .new in
-    (search needs, search needs, adding.next (l .inv .2) (omega (arith, s .pre .0 .few)) (k .ensures ∙ ap inMm (sym (getD-take (s .args .t3 .count) (s .args .t3 .points) (l .i) origin t))) (a .ensures .0) (a .ensures .1))
+    let k = c .before .before .before .new in (
+      search needs,
+      search needs,
+      adding.next (l .inv .2) (omega (arith, s .pre .0 .few))
+          (k .ensures ∙ ap inMm (sym (getD-take (s .args .t3 .count) (s .args .t3 .points) (l .i) origin t))) (a .ensures .0) (a .ensures .1),
+    )
 
 same-length : tie.Need-same-length Inv-loop μ-loop
 same-length c = let o = c .before in adding.same-size (o .before .before .before .before .pre .0) (o .loop .inv .2) (o .loop .inv .0)

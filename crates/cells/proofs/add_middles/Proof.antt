@@ -1,4 +1,4 @@
--- `cells::add_middles` meets its contract.
+-- `add_middles`, the loop's invariant: the middles of the edges passed are added, and `far` tells whether one of them is far.
 use mathlib.Core.Path.{_≡_, refl, sym, ap, _∙_, subst}
 use Prim.Native.Nat.{ℕ, suc, _-_, _≤_, _<_}
 use lib.ListN.{getD}
@@ -21,7 +21,8 @@ use Rattle.cells.proofs.add_middles.Statement.{statement}
 use Rattle.cells.proofs.add_middles.Tie as tie
 
 abbrev Inv-loop : tie.InvT-loop
-Inv-loop nodes₀ used n share near numbers xs vs marks list₀ at₀ far₀ i₀ nodes list at far i = (i ≤ n) × Adds nodes₀ used (middleAt share nodes₀ used vs marks n) i nodes at list × (far ≡ any (farAt share nodes₀ used vs marks n) i)
+Inv-loop nodes₀ used n share near numbers xs vs marks list₀ at₀ far₀ i₀ nodes list at far i =
+    (i ≤ n) × Adds nodes₀ used (middleAt share nodes₀ used vs marks n) i nodes at list × (far ≡ any (farAt share nodes₀ used vs marks n) i)
 
 abbrev μ-loop : tie.MeasureT-loop
 μ-loop nodes₀ used n share near numbers xs vs marks list₀ at₀ far₀ i₀ nodes list at far i = n - i
@@ -32,7 +33,8 @@ Mid c =
     let x = c .before .before .before .before .before .before in
     let a = x .before .before .before .before .before .before .args in
     let i = x .before .before .loop .i in
-    c .edge-middle .result ≡ middleOf (a .share) (getD (marksIn (a .t4) (a .n)) i Straight) (endAt (a .nodes .now) (a .used) (a .t3) (a .n) i) (endAt (a .nodes .now) (a .used) (a .t3) (a .n) (suc i))
+    c .edge-middle .result ≡ middleOf (a .share) (getD (marksIn (a .t4) (a .n)) i Straight) (endAt (a .nodes .now) (a .used) (a .t3) (a .n) i)
+    (endAt (a .nodes .now) (a .used) (a .t3) (a .n) (suc i))
 
 mid : (c : tie.After-edge-middle Inv-loop μ-loop) → Mid c
 mid c =
@@ -43,7 +45,8 @@ mid c =
     let t = x .before .loop-test .taken in
     let get : ℕ → Point = λ k. nodeAt (nodesIn (a .nodes .now) (a .used)) k in
     let j = ap (λ (k : ℕ). getD (a .t3) k 0) (x .next .ensures .0) ∙ turns.after (a .t3) (a .n) (l .i) t in
-    let p = c .before .before .before .before .node-at .ensures ∙ adding.read (l .inv .1) _ (s .pre .1 (l .i) t) ∙ ap get (turns.here (a .t3) (a .n) (l .i) t) in
+    let p =
+    c .before .before .before .before .node-at .ensures ∙ adding.read (l .inv .1) _ (s .pre .1 (l .i) t) ∙ ap get (turns.here (a .t3) (a .n) (l .i) t) in
     let q = c .before .before .node-at2 .ensures ∙ adding.read (l .inv .1) _ (s .pre .1 _ (x .next .ensures .1)) ∙ ap get j in
     c .edge-middle .ensures ∙ (λ i. middleOf (a .share) (turns.mark (a .t4) (a .n) (l .i) _ t refl i) (p i) (q i))
 
@@ -123,8 +126,11 @@ loop-again c =
     let m = mid (y .before .before .before) in
     let x = y .before .before .before .before .before .before .before .before .before in
     let s = x .before .before .before .before .before .before in
-    let l = x .before .before .loop in
-    (search needs, adding.next (l .inv .1) (few y) (ap (λ (m : Middle). m .at) m) (y .add-node .ensures .0) (y .add-node .ensures .1), any-next _ (l .i) (l .far) _ (l .inv .2) (ap (λ (m : Middle). m .far) m))
+    let l = x .before .before .loop in (
+      search needs,
+      adding.next (l .inv .1) (few y) (ap (λ (m : Middle). m .at) m) (y .add-node .ensures .0) (y .add-node .ensures .1),
+      any-next _ (l .i) (l .far) _ (l .inv .2) (ap (λ (m : Middle). m .far) m),
+    )
 
 same-length : tie.Need-same-length Inv-loop μ-loop
 same-length c = let o = c .before in adding.same-size (o .before .before .before .before .pre .0) (o .loop .inv .1) (o .loop .inv .0)
@@ -134,7 +140,8 @@ returns c =
     let a = c .before .before .before .before .before .args in
     let l = c .before .loop in
     let e : l .i ≡ a .n = omega arith in (
-      subst (λ (k : ℕ). Adds (a .nodes .now) (a .used) (middleAt (a .share) (a .nodes .now) (a .used) (a .t3) (a .t4) (a .n)) k (l .nodes) (l .at) (l .list)) e (l .inv .1),
+      subst (λ (k : ℕ). Adds (a .nodes .now) (a .used) (middleAt (a .share) (a .nodes .now) (a .used) (a .t3) (a .t4) (a .n)) k (l .nodes) (l .at) (l .list))
+          e (l .inv .1),
       l .inv .2 ∙ ap (any (farAt (a .share) (a .nodes .now) (a .used) (a .t3) (a .t4) (a .n))) e,
     )
 

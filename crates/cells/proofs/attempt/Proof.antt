@@ -8,7 +8,8 @@ use Rattle.cells.proofs.attempt.Statement.{statement}
 use Rattle.cells.proofs.attempt.Tie as tie
 
 add-corners-requires : tie.Need-add-corners-requires
-add-corners-requires c κs = let s = c .before .before .before .before .before .before .before .before in (one.add-corners (s .pre .0), s .pre .0 .sheet, s .pre .2)
+add-corners-requires c κs =
+    let s = c .before .before .before .before .before .before .before .before in (one.add-corners (s .pre .0), s .pre .0 .sheet, s .pre .2)
 
 add-middles-requires : tie.Need-add-middles-requires
 add-middles-requires c κs =
@@ -108,7 +109,9 @@ returns c =
     let k = m .before .before .before .before .before in
     let s = k .before .before .before .before .before .before .before .before .before in
     let e = z .add-node .ensures in
-    one.answer (s .pre .0) (k .add-corners .ensures) (m .add-middles .ensures .0) (q .mean .ensures) (e .0) (e .1) (s .args .cells .now) (s .args .sides) (s .args .rims .now) (m .add-middles .ensures .1) (c .first-failing .ensures) (c .before .before .before .before .before .before .before .before .put-cells .ensures)
+    one.answer (s .pre .0) (k .add-corners .ensures) (m .add-middles .ensures .0) (q .mean .ensures) (e .0) (e .1) (s .args .cells .now) (s .args .sides)
+    (s .args .rims .now) (m .add-middles .ensures .1) (c .first-failing .ensures)
+    (c .before .before .before .before .before .before .before .before .put-cells .ensures)
     (c .before .before .before .before .mark-rims .ensures (z .add-node .result .number))
 
 pub attempt-spec : {M : Type 1} → statement M

@@ -1,4 +1,4 @@
--- `cells::clear_rims` meets its contract.
+-- `clear_rims`, the loop's invariant: the places passed are cleared.
 use mathlib.Core.Path.{_≡_, refl, ap, _∙_}
 use Prim.Native.Nat.{ℕ, _+_, _-_, _≤_}
 use lib.ListN.{length}

@@ -1,4 +1,3 @@
--- `cells::mark_rims` meets its contract.
 use Rattle.cells.proofs.Marking.{marked}
 use borrow.Author.Needs.{needs}
 use native.Mathlib.Omega.{arith}

@@ -1,4 +1,4 @@
--- `cells::set_rims` meets its contract.
+-- `set_rims`, the loop's invariant: the rims stand as the first i numbers of the list set them.
 use mathlib.Core.Path.{_≡_, refl, ap, _∙_}
 use mathlib.Core.Logic.{⊎-elim}
 use Prim.Native.Nat.{ℕ, _+_, _-_, _≤_}
@@ -46,8 +46,11 @@ loop-less c = search needs
 
 loop-again : tie.Need-loop-again Inv-loop μ-loop
 loop-again c =
-    let l = c .before .before .loop in
-    (search needs, ⊎-elim (λ w. w .1 ∙ set-on _ _ _ (l .rims) (l .i) (l .inv .1) (w .0 .taken)) (λ w. w .1 ∙ set-off _ _ _ (l .rims) (l .i) (l .inv .1) (w .0 .left)) (c .if1 .came))
+    let l = c .before .before .loop in (
+      search needs,
+      ⊎-elim (λ w. w .1 ∙ set-on _ _ _ (l .rims) (l .i) (l .inv .1) (w .0 .taken)) (λ w. w .1 ∙ set-off _ _ _ (l .rims) (l .i) (l .inv .1) (w .0 .left))
+          (c .if1 .came),
+    )
 
 same-length : tie.Need-same-length Inv-loop μ-loop
 same-length c = long (c .before)

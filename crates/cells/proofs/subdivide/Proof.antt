@@ -6,7 +6,9 @@ use Rattle.cells.proofs.subdivide.Statement.{statement}
 use Rattle.cells.proofs.subdivide.Tie as tie
 
 attempt-requires : tie.Need-attempt-requires
-attempt-requires c κs = let s = c .before .before .before .before .before .before .before .before in (two.try-first (s .pre .0), s .pre .1, s .pre .2, two.rims-first (s .pre .0) _ (s .pre .3))
+attempt-requires c κs =
+    let s = c .before .before .before .before .before .before .before .before in
+    (two.try-first (s .pre .0), s .pre .1, s .pre .2, two.rims-first (s .pre .0) _ (s .pre .3))
 
 same-length : tie.Need-same-length
 same-length c = search needs
@@ -42,8 +44,13 @@ attempt-requires-2 : tie.Need-attempt-requires-2
 attempt-requires-2 c κs =
     let i = c .before .before .before .before in
     let x = i .before .before .before .before .before .before .before .before .before .before in
-    let s = x .before .before .before .before .before .before .before .before .before in
-    (two.try-second (s .pre .0) (s .args .cells .now) (s .args .sides) (s .args .rims .now) (x .attempt .ensures) (i .before .if1 .left) (i .if2 .left), omega (arith, s .pre .1, x .attempt .kept .1 .1 .1 .0), two.held-first (s .pre .0) (s .args .cells .now) (s .args .sides) (s .args .rims .now) (x .attempt .ensures) (s .pre .2), two.rims-second (s .pre .0) (s .args .cells .now) (s .args .sides) (s .args .rims .now) (x .attempt .ensures) (i .before .if1 .left) (i .if2 .left) (s .pre .3))
+    let s = x .before .before .before .before .before .before .before .before .before in (
+      two.try-second (s .pre .0) (s .args .cells .now) (s .args .sides) (s .args .rims .now) (x .attempt .ensures) (i .before .if1 .left) (i .if2 .left),
+      omega (arith, s .pre .1, x .attempt .kept .1 .1 .1 .0),
+      two.held-first (s .pre .0) (s .args .cells .now) (s .args .sides) (s .args .rims .now) (x .attempt .ensures) (s .pre .2),
+      two.rims-second (s .pre .0) (s .args .cells .now) (s .args .sides) (s .args .rims .now) (x .attempt .ensures) (i .before .if1 .left) (i .if2 .left)
+          (s .pre .3),
+    )
 
 same-length-7 : tie.Need-same-length-7
 same-length-7 c = search needs
@@ -60,7 +67,8 @@ returns-3 c =
     let i = y .before .before .before .before .before in
     let x = i .before .before .before .before .before .before .before .before .before .before in
     let s = x .before .before .before .before .before .before .before .before .before in
-    two.if-again (s .pre .0) (s .args .cells .now) (s .args .sides) (s .args .rims .now) (x .attempt .ensures) (i .before .if1 .left) (i .if2 .left) (y .attempt2 .ensures)
+    two.if-again (s .pre .0) (s .args .cells .now) (s .args .sides) (s .args .rims .now) (x .attempt .ensures) (i .before .if1 .left) (i .if2 .left)
+    (y .attempt2 .ensures)
 
 pub subdivide-spec : {M : Type 1} → statement M
 subdivide-spec =

@@ -23,7 +23,8 @@ use Rattle.chain.proofs.simplify_chain.Tie as tie
 
 abbrev Inv-loop : tie.InvT-loop
 Inv-loop chain n points₀ snaps₀ count₀ step arc previous₀ i₀ points snaps count previous i =
-    (1 ≤ i) × (i ≤ n) × (n ≡ chain .count) × OnSheetRing chain × (take n arc ≡ tab (Chain.arc (pointsOf chain)) n) × Collected (pointsOf chain) points snaps count previous i
+    (1 ≤ i) × (i ≤ n) × (n ≡ chain .count) × OnSheetRing chain × (take n arc ≡ tab (Chain.arc (pointsOf chain)) n)
+    × Collected (pointsOf chain) points snaps count previous i
     × (take n step ≡ tab (stepTo (pointsOf chain)) n)
 
 abbrev μ-loop : tie.MeasureT-loop

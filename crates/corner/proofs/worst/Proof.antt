@@ -18,7 +18,8 @@ use Rattle.corner.proofs.worst.Tie as tie
 
 abbrev Inv-loop : tie.InvT-loop
 Inv-loop part n at₀ most₀ i₀ at most i =
-    (1 ≤ i) × (i ≤ n) × (n ≡ part .count) × OnSheetRing part × (at < i) × (at ≡ Corners.worstTo (pointsOf part) (i - 1)) × (most ≡ Corners.measureAt (pointsOf part) at)
+    (1 ≤ i) × (i ≤ n) × (n ≡ part .count) × OnSheetRing part × (at < i) × (at ≡ Corners.worstTo (pointsOf part) (i - 1))
+    × (most ≡ Corners.measureAt (pointsOf part) at)
 
 abbrev μ-loop : tie.MeasureT-loop
 μ-loop part n at₀ most₀ i₀ at most i = n - i

@@ -36,7 +36,9 @@ point-in-polygon-requires c κs = search needs
 blocked-requires : tie.Need-blocked-requires
 blocked-requires c κs = search needs
 
-middle : (c : tie.After-lerp) → let s = c .before .before .before .before .before .args in c .lerp .result ≡ lerp (inMm (getD (s .t1 .points) 0 origin)) (inMm (getD (s .t1 .points) (s .k) origin)) (lit 5 1)
+middle : (c : tie.After-lerp) → let s =
+    c .before .before .before .before .before .args in c .lerp .result ≡ lerp (inMm (getD (s .t1 .points) 0 origin))
+    (inMm (getD (s .t1 .points) (s .k) origin)) (lit 5 1)
 unfolding lit ofBits round
 middle c =
     let x = c .before .before .before .new .ensures in
@@ -72,7 +74,8 @@ returns-3 c =
     let m = c .before .before in
     let s = m .before .before .before .before .before in
     let h = rings.room (s .args .t1) (s .pre .0) in
-    blocking.outside (s .args .t1 .points) (s .args .t1 .count) h (omega arith) (s .args .k) (omega arith) (m .lerp .result) (middle m) (sym (c .before .point-in-polygon .ensures) ∙ c .if1 .left)
+    blocking.outside (s .args .t1 .points) (s .args .t1 .count) h (omega arith) (s .args .k) (omega arith) (m .lerp .result) (middle m)
+    (sym (c .before .point-in-polygon .ensures) ∙ c .if1 .left)
 
 pub is-unobstructed-spec : {M : Type 1} → statement M
 is-unobstructed-spec =

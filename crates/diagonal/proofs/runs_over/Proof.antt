@@ -16,7 +16,8 @@ use Rattle.diagonal.proofs.runs_over.Statement.{statement}
 use Rattle.diagonal.proofs.runs_over.Tie as tie
 
 abbrev Inv-scan : tie.InvT-scan
-Inv-scan k part n o q found₀ j₀ found j = (j ≤ n) × (n ≡ part .count) × (k < n) × OnSheetRing part × (found ≡ false) × (any (runsOver (pointsOf part) k) j ≡ false)
+Inv-scan k part n o q found₀ j₀ found j =
+    (j ≤ n) × (n ≡ part .count) × (k < n) × OnSheetRing part × (found ≡ false) × (any (runsOver (pointsOf part) k) j ≡ false)
 
 abbrev μ-scan : tie.MeasureT-scan
 μ-scan k part n o q found₀ j₀ found j = n - j

@@ -1,4 +1,4 @@
--- `divide` keeps its promise: it is the call with the set on delivery. Assumes nothing.
+-- `divide`: it is the call with the set on delivery.
 use borrow.Author.Needs.{needs}
 use Rattle.divider.proofs.divide.Statement.{statement}
 use Rattle.divider.proofs.divide.Tie as tie
@@ -19,7 +19,9 @@ same-length-3 : tie.Need-same-length-3
 same-length-3 c = search needs
 
 returns : tie.Need-returns
-returns c = rw (← c .before .before .before .before .before .before .before .before .before .before .on-delivery .ensures) (c .before .before .before .before .before .before .divide-set .ensures)
+returns c =
+    rw (← c .before .before .before .before .before .before .before .before .before .before .on-delivery .ensures)
+    (c .before .before .before .before .before .before .divide-set .ensures)
 
 pub divide-spec : {M : Type 1} → statement M
 divide-spec =

@@ -13,14 +13,18 @@ returns : tie.Need-returns
 returns c =
     let a = c .before .before .before .before .before .before .args in
     let n = c .before .ring-refusal in
-    core-refused (a .limits) (a .own) (partIn (a .ring)) (a .nodes .now) (a .node-count) (a .rims .now) (a .cells .now) (a .cell-count) (n .result) (n .ensures) (c .if1 .taken)
+    core-refused (a .limits) (a .own) (partIn (a .ring)) (a .nodes .now) (a .node-count) (a .rims .now) (a .cells .now) (a .cell-count) (n .result)
+    (n .ensures) (c .if1 .taken)
 
 lay-out-requires : tie.Need-lay-out-requires
 lay-out-requires c κs =
     let s = c .before .before .before .before .before .before .before .before .before in
     let a = s .args in
-    let n = c .before .before .before .before .ring-refusal in
-    (s .pre, core-whole (a .limits) (a .own) (partIn (a .ring)) (a .nodes .now) (a .node-count) (a .rims .now) (a .cells .now) (a .cell-count) (n .result) (n .ensures) (c .before .before .before .if1 .left))
+    let n = c .before .before .before .before .ring-refusal in (
+      s .pre,
+      core-whole (a .limits) (a .own) (partIn (a .ring)) (a .nodes .now) (a .node-count) (a .rims .now) (a .cells .now) (a .cell-count) (n .result) (n .ensures)
+          (c .before .before .before .if1 .left),
+    )
 
 same-length : tie.Need-same-length
 same-length c = search needs
@@ -35,7 +39,9 @@ returns-2 : tie.Need-returns-2
 returns-2 c =
     let a = c .before .before .before .before .before .before .before .before .before .before .before .before .before .before .before .before .args in
     let n = c .before .before .before .before .before .before .before .before .before .before .before .ring-refusal in
-    core-laid (a .limits) (a .own) (partIn (a .ring)) (a .nodes .now) (a .node-count) (a .rims .now) (a .cells .now) (a .cell-count) (n .result) (n .ensures) (c .before .before .before .before .before .before .before .before .before .before .if1 .left) _ _ _ _ (c .before .before .before .before .before .before .lay-out .ensures)
+    core-laid (a .limits) (a .own) (partIn (a .ring)) (a .nodes .now) (a .node-count) (a .rims .now) (a .cells .now) (a .cell-count) (n .result) (n .ensures)
+    (c .before .before .before .before .before .before .before .before .before .before .if1 .left) _ _ _ _
+    (c .before .before .before .before .before .before .lay-out .ensures)
 
 pub divide-core-spec : {M : Type 1} → statement M
 divide-core-spec =

@@ -1,4 +1,4 @@
--- `divide_set` keeps its promise: it is the call with the set that came, its cells written where they were lent. Assumes nothing.
+-- `divide_set`: it is the call with the set that came, its cells written where they were lent.
 use borrow.Author.Needs.{needs}
 use Rattle.call.specs.Lent.{allCells, Lent}
 use Rattle.divider.proofs.Calling.{own-promise, cell-places}
@@ -20,7 +20,17 @@ same-length-3 c = search needs
 returns : tie.Need-returns
 returns c =
     let a = c .before .before .before .before .before .before .before .before .before .before .before .before .before .args in
-    let l : Lent = record { ring = a .ring .now; chain = a .chain .now; size = a .size; nodes = a .nodes .now; nodeCount = a .node-count; rims = a .rims .now; cells = a .cells .now; cellCount = a .cell-count } in
+    let l : Lent =
+    record {
+      ring = a .ring .now;
+      chain = a .chain .now;
+      size = a .size;
+      nodes = a .nodes .now;
+      nodeCount = a .node-count;
+      rims = a .rims .now;
+      cells = a .cells .now;
+      cellCount = a .cell-count;
+    } in
     own-promise (a .limits) l _ _ _ _ (c .before .before .before .before .before .before .divide-with .ensures (allCells (l .cells)) (cell-places (l .cells)))
 
 pub divide-set-spec : {M : Type 1} → statement M

@@ -1,4 +1,4 @@
--- `failed` meets its contract: what is told of a piece that failed is handed on. Assumes nothing.
+-- `failed`: what is told of a piece that failed is handed on.
 use mathlib.Core.Path.{sym, ap}
 use borrow.Author.Needs.{needs}
 use Rattle.pieces.specs.declared.Subdivision.{Subdivision}

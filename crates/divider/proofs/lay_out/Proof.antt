@@ -27,14 +27,17 @@ use Rattle.divider.proofs.lay_out.Statement.{statement}
 use Rattle.divider.proofs.lay_out.Tie as tie
 
 -- what was asked: the ring can be divided
-sought : (s : tie.Start) → let a = s .args in Divisible (a .limits) (a .own) (partIn (a .ring)) (listsIn (a .nodes .now) (a .node-count) (a .rims .now) (a .cells .now) (a .cell-count))
+sought : (s : tie.Start) → let a =
+    s .args in Divisible (a .limits) (a .own) (partIn (a .ring)) (listsIn (a .nodes .now) (a .node-count) (a .rims .now) (a .cells .now) (a .cell-count))
 sought s = record { prepared = s .pre .0 .prepared; whole = s .pre .1 }
 
 cell-reserve-requires : tie.Need-cell-reserve-requires
 cell-reserve-requires c κs =
     let s = c .before .before .before .before in
-    let a = s .args in
-    (three (a .limits) (a .own) (a .ring) (a .nodes .now) (a .node-count) (a .rims .now) (a .cells .now) (a .cell-count) (sought s) .1, s .pre .0 .prepared .few)
+    let a = s .args in (
+      three (a .limits) (a .own) (a .ring) (a .nodes .now) (a .node-count) (a .rims .now) (a .cells .now) (a .cell-count) (sought s) .1,
+      s .pre .0 .prepared .few,
+    )
 
 split-bad-vertices-requires : tie.Need-split-bad-vertices-requires
 split-bad-vertices-requires c κs =
@@ -50,7 +53,8 @@ subdivide-all-requires c κs =
     let r = c .before .before .before .before .before .cell-reserve in
     let t = c .before .before .before .before .split-bad-vertices in
     let w = t .ensures .0 (marksOf (a .ring .edges)) (marks-length (a .ring .edges) (s .pre .0 .held .marks)) in (
-      can-subdivide (a .limits) (a .own) (a .ring) (a .nodes .now) (a .node-count) (a .rims .now) (a .cells .now) (a .cell-count) (sought s) (t .result) w (r .result) (r .ensures) (s .pre .0 .held .ring .points) (t .ensures .1),
+      can-subdivide (a .limits) (a .own) (a .ring) (a .nodes .now) (a .node-count) (a .rims .now) (a .cells .now) (a .cell-count) (sought s) (t .result) w
+          (r .result) (r .ensures) (s .pre .0 .held .ring .points) (t .ensures .1),
       mark-room-in (a .limits) (a .own) (a .ring) (a .nodes .now) (a .node-count) (a .rims .now) (a .cells .now) (a .cell-count) (sought s) (t .result) w,
     )
 
@@ -74,7 +78,9 @@ same-length-3 c = search needs
 
 returns : tie.Need-returns
 returns c =
-    let s = c .before .before .before .before .before .before .before .before .before .before .before .before .before .before .before .before .before .before .before .before in
+    let s =
+    c .before .before .before .before .before .before .before .before .before .before .before .before .before .before .before .before .before .before .before
+    .before in
     let a = s .args in
     let r = c .before .before .before .before .before .before .before .before .before .before .before .before .before .before .before .cell-reserve in
     let t = c .before .before .before .before .before .before .before .before .before .before .before .before .before .before .split-bad-vertices in
@@ -82,32 +88,45 @@ returns c =
     let d = c .before .before .before .before .before .before .before .before .before .subdivide-all in
     let x = listsIn (a .nodes .now) (a .node-count) (a .rims .now) (a .cells .now) (a .cell-count) in
     let o = outcome-is (a .limits) (a .own) (a .ring) (a .nodes .now) (a .node-count) (a .rims .now) (a .cells .now) (a .cell-count) (sought s) (t .result) w in
-    let g = rims-are (a .limits) (a .own) (a .ring) (a .nodes .now) (a .node-count) (a .rims .now) (a .cells .now) (a .cell-count) (sought s) (t .result) w (s .pre .0 .held .marks) (t .ensures .0 everyMark every-length) in
+    let g =
+    rims-are (a .limits) (a .own) (a .ring) (a .nodes .now) (a .node-count) (a .rims .now) (a .cells .now) (a .cell-count) (sought s) (t .result) w
+    (s .pre .0 .held .marks) (t .ensures .0 everyMark every-length) in
     let y = if-failed (outcomeOf (a .limits) (partIn (a .ring)) x) (sym (ap row (c .before .enum-told .given .1)) ∙ d .ensures .0 ∙ ap rowOf o) in
     let v = c .failed .ensures ∙ ap (λ (s : Subdivision). failedAnswer s (a .cell-count)) (c .before .enum-told .given .1) in
     rw (ap values v)
-    (moved (d .ensures .1 ∙ ap (λ (o : Outcome). over (a .nodes .now) (nodesOf o)) o) (d .ensures .3 ∙ g) (d .ensures .2 ∙ ap (λ (o : Outcome). overFrom (a .cells .now) (a .cell-count) (cellsLeft (r .result) o)) o)
-    (laid-failed (a .limits) (a .own) (a .ring) (a .nodes .now) (a .node-count) (a .rims .now) (a .cells .now) (a .cell-count) (sought s) (r .result) _ _ _ y (r .ensures)))
+    (moved (d .ensures .1 ∙ ap (λ (o : Outcome). over (a .nodes .now) (nodesOf o)) o) (d .ensures .3 ∙ g)
+    (d .ensures .2 ∙ ap (λ (o : Outcome). overFrom (a .cells .now) (a .cell-count) (cellsLeft (r .result) o)) o)
+    (laid-failed (a .limits) (a .own) (a .ring) (a .nodes .now) (a .node-count) (a .rims .now) (a .cells .now) (a .cell-count) (sought s) (r .result) _ _ _ y
+    (r .ensures)))
 
 mark-count-requires : tie.Need-mark-count-requires
-mark-count-requires c κs = c .before .before .before .before .before .before .before .before .before .before .before .before .before .before .before .before .before .before .before .before .pre .0 .held
+mark-count-requires c κs =
+    c .before .before .before .before .before .before .before .before .before .before .before .before .before .before .before .before .before .before .before
+    .before .pre .0 .held
 
 polygon-area-requires : tie.Need-polygon-area-requires
-polygon-area-requires c κs = c .before .before .before .before .before .before .before .before .before .before .before .before .before .before .before .before .before .before .before .before .before .pre .0 .held .ring
+polygon-area-requires c κs =
+    c .before .before .before .before .before .before .before .before .before .before .before .before .before .before .before .before .before .before .before
+    .before .before .pre .0 .held .ring
 
 magnitude-requires : tie.Need-magnitude-requires
 magnitude-requires c κs = small64 (c .polygon-area .result) (2 ^ 55) (omega arith) (omega (arith, c .polygon-area .ensures .1))
 
 add-t27 : tie.Need-add-t27
 add-t27 c =
-    let s = c .before .before .before .before .before .before .before .before .before .before .before .before .before .before .before .before .before .before .before .before .before .before .before in
+    let s =
+    c .before .before .before .before .before .before .before .before .before .before .before .before .before .before .before .before .before .before .before
+    .before .before .before .before in
     let a = s .args in
-    let t = c .before .before .before .before .before .before .before .before .before .before .before .before .before .before .before .before .before .split-bad-vertices in
+    let t =
+    c .before .before .before .before .before .before .before .before .before .before .before .before .before .before .before .before .before
+    .split-bad-vertices in
     let w = t .ensures .0 (marksOf (a .ring .edges)) (marks-length (a .ring .edges) (s .pre .0 .held .marks)) in
     let d = c .before .before .before .before .before .before .before .before .before .before .before .before .subdivide-all in
     let x = listsIn (a .nodes .now) (a .node-count) (a .rims .now) (a .cells .now) (a .cell-count) in
     let o = outcome-is (a .limits) (a .own) (a .ring) (a .nodes .now) (a .node-count) (a .rims .now) (a .cells .now) (a .cell-count) (sought s) (t .result) w in
-    let y = if-done (outcomeOf (a .limits) (partIn (a .ring)) x) (sym (ap row (c .before .before .before .before .laid .given .1)) ∙ d .ensures .0 ∙ ap rowOf o) in
+    let y =
+    if-done (outcomeOf (a .limits) (partIn (a .ring)) x) (sym (ap row (c .before .before .before .before .laid .given .1)) ∙ d .ensures .0 ∙ ap rowOf o) in
     let h = cell-room (a .limits) (a .own) (a .ring) (a .nodes .now) (a .node-count) (a .rims .now) (a .cells .now) (a .cell-count) (sought s) _ _ y in
     omega (arith, s .good .1 .1 .1 .1 .1 .1 .0)
 
@@ -122,25 +141,37 @@ same-length-6 c = search needs
 
 returns-2 : tie.Need-returns-2
 returns-2 c =
-    let s = c .before .before .before .before .before .before .before .before .before .before .before .before .before .before .before .before .before .before .before .before .before .before .before in
+    let s =
+    c .before .before .before .before .before .before .before .before .before .before .before .before .before .before .before .before .before .before .before
+    .before .before .before .before in
     let a = s .args in
-    let r = c .before .before .before .before .before .before .before .before .before .before .before .before .before .before .before .before .before .before .cell-reserve in
-    let t = c .before .before .before .before .before .before .before .before .before .before .before .before .before .before .before .before .before .split-bad-vertices in
+    let r =
+    c .before .before .before .before .before .before .before .before .before .before .before .before .before .before .before .before .before .before
+    .cell-reserve in
+    let t =
+    c .before .before .before .before .before .before .before .before .before .before .before .before .before .before .before .before .before
+    .split-bad-vertices in
     let w = t .ensures .0 (marksOf (a .ring .edges)) (marks-length (a .ring .edges) (s .pre .0 .held .marks)) in
     let d = c .before .before .before .before .before .before .before .before .before .before .before .before .subdivide-all in
     let x = listsIn (a .nodes .now) (a .node-count) (a .rims .now) (a .cells .now) (a .cell-count) in
     let o = outcome-is (a .limits) (a .own) (a .ring) (a .nodes .now) (a .node-count) (a .rims .now) (a .cells .now) (a .cell-count) (sought s) (t .result) w in
-    let g = rims-are (a .limits) (a .own) (a .ring) (a .nodes .now) (a .node-count) (a .rims .now) (a .cells .now) (a .cell-count) (sought s) (t .result) w (s .pre .0 .held .marks) (t .ensures .0 everyMark every-length) in
-    let y = if-done (outcomeOf (a .limits) (partIn (a .ring)) x) (sym (ap row (c .before .before .before .before .laid .given .1)) ∙ d .ensures .0 ∙ ap rowOf o) in
+    let g =
+    rims-are (a .limits) (a .own) (a .ring) (a .nodes .now) (a .node-count) (a .rims .now) (a .cells .now) (a .cell-count) (sought s) (t .result) w
+    (s .pre .0 .held .marks) (t .ensures .0 everyMark every-length) in
+    let y =
+    if-done (outcomeOf (a .limits) (partIn (a .ring)) x) (sym (ap row (c .before .before .before .before .laid .given .1)) ∙ d .ensures .0 ∙ ap rowOf o) in
     let z = shown (a .limits) (a .own) (a .ring) (a .nodes .now) (a .node-count) (a .rims .now) (a .cells .now) (a .cell-count) (sought s) (t .result) w in
-    moved (d .ensures .1 ∙ ap (λ (o : Outcome). over (a .nodes .now) (nodesOf o)) o) (d .ensures .3 ∙ g) (d .ensures .2 ∙ ap (λ (o : Outcome). overFrom (a .cells .now) (a .cell-count) (cellsLeft (r .result) o)) o)
-    (laid-done (a .limits) (a .own) (a .ring) (a .nodes .now) (a .node-count) (a .rims .now) (a .cells .now) (a .cell-count) (sought s) (r .result) _ _ _ _ _ _ _ _ y
+    moved (d .ensures .1 ∙ ap (λ (o : Outcome). over (a .nodes .now) (nodesOf o)) o) (d .ensures .3 ∙ g)
+    (d .ensures .2 ∙ ap (λ (o : Outcome). overFrom (a .cells .now) (a .cell-count) (cellsLeft (r .result) o)) o)
+    (laid-done (a .limits) (a .own) (a .ring) (a .nodes .now) (a .node-count) (a .rims .now) (a .cells .now) (a .cell-count) (sought s) (r .result) _ _ _ _ _
+    _ _ _ y
     (sym (length-take-le (a .ring .ring .count) (a .ring .ring .points) (room (a .ring .ring) (s .pre .0 .held .ring))))
     (c .before .before .mark-count .ensures .0)
     (z .cuts)
     (count-is (a .limits) (a .own) (a .ring) (a .nodes .now) (a .node-count) (a .rims .now) (a .cells .now) (a .cell-count) (sought s) (t .result) w)
     (z .turned)
-    (area-size (c .magnitude .result) (c .before .polygon-area .result) _ (c .magnitude .ensures) (c .before .polygon-area .ensures .0) (c .before .polygon-area .ensures .1)))
+    (area-size (c .magnitude .result) (c .before .polygon-area .result) _ (c .magnitude .ensures) (c .before .polygon-area .ensures .0)
+    (c .before .polygon-area .ensures .1)))
 
 pub lay-out-spec : {M : Type 1} → statement M
 lay-out-spec =

@@ -27,7 +27,8 @@ returns c =
     let q = c .before .before .points2 in
     let s = c .before .simplify-chain in
     let x = c .mark-edges in
-    prepares (a .ring .now) (a .chain .now) (a .size) (p .result) (q .result) (read (a .ring .now) (p .result) (p .ensures .0)) (read (a .chain .now) (q .result) (q .ensures .0)) (g .result) (g .ensures) (s .result) (s .ensures) (x .result) (x .ensures)
+    prepares (a .ring .now) (a .chain .now) (a .size) (p .result) (q .result) (read (a .ring .now) (p .result) (p .ensures .0))
+    (read (a .chain .now) (q .result) (q .ensures .0)) (g .result) (g .ensures) (s .result) (s .ensures) (x .result) (x .ensures)
 
 pub prepared-spec : {M : Type 1} → statement M
 prepared-spec =

@@ -20,7 +20,8 @@ polygon-simple-requires c κs = search needs
 returns-2 : tie.Need-returns-2
 returns-2 c =
     let a = c .before .before .before .before .args in
-    not-simple (pointsOf (a .ring)) (rw (length-take-le (a .ring .count) (a .ring .points) (search needs)) (c .before .before .if1 .left)) (sym (c .before .polygon-simple .ensures) ∙ no (c .before .polygon-simple .result) (c .if2 .taken))
+    not-simple (pointsOf (a .ring)) (rw (length-take-le (a .ring .count) (a .ring .points) (search needs)) (c .before .before .if1 .left))
+    (sym (c .before .polygon-simple .ensures) ∙ no (c .before .polygon-simple .result) (c .if2 .taken))
 
 polygon-area-requires : tie.Need-polygon-area-requires
 polygon-area-requires c κs = search needs

@@ -1,4 +1,3 @@
--- `came_to` meets its contract.
 use mathlib.Core.Path.{sym, ap, _∙_}
 use lib.IntN.{ℤ, pos}
 use lib.Signed.{ltZ}
@@ -24,7 +23,8 @@ returns-2 : tie.Need-returns-2
 returns-2 c =
     let s = c .before .before .before in
     let e = toZ-ofZ w64 (s .args .got) (s .fits .got) in
-    c .count .ensures .1 ∙ ap (λ (z : ℤ). clamped z (length (s .args .byte .now))) e ∙ read-some (s .args .got) _ (ap (λ (z : ℤ). ltZ z (pos 0)) (sym e) ∙ c .before .if1 .left)
+    c .count .ensures .1 ∙ ap (λ (z : ℤ). clamped z (length (s .args .byte .now))) e
+    ∙ read-some (s .args .got) _ (ap (λ (z : ℤ). ltZ z (pos 0)) (sym e) ∙ c .before .if1 .left)
 
 pub came-to-spec : {M : Type 1} → statement M
 came-to-spec = tie.close (tie.spec returns count-requires returns-2)

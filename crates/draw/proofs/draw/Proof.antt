@@ -1,4 +1,4 @@
--- `draw` meets its contract. The loop's invariant: the state and the lists are those of the bytes read so far, and their blocks are written.
+-- `draw`. The loop's invariant: the state and the lists are those of the bytes read so far, and their blocks are written.
 use Rattle.draw.proofs.Reaching.{begun-so, turned, sendable, ends-wrong, nearer, falls, not-both}
 use Rattle.draw.specs.Reached.{Reached}
 use borrow.Author.Tests.{eqb-true, eqb-false}
@@ -49,7 +49,12 @@ slice-aggregate-finish-4 : tie.Need-slice-aggregate-finish-4 Inv-loop μ-loop
 slice-aggregate-finish-4 c = sym (c .before .before .before .before .before .before .before .before .before .before .before .loop .inv .0 .kept .fine .out-long)
 
 finish-requires : tie.Need-finish-requires Inv-loop μ-loop
-finish-requires c κs = (c .before .before .before .before .before .before .before .before .before .before .before .loop .inv .0, eqb-true (c .before .before .before .before .before .before .before .before .before .before .before .loop .s .draft .wrong) 0 (sym (c .before .before .before .before .before .before .before .before .before .before .goes-on .ensures) ∙ c .before .before .before .before .before .before .before .before .before .if1 .taken))
+finish-requires c κs = (
+  c .before .before .before .before .before .before .before .before .before .before .before .loop .inv .0,
+  eqb-true (c .before .before .before .before .before .before .before .before .before .before .before .loop .s .draft .wrong) 0
+      (sym (c .before .before .before .before .before .before .before .before .before .before .goes-on .ensures) ∙ c .before .before .before .before .before
+      .before .before .before .before .if1 .taken),
+)
 
 returns-2 : tie.Need-returns-2 Inv-loop μ-loop
 returns-2 c = c .before .before .before .before .finish .ensures
@@ -76,7 +81,17 @@ slice-aggregate-send : tie.Need-slice-aggregate-send Inv-loop μ-loop
 slice-aggregate-send c = sym (c .before .before .before .before .before .feed .ensures .kept .fine .out-long)
 
 send-requires : tie.Need-send-requires Inv-loop μ-loop
-send-requires c κs = sendable (c .before .before .before .before .before .before .before .before .before .before .before .before .before .before .before .before .before .loop .inv .0) _ (eqb-true (c .before .before .before .before .before .before .before .before .before .before .before .before .before .before .before .before .before .loop .s .draft .wrong) 0 (sym (c .before .before .before .before .before .before .before .before .before .before .before .before .before .before .before .before .goes-on .ensures) ∙ c .before .before .before .before .before .before .before .before .before .before .before .before .before .before .before .if1 .taken)) (c .before .before .before .before .before .feed .ensures)
+send-requires c κs =
+    sendable
+    (c .before .before .before .before .before .before .before .before .before .before .before .before .before .before .before .before .before .loop .inv .0)
+    _
+    (eqb-true
+    (c .before .before .before .before .before .before .before .before .before .before .before .before .before .before .before .before .before .loop .s .draft
+    .wrong)
+    0
+    (sym (c .before .before .before .before .before .before .before .before .before .before .before .before .before .before .before .before .goes-on .ensures)
+    ∙ c .before .before .before .before .before .before .before .before .before .before .before .before .before .before .before .if1 .taken))
+    (c .before .before .before .before .before .feed .ensures)
 
 cut-short-requires-2 : tie.Need-cut-short-requires-2 Inv-loop μ-loop
 cut-short-requires-2 c κs = search needs
@@ -85,16 +100,40 @@ returns-3 : tie.Need-returns-3 Inv-loop μ-loop
 returns-3 c = λ e. not-both (c .cut-short2 .result .failed) (c .cut-short2 .ensures) e
 
 loop-less : tie.Need-loop-less Inv-loop μ-loop
-loop-less c = falls _ (eqb-true (c .before .before .before .before .before .before .before .before .before .before .before .before .before .before .before .before .before .before .before .loop .s .draft .wrong) 0 (sym (c .before .before .before .before .before .before .before .before .before .before .before .before .before .before .before .before .before .before .goes-on .ensures) ∙ c .before .before .before .before .before .before .before .before .before .before .before .before .before .before .before .before .before .if1 .taken)) (c .before .before .before .before .before .before .before .feed .ensures)
+loop-less c =
+    falls _
+    (eqb-true
+    (c .before .before .before .before .before .before .before .before .before .before .before .before .before .before .before .before .before .before .before
+    .loop .s .draft .wrong)
+    0
+    (sym
+    (c .before .before .before .before .before .before .before .before .before .before .before .before .before .before .before .before .before .before .goes-on
+    .ensures)
+    ∙ c .before .before .before .before .before .before .before .before .before .before .before .before .before .before .before .before .before .if1 .taken))
+    (c .before .before .before .before .before .before .before .feed .ensures)
 
 loop-again : tie.Need-loop-again Inv-loop μ-loop
-loop-again c = (turned (c .before .before .before .before .before .before .before .before .before .before .before .before .before .before .before .before .before .before .before .loop .inv .0) _ (eqb-true (c .before .before .before .before .before .before .before .before .before .before .before .before .before .before .before .before .before .before .before .loop .s .draft .wrong) 0 (sym (c .before .before .before .before .before .before .before .before .before .before .before .before .before .before .before .before .before .before .goes-on .ensures) ∙ c .before .before .before .before .before .before .before .before .before .before .before .before .before .before .before .before .before .if1 .taken)) (c .before .before .before .before .before .before .before .feed .ensures) (c .before .send .result .bytes) (c .before .send .ensures (c .if4 .left)), c .before .before .before .before .before .before .before .before .before .before .before .before .before .before .before .read-byte .kept .0 ∙ c .before .before .before .before .before .before .before .before .before .before .before .before .before .before .before .before .before .before .before .loop .inv .1)
+loop-again c = (
+  turned (c .before .before .before .before .before .before .before .before .before .before .before .before .before .before .before .before .before .before
+      .before .loop .inv .0) _ (eqb-true (c .before .before .before .before .before .before .before .before .before .before .before .before .before .before
+      .before .before .before .before .before .loop .s .draft .wrong) 0
+      (sym (c .before .before .before .before .before .before .before .before .before .before .before .before .before .before .before .before .before .before
+      .goes-on .ensures) ∙ c .before .before .before .before .before .before .before .before .before .before .before .before .before .before .before .before
+      .before .if1 .taken)) (c .before .before .before .before .before .before .before .feed .ensures) (c .before .send .result .bytes)
+      (c .before .send .ensures (c .if4 .left)),
+  c .before .before .before .before .before .before .before .before .before .before .before .before .before .before .before .read-byte .kept .0 ∙ c .before
+      .before .before .before .before .before .before .before .before .before .before .before .before .before .before .before .before .before .before .loop .inv
+      .1,
+)
 
 end-of-requires : tie.Need-end-of-requires Inv-loop μ-loop
 end-of-requires c κs = search needs
 
 returns-4 : tie.Need-returns-4 Inv-loop μ-loop
-returns-4 c = λ _. ends-wrong (c .before .before .before .loop .inv .0) (eqb-false (c .before .before .before .loop .s .draft .wrong) 0 (sym (c .before .before .goes-on .ensures) ∙ c .before .if1 .left)) (c .end-of .result) (c .end-of .ensures)
+returns-4 c =
+    λ _. ends-wrong (c .before .before .before .loop .inv .0)
+    (eqb-false (c .before .before .before .loop .s .draft .wrong) 0 (sym (c .before .before .goes-on .ensures) ∙ c .before .if1 .left)) (c .end-of .result)
+    (c .end-of .ensures)
 
 pub draw-spec : {M : Type 1} → statement M
 draw-spec =

@@ -1,4 +1,3 @@
--- `end_of` meets its contract.
 use Rattle.draw.specs.Reached.{ending}
 use borrow.Author.Tests.{lt-ltb, le-ltb}
 use borrow.Author.Needs.{needs}

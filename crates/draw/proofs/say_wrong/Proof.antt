@@ -1,4 +1,4 @@
--- `say_wrong` meets its contract: each arm has the words of its number.
+-- `say_wrong`: each arm has the words of its number.
 use mathlib.Core.Path.{refl}
 use Rattle.text.specs.Text.{bytes}
 use Rattle.draw.specs.Said.{said}
@@ -97,7 +97,11 @@ slice-aggregate-say-13 c = search needs
 
 say-requires-13 : tie.Need-say-requires-13
 unfolding bytes
-say-requires-13 c κs = let r = c .before .match .rest in other-words _ (r .0 .0 .0 .0 .0 .0 .0 .0 .0 .0 .0 .1) (r .0 .0 .0 .0 .0 .0 .0 .0 .0 .0 .1) (r .0 .0 .0 .0 .0 .0 .0 .0 .0 .1) (r .0 .0 .0 .0 .0 .0 .0 .0 .1) (r .0 .0 .0 .0 .0 .0 .0 .1) (r .0 .0 .0 .0 .0 .0 .1) (r .0 .0 .0 .0 .0 .1) (r .0 .0 .0 .0 .1) (r .0 .0 .0 .1) (r .0 .0 .1) (r .0 .1) (r .1)
+say-requires-13 c κs =
+    let r = c .before .match .rest in
+    other-words _ (r .0 .0 .0 .0 .0 .0 .0 .0 .0 .0 .0 .1) (r .0 .0 .0 .0 .0 .0 .0 .0 .0 .0 .1) (r .0 .0 .0 .0 .0 .0 .0 .0 .0 .1)
+    (r .0 .0 .0 .0 .0 .0 .0 .0 .1) (r .0 .0 .0 .0 .0 .0 .0 .1) (r .0 .0 .0 .0 .0 .0 .1) (r .0 .0 .0 .0 .0 .1) (r .0 .0 .0 .0 .1) (r .0 .0 .0 .1) (r .0 .0 .1)
+    (r .0 .1) (r .1)
 
 returns : tie.Need-returns
 returns c = search needs

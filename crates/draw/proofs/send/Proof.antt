@@ -1,4 +1,3 @@
--- `send` meets its contract.
 use mathlib.Core.Bool.{true}
 use Rattle.draw.proofs.Reaching.{not-both}
 use borrow.Author.Tests.{not-true, not-false}

@@ -1,4 +1,4 @@
--- `any_mark_out` meets its contract.
+-- `any_mark_out`, the loop's invariant: `found` tells whether one of the places passed is over 1.
 use Prim.Native.Nat.{_-_, _≤_}
 use native.Mathlib.Omega.{arith}
 use mathlib.Core.Path.{_≡_, refl}

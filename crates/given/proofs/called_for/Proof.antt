@@ -1,4 +1,4 @@
--- `called_for` meets its contract.
+-- `called_for`, the loop's invariant: no kind passed calls.
 use borrow.Author.Needs.{needs}
 use native.Mathlib.Omega.{arith}
 use Prim.Native.Nat.{_-_, _≤_}
@@ -36,7 +36,12 @@ loop-less : tie.Need-loop-less Inv-loop μ-loop
 loop-less c = search needs
 
 loop-again : tie.Need-loop-again Inv-loop μ-loop
-loop-again c = (search needs, search needs, any-pass (calls (c .before .before .before .before .args .kinds .now)) (c .before .before .before .loop .i) (c .before .before .before .loop .inv .2) (ne-eqb _ _ (c .if1 .left)))
+loop-again c = (
+  search needs,
+  search needs,
+  any-pass (calls (c .before .before .before .before .args .kinds .now)) (c .before .before .before .loop .i) (c .before .before .before .loop .inv .2)
+      (ne-eqb _ _ (c .if1 .left)),
+)
 
 returns-2 : tie.Need-returns-2 Inv-loop μ-loop
 unfolding calledFor

@@ -19,10 +19,14 @@ points-requires : tie.Need-points-requires
 points-requires c κs = outline-asks _ _ _ (c .before .before .before .before .pre) (sym (c .before .called-for .ensures) ∙ is-true _ (c .if1 .left))
 
 loop-counts-requires : tie.Need-loop-counts-requires
-loop-counts-requires c κs = let k = c .before .before in few-loops _ _ _ (k .before .before .before .before .pre) (sym (k .before .called-for .ensures) ∙ is-true _ (k .if1 .left))
+loop-counts-requires c κs =
+    let k = c .before .before in few-loops _ _ _ (k .before .before .before .before .pre) (sym (k .before .called-for .ensures) ∙ is-true _ (k .if1 .left))
 
 returns-2 : tie.Need-returns-2
-returns-2 c = let k = c .before .before .before in held _ _ _ (k .before .before .before .before .pre) (sym (k .before .called-for .ensures) ∙ is-true _ (k .if1 .left)) _ _ (ap (λ (r : Ring). r .points) (c .before .before .points .ensures .0)) (c .loop-counts .ensures)
+returns-2 c =
+    let k = c .before .before .before in
+    held _ _ _ (k .before .before .before .before .pre) (sym (k .before .called-for .ensures) ∙ is-true _ (k .if1 .left)) _ _
+    (ap (λ (r : Ring). r .points) (c .before .before .points .ensures .0)) (c .loop-counts .ensures)
 
 pub lead-line-spec : {M : Type 1} → statement M
 lead-line-spec =

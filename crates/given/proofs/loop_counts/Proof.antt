@@ -1,4 +1,4 @@
--- `loop_counts` meets its contract.
+-- `loop_counts`, the loop's invariant: the counts passed are those of the loops.
 use borrow.Author.Needs.{needs}
 use native.Mathlib.Omega.{arith}
 use Prim.Native.Nat.{_-_, _≤_}
@@ -11,7 +11,8 @@ use Rattle.given.proofs.loop_counts.Statement.{statement}
 use Rattle.given.proofs.loop_counts.Tie as tie
 
 abbrev Inv-loop : tie.InvT-loop
-Inv-loop loops out₀ i₀ i-end out i = (i ≤ length loops) × (i-end ≡ length loops) × (length loops ≤ 20) × (length out ≡ 20) × (take i out ≡ tab (λ k. getD loops k 0) i)
+Inv-loop loops out₀ i₀ i-end out i =
+    (i ≤ length loops) × (i-end ≡ length loops) × (length loops ≤ 20) × (length out ≡ 20) × (take i out ≡ tab (λ k. getD loops k 0) i)
 
 abbrev μ-loop : tie.MeasureT-loop
 μ-loop loops out₀ i₀ i-end out i = length loops - i

@@ -1,4 +1,4 @@
--- `loops_out` meets its contract. The loop keeps the sum of the loops passed, none of which is short.
+-- `loops_out`. The loop keeps the sum of the loops passed, none of which is short.
 use borrow.Author.Needs.{needs}
 use native.Mathlib.Omega.{arith}
 use Prim.Native.Nat.{_+_, _-_, _≤_}
@@ -14,7 +14,8 @@ use Rattle.given.proofs.loops_out.Statement.{statement}
 use Rattle.given.proofs.loops_out.Tie as tie
 
 abbrev Inv-loop : tie.InvT-loop
-Inv-loop loops n sum₀ i₀ i-end sum i = (i ≤ length loops) × (i-end ≡ length loops) × (n ≤ 60) × (sum ≤ 60) × (any (short loops) i ≡ false) × (sum ≡ total (take i loops))
+Inv-loop loops n sum₀ i₀ i-end sum i =
+    (i ≤ length loops) × (i-end ≡ length loops) × (n ≤ 60) × (sum ≤ 60) × (any (short loops) i ≡ false) × (sum ≡ total (take i loops))
 
 abbrev μ-loop : tie.MeasureT-loop
 μ-loop loops n sum₀ i₀ i-end sum i = length loops - i
@@ -53,8 +54,14 @@ loop-less c = search needs
 loop-again : tie.Need-loop-again Inv-loop μ-loop
 loop-again c =
     let l = c .before .before .before .before in
-    let ms = l .before .args .loops .now in
-    (search needs, search needs, search needs, search needs, any-pass (short ms) (l .loop .i) (l .loop .inv .4) (le-ltb _ _ (c .before .if1 .left)), sum-next ms (l .before .args .n) (l .loop .i) (l .loop .total) (search needs) (l .loop .inv .5))
+    let ms = l .before .args .loops .now in (
+      search needs,
+      search needs,
+      search needs,
+      search needs,
+      any-pass (short ms) (l .loop .i) (l .loop .inv .4) (le-ltb _ _ (c .before .if1 .left)),
+      sum-next ms (l .before .args .n) (l .loop .i) (l .loop .total) (search needs) (l .loop .inv .5),
+    )
 
 returns-3 : tie.Need-returns-3 Inv-loop μ-loop
 returns-3 c =

@@ -1,4 +1,3 @@
--- `mark_out` meets its contract.
 use native.Mathlib.Omega.{arith}
 use borrow.Author.Needs.{needs}
 use mathlib.Core.Path.{sym, ap, _∙_}
@@ -26,7 +25,8 @@ returns-3 : tie.Need-returns-3
 unfolding markOut
 returns-3 c =
     let h = c .before .before in
-    rw (le-ltb _ _ (h .before .before .if1 .left), eq-eqb _ _ (h .before .if2 .left), sym (h .is-held .ensures) ∙ c .before .if3 .taken) (ap not (c .is-held2 .ensures))
+    rw (le-ltb _ _ (h .before .before .if1 .left), eq-eqb _ _ (h .before .if2 .left), sym (h .is-held .ensures) ∙ c .before .if3 .taken)
+    (ap not (c .is-held2 .ensures))
 
 returns-4 : tie.Need-returns-4
 unfolding markOut

@@ -10,7 +10,8 @@ use Rattle.given.proofs.marks_left.Statement.{statement}
 use Rattle.given.proofs.marks_left.Tie as tie
 
 abbrev Inv-loop : tie.InvT-loop
-Inv-loop kinds snaps lead ring clean n count edges₀ j₀ edges j = (j ≤ count) × (count ≡ clean .ring .count) × (n ≡ ring .count) × Laid (markLeft ring clean kinds snaps (sought lead)) j edges
+Inv-loop kinds snaps lead ring clean n count edges₀ j₀ edges j =
+    (j ≤ count) × (count ≡ clean .ring .count) × (n ≡ ring .count) × Laid (markLeft ring clean kinds snaps (sought lead)) j edges
 
 abbrev μ-loop : tie.MeasureT-loop
 μ-loop kinds snaps lead ring clean n count edges₀ j₀ edges j = count - j
@@ -26,13 +27,17 @@ cast-k c = search needs
 
 -- the kept place is one of the ring's
 low : (c : tie.In-loop Inv-loop μ-loop) → let s = c .before .before .before .before in getD (s .args .t2 .places) (c .before .loop .j) 0 < s .args .t1 .count
-low c = let s = c .before .before .before .before in place-low _ _ _ (s .args .t2) (s .pre .1) (c .before .loop .j) (omega (arith, c .loop-test .taken, c .before .loop .inv .1))
+low c =
+    let s = c .before .before .before .before in
+    place-low _ _ _ (s .args .t2) (s .pre .1) (c .before .loop .j) (omega (arith, c .loop-test .taken, c .before .loop .inv .1))
 
 next-requires : tie.Need-next-requires Inv-loop μ-loop
 next-requires c κs = (low (c .before), c .before .before .before .before .before .pre .1 .sheet .count)
 
 next-requires-2 : tie.Need-next-requires-2 Inv-loop μ-loop
-next-requires-2 c κs = let s = c .before .before .before .before .before .before in (omega (arith, c .before .before .loop-test .taken), omega (arith, s .pre .1 .count, c .before .before .before .loop .inv .1))
+next-requires-2 c κs =
+    let s = c .before .before .before .before .before .before in
+    (omega (arith, c .before .before .loop-test .taken), omega (arith, s .pre .1 .count, c .before .before .before .loop .inv .1))
 
 element-copy-out-kept : tie.Need-element-copy-out-kept Inv-loop μ-loop
 element-copy-out-kept c = search needs
@@ -41,34 +46,104 @@ cast-kept : tie.Need-cast-kept Inv-loop μ-loop
 cast-kept c = search needs
 
 mul-t23 : tie.Need-mul-t23 Inv-loop μ-loop
-mul-t23 c = omega (arith, low (c .before .before .before .before), c .before .before .before .before .before .before .before .before .pre .1 .sheet .count, c .before .before .before .before .before .before .before .before .pre .1 .marks, c .before .before .before .before .before .before .before .before .pre .1 .points)
+mul-t23 c =
+    omega (
+      arith,
+      low (c .before .before .before .before),
+      c .before .before .before .before .before .before .before .before .pre .1 .sheet .count,
+      c .before .before .before .before .before .before .before .before .pre .1 .marks,
+      c .before .before .before .before .before .before .before .before .pre .1 .points,
+    )
 
 mul-t26 : tie.Need-mul-t26 Inv-loop μ-loop
-mul-t26 c = omega (arith, low (c .before .before .before .before), c .before .before .before .before .before .before .before .before .pre .1 .sheet .count, c .before .before .before .before .before .before .before .before .pre .1 .marks, c .before .before .before .before .before .before .before .before .pre .1 .points)
+mul-t26 c =
+    omega (
+      arith,
+      low (c .before .before .before .before),
+      c .before .before .before .before .before .before .before .before .pre .1 .sheet .count,
+      c .before .before .before .before .before .before .before .before .pre .1 .marks,
+      c .before .before .before .before .before .before .before .before .pre .1 .points,
+    )
 
 shared-slice-read-t28 : tie.Need-shared-slice-read-t28 Inv-loop μ-loop
-shared-slice-read-t28 c = omega (arith, low (c .before .before .before .before .before), c .before .before .before .before .before .before .before .before .before .pre .1 .sheet .count, c .before .before .before .before .before .before .before .before .before .pre .1 .marks, c .before .before .before .before .before .before .before .before .before .pre .1 .points)
+shared-slice-read-t28 c =
+    omega (
+      arith,
+      low (c .before .before .before .before .before),
+      c .before .before .before .before .before .before .before .before .before .pre .1 .sheet .count,
+      c .before .before .before .before .before .before .before .before .before .pre .1 .marks,
+      c .before .before .before .before .before .before .before .before .before .pre .1 .points,
+    )
 
 mul-t29 : tie.Need-mul-t29 Inv-loop μ-loop
-mul-t29 c = omega (arith, low (c .before .before .before .before .before), c .before .before .before .before .before .before .before .before .before .pre .1 .sheet .count, c .before .before .before .before .before .before .before .before .before .pre .1 .marks, c .before .before .before .before .before .before .before .before .before .pre .1 .points)
+mul-t29 c =
+    omega (
+      arith,
+      low (c .before .before .before .before .before),
+      c .before .before .before .before .before .before .before .before .before .pre .1 .sheet .count,
+      c .before .before .before .before .before .before .before .before .before .pre .1 .marks,
+      c .before .before .before .before .before .before .before .before .before .pre .1 .points,
+    )
 
 add-t30 : tie.Need-add-t30 Inv-loop μ-loop
-add-t30 c = omega (arith, low (c .before .before .before .before .before), c .before .before .before .before .before .before .before .before .before .pre .1 .sheet .count, c .before .before .before .before .before .before .before .before .before .pre .1 .marks, c .before .before .before .before .before .before .before .before .before .pre .1 .points)
+add-t30 c =
+    omega (
+      arith,
+      low (c .before .before .before .before .before),
+      c .before .before .before .before .before .before .before .before .before .pre .1 .sheet .count,
+      c .before .before .before .before .before .before .before .before .before .pre .1 .marks,
+      c .before .before .before .before .before .before .before .before .before .pre .1 .points,
+    )
 
 mul-t31 : tie.Need-mul-t31 Inv-loop μ-loop
-mul-t31 c = omega (arith, low (c .before .before .before .before .before), c .before .before .before .before .before .before .before .before .before .pre .1 .sheet .count, c .before .before .before .before .before .before .before .before .before .pre .1 .marks, c .before .before .before .before .before .before .before .before .before .pre .1 .points)
+mul-t31 c =
+    omega (
+      arith,
+      low (c .before .before .before .before .before),
+      c .before .before .before .before .before .before .before .before .before .pre .1 .sheet .count,
+      c .before .before .before .before .before .before .before .before .before .pre .1 .marks,
+      c .before .before .before .before .before .before .before .before .before .pre .1 .points,
+    )
 
 shared-slice-read-t33 : tie.Need-shared-slice-read-t33 Inv-loop μ-loop
-shared-slice-read-t33 c = omega (arith, low (c .before .before .before .before .before .before), c .before .before .before .before .before .before .before .before .before .before .pre .1 .sheet .count, c .before .before .before .before .before .before .before .before .before .before .pre .1 .marks, c .before .before .before .before .before .before .before .before .before .before .pre .1 .points)
+shared-slice-read-t33 c =
+    omega (
+      arith,
+      low (c .before .before .before .before .before .before),
+      c .before .before .before .before .before .before .before .before .before .before .pre .1 .sheet .count,
+      c .before .before .before .before .before .before .before .before .before .before .pre .1 .marks,
+      c .before .before .before .before .before .before .before .before .before .before .pre .1 .points,
+    )
 
 shared-slice-read-surviving-mark : tie.Need-shared-slice-read-surviving-mark Inv-loop μ-loop
-shared-slice-read-surviving-mark c = omega (arith, low (c .before .before .before .before .before .before .before), c .before .before .before .before .before .before .before .before .before .before .before .pre .1 .sheet .count, c .before .before .before .before .before .before .before .before .before .before .before .pre .1 .marks, c .before .before .before .before .before .before .before .before .before .before .before .pre .1 .points)
+shared-slice-read-surviving-mark c =
+    omega (
+      arith,
+      low (c .before .before .before .before .before .before .before),
+      c .before .before .before .before .before .before .before .before .before .before .before .pre .1 .sheet .count,
+      c .before .before .before .before .before .before .before .before .before .before .before .pre .1 .marks,
+      c .before .before .before .before .before .before .before .before .before .before .before .pre .1 .points,
+    )
 
 mul-surviving-mark : tie.Need-mul-surviving-mark Inv-loop μ-loop
-mul-surviving-mark c = omega (arith, low (c .before .before .before .before .before .before .before), c .before .before .before .before .before .before .before .before .before .before .before .pre .1 .sheet .count, c .before .before .before .before .before .before .before .before .before .before .before .pre .1 .marks, c .before .before .before .before .before .before .before .before .before .before .before .pre .1 .points)
+mul-surviving-mark c =
+    omega (
+      arith,
+      low (c .before .before .before .before .before .before .before),
+      c .before .before .before .before .before .before .before .before .before .before .before .pre .1 .sheet .count,
+      c .before .before .before .before .before .before .before .before .before .before .before .pre .1 .marks,
+      c .before .before .before .before .before .before .before .before .before .before .before .pre .1 .points,
+    )
 
 element-copy-out-surviving-mark : tie.Need-element-copy-out-surviving-mark Inv-loop μ-loop
-element-copy-out-surviving-mark c = omega (arith, low (c .before .before .before .before .before .before .before), c .before .before .before .before .before .before .before .before .before .before .before .pre .1 .sheet .count, c .before .before .before .before .before .before .before .before .before .before .before .pre .1 .marks, c .before .before .before .before .before .before .before .before .before .before .before .pre .1 .points)
+element-copy-out-surviving-mark c =
+    omega (
+      arith,
+      low (c .before .before .before .before .before .before .before),
+      c .before .before .before .before .before .before .before .before .before .before .before .pre .1 .sheet .count,
+      c .before .before .before .before .before .before .before .before .before .before .before .pre .1 .marks,
+      c .before .before .before .before .before .before .before .before .before .before .before .pre .1 .points,
+    )
 
 mul-surviving-mark-2 : tie.Need-mul-surviving-mark-2 Inv-loop μ-loop
 mul-surviving-mark-2 c = search needs
@@ -102,7 +177,8 @@ loop-again c =
       search needs,
       search needs,
       laid-more _ (o .j) (o .edges) _ (o .inv .3) (search needs)
-          (c .surviving-mark .ensures ∙ mark-next (a .t1) (a .t2) (a .kinds .now) (a .snaps .now) (sought (a .lead)) (o .j) _ _ (w .next2 .ensures .0) (w .before .next .ensures .0)),
+          (c .surviving-mark .ensures
+          ∙ mark-next (a .t1) (a .t2) (a .kinds .now) (a .snaps .now) (sought (a .lead)) (o .j) _ _ (w .next2 .ensures .0) (w .before .next .ensures .0)),
     )
 
 returns : tie.Need-returns Inv-loop μ-loop

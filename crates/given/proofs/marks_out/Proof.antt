@@ -1,4 +1,4 @@
--- `marks_out` meets its contract.
+-- `marks_out`, the loop's invariant: no mark passed is out.
 use borrow.Author.Needs.{needs}
 use native.Mathlib.Omega.{arith}
 use Prim.Native.Nat.{_*_, _-_, _≤_}
@@ -77,8 +77,13 @@ loop-less c = search needs
 loop-again : tie.Need-loop-again Inv-loop μ-loop
 loop-again c =
     let l = c .before .before .before .before .before .before in
-    let a = l .before .before .before .before .before .args in
-    (search needs, search needs, search needs, search needs, any-pass (outAt (a .kinds .now) (a .snaps .now)) (l .loop .i) (l .loop .inv .4) (sym (c .before .mark-out .ensures) ∙ c .if3 .left))
+    let a = l .before .before .before .before .before .args in (
+      search needs,
+      search needs,
+      search needs,
+      search needs,
+      any-pass (outAt (a .kinds .now) (a .snaps .now)) (l .loop .i) (l .loop .inv .4) (sym (c .before .mark-out .ensures) ∙ c .if3 .left),
+    )
 
 returns-4 : tie.Need-returns-4 Inv-loop μ-loop
 unfolding marksOut

@@ -1,4 +1,3 @@
--- `surviving_mark` meets its contract.
 use native.Mathlib.Omega.{arith}
 use borrow.Author.Needs.{needs}
 use Rattle.given.proofs.surviving_mark.Statement.{statement}

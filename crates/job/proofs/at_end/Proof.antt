@@ -1,4 +1,3 @@
--- `at_end` meets its contract.
 use Prim.Native.Nat.{_%_}
 use borrow.Author.Tests.{eq-eqb, ne-eqb}
 use borrow.Author.Needs.{needs}

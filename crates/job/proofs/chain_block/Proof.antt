@@ -1,4 +1,4 @@
--- `chain_block` meets its contract. Laws in proofs/Answers and Stepping.
+-- `chain_block`: laws in proofs/Answers and Stepping.
 use mathlib.Core.Path.{ap}
 use Rattle.blocks.proofs.Counts.{points}
 use Rattle.job.proofs.Answers.{chain-refused, chain-accepted}
@@ -18,13 +18,19 @@ returns : tie.Need-returns
 returns c =
     let s = c .before .before .before .before .before in
     let a = s .args in
-    cells-as _ (c .refuse .result) (a .ring .now) (a .nodes .now) (a .rims .now) (a .cells .now) (s .pre .1) (c .refuse .ensures (a .ring .now) (a .points .now) (a .nodes .now) (a .rims .now))
+    cells-as _ (c .refuse .result) (a .ring .now) (a .nodes .now) (a .rims .now) (a .cells .now) (s .pre .1)
+    (c .refuse .ensures (a .ring .now) (a .points .now) (a .nodes .now) (a .rims .now))
 
 divide-ring-requires : tie.Need-divide-ring-requires
 divide-ring-requires c κs =
     let s = c .before .before .before .before .before .before .before .before .before in
-    let q = c .before .before .before .before .tail .given in
-    (s .pre .0, s .pre .1, s .pre .2 .number (chain-accepted (s .args .tail) (q .0 .0) (q .1)), omega (arith, s .pre .2 .few, ap points (q .1)), s .pre .2 .places)
+    let q = c .before .before .before .before .tail .given in (
+      s .pre .0,
+      s .pre .1,
+      s .pre .2 .number (chain-accepted (s .args .tail) (q .0 .0) (q .1)),
+      omega (arith, s .pre .2 .few, ap points (q .1)),
+      s .pre .2 .places,
+    )
 
 same-length : tie.Need-same-length
 same-length c = search needs

@@ -1,4 +1,4 @@
--- `clear` meets its contract. The loop's invariant: the first k numbers are zero.
+-- `clear`. The loop's invariant: the first k numbers are zero.
 use Prim.Native.Nat.{ℕ, _-_, _≤_}
 use mathlib.Core.Path.{_≡_, refl, sym, _∙_}
 use lib.ListN.{length, take, length-set, length-replicate, getD-replicate}
@@ -44,7 +44,8 @@ returns : tie.Need-returns Inv-loop μ-loop
 returns c =
     let l = c .before .loop in
     let e : l .k ≡ 496 = omega arith in
-    sym (take-all 496 (l .cells) (omega arith)) ∙ (rw e at (l .inv .2)) ∙ sym (is-tab noCells (λ (i : ℕ). 0) 496 0 (length-replicate {A = ℕ} 496 0) (λ i h. getD-replicate {A = ℕ} 496 i 0 0 h))
+    sym (take-all 496 (l .cells) (omega arith)) ∙ (rw e at (l .inv .2))
+    ∙ sym (is-tab noCells (λ (i : ℕ). 0) 496 0 (length-replicate {A = ℕ} 496 0) (λ i h. getD-replicate {A = ℕ} 496 i 0 0 h))
 
 pub clear-spec : {M : Type 1} → statement M
 clear-spec =

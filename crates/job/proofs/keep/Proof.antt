@@ -1,4 +1,4 @@
--- `keep` meets its contract. The loop's invariant: the first k coordinates are in their places.
+-- `keep`. The loop's invariant: the first k coordinates are in their places.
 use Prim.Native.Nat.{ℕ, _-_, _≤_}
 use mathlib.Core.Path.{_≡_, sym, _∙_, refl}
 use lib.ListN.{length, getD, take, length-set}
@@ -42,8 +42,12 @@ loop-less c = search needs
 
 loop-again : tie.Need-loop-again Inv-loop μ-loop
 loop-again c =
-    let l = c .before .before .loop in
-    (search needs, simp length-set (l .inv .1), more (λ (i : ℕ). getD (c .before .before .before .args .points .now) i (pos 0)) (l .ring) (l .k) _ (omega arith) (l .inv .2) (toZ-ofZ w32 _ (record { sfits = c .ring .given })))
+    let l = c .before .before .loop in (
+      search needs,
+      simp length-set (l .inv .1),
+      more (λ (i : ℕ). getD (c .before .before .before .args .points .now) i (pos 0)) (l .ring) (l .k) _ (omega arith) (l .inv .2)
+          (toZ-ofZ w32 _ (record { sfits = c .ring .given })),
+    )
 
 same-length : tie.Need-same-length Inv-loop μ-loop
 same-length c = search needs
@@ -53,7 +57,8 @@ returns c =
     let l = c .before .loop in
     let s = c .before .before in
     let e : l .k ≡ 120 = omega arith in
-    sym (take-all 120 (l .ring) (omega arith)) ∙ (rw e at (l .inv .2)) ∙ sym (is-tab (s .args .points .now) (λ (i : ℕ). getD (s .args .points .now) i (pos 0)) 120 (pos 0) (s .pre .1) (λ i h. refl))
+    sym (take-all 120 (l .ring) (omega arith)) ∙ (rw e at (l .inv .2))
+    ∙ sym (is-tab (s .args .points .now) (λ (i : ℕ). getD (s .args .points .now) i (pos 0)) 120 (pos 0) (s .pre .1) (λ i h. refl))
 
 pub keep-spec : {M : Type 1} → statement M
 keep-spec =

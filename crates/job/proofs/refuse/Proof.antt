@@ -1,4 +1,4 @@
--- `refuse` meets its contract. Laws in proofs/Answers and Stepping.
+-- `refuse`: laws in proofs/Answers and Stepping.
 use Rattle.job.proofs.Answers.{never-refused}
 use Rattle.job.proofs.Stepping.{refuses}
 use native.Mathlib.Omega.{arith}

@@ -1,4 +1,4 @@
--- `ring_block` meets its contract. Laws in proofs/Answers and Stepping.
+-- `ring_block`: laws in proofs/Answers and Stepping.
 use Rattle.job.proofs.Answers.{ring-refused}
 use Rattle.job.proofs.Stepping.{ring-waits}
 use native.Mathlib.Omega.{arith}
@@ -30,7 +30,8 @@ returns-2 : tie.Need-returns-2
 returns-2 c =
     let a = c .before .before .before .before .before .before .before .args in
     let k = c .before .before .keep in
-    λ l rs. ring-waits (a .s) (a .ring .now) l rs (a .points .now) (a .head) _ _ (c .before .before .before .before .before .head .given .1) (k .last .0) (k .ensures)
+    λ l rs.
+    ring-waits (a .s) (a .ring .now) l rs (a .points .now) (a .head) _ _ (c .before .before .before .before .before .head .given .1) (k .last .0) (k .ensures)
 
 pub ring-block-spec : {M : Type 1} → statement M
 ring-block-spec =

@@ -1,4 +1,4 @@
--- `divide_marked` keeps its promise: it is the call with the set on delivery.
+-- `divide_marked`: it is the call with the set on delivery.
 use borrow.Author.Needs.{needs}
 use Rattle.marked.proofs.divide_marked.Statement.{statement}
 use Rattle.marked.proofs.divide_marked.Tie as tie
@@ -19,7 +19,9 @@ same-length-3 : tie.Need-same-length-3
 same-length-3 c = search needs
 
 returns : tie.Need-returns
-returns c = let d = c .before .before .before .before .before .before in rw (← d .before .before .before .before .on-delivery .ensures) (d .divide-marked-set .ensures)
+returns c =
+    let d = c .before .before .before .before .before .before in
+    rw (← d .before .before .before .before .on-delivery .ensures) (d .divide-marked-set .ensures)
 
 pub divide-marked-spec : {M : Type 1} → statement M
 divide-marked-spec =

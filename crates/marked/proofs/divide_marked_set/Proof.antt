@@ -1,4 +1,4 @@
--- `divide_marked_set` keeps its promise: a refusal leaves everything as found, and else the core divides the ring that was prepared.
+-- `divide_marked_set`: a refusal leaves everything as found, and else the core divides the ring that was prepared.
 use native.Mathlib.Omega.{arith}
 use borrow.Author.Needs.{needs}
 use mathlib.Core.Path.{refl}
@@ -11,7 +11,16 @@ use Rattle.marked.proofs.divide_marked_set.Tie as tie
 abbrev lent : tie.Start → LentMarked
 lent s =
     let a = s .args in
-    record { ring = a .ring .now; marking = record { kinds = a .kinds .now; snaps = a .snaps .now; outline = a .outline .now; loops = a .loops .now }; size = a .size; nodes = a .nodes .now; nodeCount = a .node-count; rims = a .rims .now; cells = a .cells .now; cellCount = a .cell-count }
+    record {
+      ring = a .ring .now;
+      marking = record { kinds = a .kinds .now; snaps = a .snaps .now; outline = a .outline .now; loops = a .loops .now };
+      size = a .size;
+      nodes = a .nodes .now;
+      nodeCount = a .node-count;
+      rims = a .rims .now;
+      cells = a .cells .now;
+      cellCount = a .cell-count;
+    }
 
 refusal-requires : tie.Need-refusal-requires
 refusal-requires c κs = search needs
@@ -58,7 +67,9 @@ returns-2 c =
     let s = k .before .before .before .before .before .before .before .before .before .before in
     let n = k .before .refusal in
     let m = d .before .before .before .before .marked-ring in
-    promised (s .args .limits) (lent s) _ _ _ _ (call-divided (s .args .limits) (lent s) (n .result) (n .ensures (s .args .cells .now) refl) (k .if1 .left) (m .result) (m .ensures) _ _ _ _ (d .divide-core .ensures))
+    promised (s .args .limits) (lent s) _ _ _ _
+    (call-divided (s .args .limits) (lent s) (n .result) (n .ensures (s .args .cells .now) refl) (k .if1 .left) (m .result) (m .ensures) _ _ _ _
+    (d .divide-core .ensures))
 
 pub divide-marked-set-spec : {M : Type 1} → statement M
 divide-marked-set-spec =

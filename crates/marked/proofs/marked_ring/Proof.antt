@@ -23,8 +23,11 @@ surviving-marks-requires c κs =
     let g = c .before in
     let p = g .before in
     let s = p .before .before .before .before in
-    let r = s .args .ring .now in
-    (marks-of r (marking s) (s .args .size) (s .pre) (p .points .result) (p .points .ensures .1) (ap (λ (w : Ring). w .count) (p .points .ensures .0)) (read r (p .points .result) (p .points .ensures .0)) (g .clean-polygon .result) (g .clean-polygon .ensures), s .pre .outline)
+    let r = s .args .ring .now in (
+      marks-of r (marking s) (s .args .size) (s .pre) (p .points .result) (p .points .ensures .1) (ap (λ (w : Ring). w .count) (p .points .ensures .0))
+          (read r (p .points .result) (p .points .ensures .0)) (g .clean-polygon .result) (g .clean-polygon .ensures),
+      s .pre .outline,
+    )
 
 returns : tie.Need-returns
 returns c =
@@ -32,7 +35,9 @@ returns c =
     let p = g .before in
     let s = p .before .before .before .before in
     let r = s .args .ring .now in
-    prepares r (marking s) (s .args .size) (s .pre) (p .points .result) (p .points .ensures .1) (ap (λ (w : Ring). w .count) (p .points .ensures .0)) (read r (p .points .result) (p .points .ensures .0)) (g .clean-polygon .result) (g .clean-polygon .ensures) (c .surviving-marks .result) (c .surviving-marks .ensures)
+    prepares r (marking s) (s .args .size) (s .pre) (p .points .result) (p .points .ensures .1) (ap (λ (w : Ring). w .count) (p .points .ensures .0))
+    (read r (p .points .result) (p .points .ensures .0)) (g .clean-polygon .result) (g .clean-polygon .ensures) (c .surviving-marks .result)
+    (c .surviving-marks .ensures)
 
 pub marked-ring-spec : {M : Type 1} → statement M
 marked-ring-spec =

@@ -1,4 +1,4 @@
--- `refusal` meets its contract: each test in its place. Where no cell list is named, one of empty cells stands for it.
+-- `refusal`: each test in its place. Where no cell list is named, one of empty cells stands for it.
 use native.Mathlib.Omega.{arith}
 use borrow.Author.Needs.{needs}
 use Rattle.laws.proofs.Booleans.{neither}
@@ -26,7 +26,16 @@ use Rattle.marked.proofs.refusal.Tie as tie
 abbrev lent : tie.Start → List ℕ → LentMarked
 lent s q =
     let a = s .args in
-    record { ring = a .ring .now; marking = record { kinds = a .kinds .now; snaps = a .snaps .now; outline = a .outline .now; loops = a .loops .now }; size = a .size; nodes = a .nodes .now; nodeCount = a .node-count; rims = a .rims .now; cells = q; cellCount = a .cell-count }
+    record {
+      ring = a .ring .now;
+      marking = record { kinds = a .kinds .now; snaps = a .snaps .now; outline = a .outline .now; loops = a .loops .now };
+      size = a .size;
+      nodes = a .nodes .now;
+      nodeCount = a .node-count;
+      rims = a .rims .now;
+      cells = q;
+      cellCount = a .cell-count;
+    }
 
 abbrev start : tie.After-counts-out → tie.Start
 start c = c .before .before .before .before .before .before
@@ -50,17 +59,21 @@ counts-fit c =
 units-no : (c : tie.Else2) → let a = start (c .before .before .before) .args in unitsOut (allPoints (a .ring .now)) [] (a .size) ≡ false
 units-no c = sym (c .before .units-out .ensures) ∙ c .if2 .left
 
-marks-no : (c : tie.Else3) → let a = start (c .before .before .before .before .before) .args in marksOut (a .kinds .now) (a .snaps .now) (length (a .ring .now) / 2) ≡ false
+marks-no : (c : tie.Else3) → let a =
+    start (c .before .before .before .before .before) .args in marksOut (a .kinds .now) (a .snaps .now) (length (a .ring .now) / 2) ≡ false
 marks-no c = sym (c .before .marks-out .ensures) ∙ c .if3 .left
 
-outline-no : (c : tie.Else4) → let a = start (c .before .before .before .before .before .before .before) .args in outlineOut (a .kinds .now) (a .outline .now) (a .loops .now) ≡ false
+outline-no : (c : tie.Else4) → let a =
+    start (c .before .before .before .before .before .before .before) .args in outlineOut (a .kinds .now) (a .outline .now) (a .loops .now) ≡ false
 outline-no c = sym (c .before .outline-out .ensures) ∙ c .if4 .left
 
 set-no : (c : tie.Else5) → let a = start (c .before .before .before .before .before .before .before .before .before) .args in limitsOut (a .limits) ≡ false
 set-no c = sym (c .before .limits-out .ensures) ∙ c .if5 .left
 
 -- the used counts fit their lists
-fit : (c : tie.Else6) → let a = start (c .before .before .before .before .before .before .before .before .before .before .before) .args in (a .node-count ≤ length (a .nodes .now) / 2) × (a .cell-count ≤ a .cell-places)
+fit : (c : tie.Else6) → let a =
+    start (c .before .before .before .before .before .before .before .before .before .before .before) .args in (a .node-count ≤ length (a .nodes .now) / 2)
+    × (a .cell-count ≤ a .cell-places)
 fit c =
     let a = start (c .before .before .before .before .before .before .before .before .before .before .before) .args in
     let l = a .nodes .now in
@@ -71,8 +84,11 @@ fit c =
     (omega (arith, h .0, length-in l (length l / 2)), omega (arith, h .1, n))
 
 -- the last test
-ended : (c : tie.Else6) (q : List ℕ) → let s = start (c .before .before .before .before .before .before .before .before .before .before .before) in length q / 4 ≡ s .args .cell-places → (t : Bool)
-    → roomOut (s .args .limits) (length (s .args .ring .now) / 2) (length (s .args .nodes .now) / 2 - s .args .node-count) (s .args .cell-places - s .args .cell-count) ≡ t → cond t 4 0 ≡ firstOf (markedTests (s .args .limits) (lent s q))
+ended : (c : tie.Else6) (q : List ℕ) → let s =
+    start (c .before .before .before .before .before .before .before .before .before .before .before) in length q / 4 ≡ s .args .cell-places → (t : Bool)
+    → roomOut (s .args .limits) (length (s .args .ring .now) / 2) (length (s .args .nodes .now) / 2 - s .args .node-count)
+    (s .args .cell-places - s .args .cell-count) ≡ t
+    → cond t 4 0 ≡ firstOf (markedTests (s .args .limits) (lent s q))
 ended c q e t h =
     let w = c .before .before in
     let k = w .before .before in
@@ -98,7 +114,10 @@ marks-out-requires : tie.Need-marks-out-requires
 marks-out-requires c κs = counts-fit (c .before .before) .1
 
 returns-3 : tie.Need-returns-3
-returns-3 c q e = let k = c .before .before in thirteenth _ (lent (start (k .before .before .before)) q) _ e (counts-no (k .before .before)) (units-no k) (sym (c .before .marks-out .ensures) ∙ c .if3 .taken)
+returns-3 c q e =
+    let k = c .before .before in
+    thirteenth _ (lent (start (k .before .before .before)) q) _ e (counts-no (k .before .before)) (units-no k)
+    (sym (c .before .marks-out .ensures) ∙ c .if3 .taken)
 
 outline-out-requires : tie.Need-outline-out-requires
 outline-out-requires c κs = search needs
@@ -107,7 +126,8 @@ returns-4 : tie.Need-returns-4
 returns-4 c q e =
     let k = c .before .before in
     let u = k .before .before in
-    fourteenth _ (lent (start (u .before .before .before)) q) _ e (counts-no (u .before .before)) (units-no u) (marks-no k) (sym (c .before .outline-out .ensures) ∙ c .if4 .taken)
+    fourteenth _ (lent (start (u .before .before .before)) q) _ e (counts-no (u .before .before)) (units-no u) (marks-no k)
+    (sym (c .before .outline-out .ensures) ∙ c .if4 .taken)
 
 limits-out-requires : tie.Need-limits-out-requires
 limits-out-requires c κs = search needs
@@ -117,7 +137,8 @@ returns-5 c q e =
     let k = c .before .before in
     let m = k .before .before in
     let u = m .before .before in
-    fifteenth _ (lent (start (u .before .before .before)) q) _ e (counts-no (u .before .before)) (units-no u) (marks-no m) (outline-no k) (sym (c .before .limits-out .ensures) ∙ c .if5 .taken)
+    fifteenth _ (lent (start (u .before .before .before)) q) _ e (counts-no (u .before .before)) (units-no u) (marks-no m) (outline-no k)
+    (sym (c .before .limits-out .ensures) ∙ c .if5 .taken)
 
 lists-out-requires : tie.Need-lists-out-requires
 lists-out-requires c κs = search needs

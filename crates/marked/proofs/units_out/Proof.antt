@@ -1,4 +1,4 @@
--- `units_out` meets its contract: with no chain, none of its points is outside.
+-- `units_out`: with no chain, none of its points is outside.
 use native.Mathlib.Omega.{arith}
 use borrow.Author.Needs.{needs}
 use mathlib.Core.Path.{sym, _∙_}

@@ -102,7 +102,8 @@ element-copy-out-b : tie.Need-element-copy-out-b Inv-search μ-search Inv-loop �
 element-copy-out-b c = search needs
 
 search-holds : tie.Need-search-holds Inv-search μ-search Inv-loop μ-loop
-search-holds c = let l = c .before .before .before .before .loop in (search needs, search needs, search needs, search needs, search needs, l .inv .4, laws.first-start _ _)
+search-holds c =
+    let l = c .before .before .before .before .loop in (search needs, search needs, search needs, search needs, search needs, l .inv .4, laws.first-start _ _)
 
 mul-joins : tie.Need-mul-joins Inv-search μ-search Inv-loop μ-loop
 mul-joins c = search needs

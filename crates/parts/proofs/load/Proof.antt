@@ -1,4 +1,4 @@
--- `load` meets its contract. The loop's invariant: the places filled are the corners from place a on. Assumes nothing.
+-- `load`. The loop's invariant: the places filled are the corners from place a on.
 use Rattle.parts.specs.Vertices.{noVertex, vertex, Below}
 use Rattle.laws.specs.Table.{tab}
 use Rattle.laws.proofs.Table.{more, tab-none}

@@ -1,4 +1,4 @@
--- `piece_marks` meets its contract. The loop's invariant: the places filled are the marks of the piece's first edges; number 60 is straight. Assumes nothing.
+-- `piece_marks`. The loop's invariant: the places filled are the marks of the piece's first edges; number 60 is straight.
 use Prim.Native.Nat.{ℕ, _+_, _-_, _≤_}
 use mathlib.Core.Path.{_≡_, refl, sym, _∙_}
 use mathlib.Core.Logic.{⊎-elim}
@@ -18,7 +18,8 @@ use Rattle.parts.proofs.piece_marks.Statement.{statement}
 use Rattle.parts.proofs.piece_marks.Tie as tie
 
 abbrev Inv-loop : tie.InvT-loop
-Inv-loop i marks pieces a n straight out₀ j₀ out j = (j ≤ n) × (n ≤ 60) × (a + n ≤ 124) × (length out ≡ 60) × (take j out ≡ tab (λ k. markAt marks (pieces .corners) (a + k)) j)
+Inv-loop i marks pieces a n straight out₀ j₀ out j =
+    (j ≤ n) × (n ≤ 60) × (a + n ≤ 124) × (length out ≡ 60) × (take j out ≡ tab (λ k. markAt marks (pieces .corners) (a + k)) j)
     × ((k : ℕ) → j ≤ k → getD out k straightEdge ≡ straightEdge)
 
 abbrev μ-loop : tie.MeasureT-loop
@@ -49,7 +50,9 @@ sub-n : tie.Need-sub-n Inv-loop μ-loop
 sub-n c = let z = placed (c .before .before) in omega arith
 
 loop-holds : tie.Need-loop-holds Inv-loop μ-loop
-loop-holds c = let z = placed (c .before .before) in (search needs, omega arith, omega arith, search needs, tab-none _, λ k h. all-same (λ x. x ≡ straightEdge) straightEdge 60 straightEdge refl refl k)
+loop-holds c =
+    let z = placed (c .before .before) in
+    (search needs, omega arith, omega arith, search needs, tab-none _, λ k h. all-same (λ x. x ≡ straightEdge) straightEdge 60 straightEdge refl refl k)
 
 add-c : tie.Need-add-c Inv-loop μ-loop
 add-c c = search needs
@@ -93,8 +96,14 @@ loop-again c =
     ⊎-elim
     (λ w. w .2)
     (λ w. w .1 ∙ sym (List·getD-eq-default marks straightEdge (omega (arith, w .0 .left, s .good .0 .1 .0 .1))))
-    (c .if1 .came) in
-    (search needs, search needs, search needs, simp length-set (o .inv .3), more f (o .out) (o .j) (c .if1 .e) (omega (arith, o .inv .3)) (o .inv .4) e, λ k h. getD-set-other (o .out) (o .j) k _ straightEdge (λ d. omega (arith, d)) ∙ o .inv .5 k (omega arith))
+    (c .if1 .came) in (
+      search needs,
+      search needs,
+      search needs,
+      simp length-set (o .inv .3),
+      more f (o .out) (o .j) (c .if1 .e) (omega (arith, o .inv .3)) (o .inv .4) e,
+      λ k h. getD-set-other (o .out) (o .j) k _ straightEdge (λ d. omega (arith, d)) ∙ o .inv .5 k (omega arith),
+    )
 
 returns : tie.Need-returns Inv-loop μ-loop
 returns c =

@@ -19,7 +19,8 @@ use Rattle.parts.proofs.piece_points.Tie as tie
 
 abbrev Inv-loop : tie.InvT-loop
 Inv-loop i ring pieces a n out₀ j₀ out j =
-    (j ≤ n) × (n ≤ 60) × (a + n ≤ 124) × (length (out .points) ≡ 60) × (take j (out .points) ≡ tab (λ k. cornerPoint ring (pieces .corners) (a + k)) j) × AllOnSheet (out .points)
+    (j ≤ n) × (n ≤ 60) × (a + n ≤ 124) × (length (out .points) ≡ 60) × (take j (out .points) ≡ tab (λ k. cornerPoint ring (pieces .corners) (a + k)) j)
+    × AllOnSheet (out .points)
     × ((k : ℕ) → j ≤ k → getD (out .points) k origin ≡ origin) × (out .count ≡ n)
 
 abbrev μ-loop : tie.MeasureT-loop
@@ -50,7 +51,17 @@ sub-n : tie.Need-sub-n Inv-loop μ-loop
 sub-n c = let z = placed (c .before .before) in omega arith
 
 loop-holds : tie.Need-loop-holds Inv-loop μ-loop
-loop-holds c = let z = placed (c .before .before) in (search needs, omega arith, omega arith, refl, tab-none _, all-same OnSheet origin 60 _ origin-on origin-on, λ k h. all-same (λ x. x ≡ origin) origin 60 origin refl refl k, refl)
+loop-holds c =
+    let z = placed (c .before .before) in (
+      search needs,
+      omega arith,
+      omega arith,
+      refl,
+      tab-none _,
+      all-same OnSheet origin 60 _ origin-on origin-on,
+      λ k h. all-same (λ x. x ≡ origin) origin 60 origin refl refl k,
+      refl,
+    )
 
 add-c : tie.Need-add-c Inv-loop μ-loop
 add-c c = search needs
@@ -65,7 +76,9 @@ cast-k : tie.Need-cast-k Inv-loop μ-loop
 cast-k c = search needs
 
 mul-p : tie.Need-mul-p Inv-loop μ-loop
-mul-p c = let s = c .before .before .before .before .before .before in let h = s .pre .0 .below (end (s .args .t2) (s .args .i) + c .before .before .before .loop .j) in omega (arith, h)
+mul-p c =
+    let s = c .before .before .before .before .before .before in
+    let h = s .pre .0 .below (end (s .args .t2) (s .args .i) + c .before .before .before .loop .j) in omega (arith, h)
 
 array-copy-out-p : tie.Need-array-copy-out-p Inv-loop μ-loop
 array-copy-out-p c = c .before .before .before .before .before .before .pre .0 .below _
@@ -94,7 +107,8 @@ loop-again c =
       search needs,
       search needs,
       simp length-set (o .inv .3),
-      more (λ k. cornerPoint ring (p .corners) (a + k)) (o .out .points) (o .j) (cornerPoint ring (p .corners) (a + o .j)) (omega (arith, o .inv .3)) (o .inv .4) refl,
+      more (λ k. cornerPoint ring (p .corners) (a + k)) (o .out .points) (o .j) (cornerPoint ring (p .corners) (a + o .j)) (omega (arith, o .inv .3))
+          (o .inv .4) refl,
       all-set OnSheet origin (o .out .points) (o .j) (cornerPoint ring (p .corners) (a + o .j)) (o .inv .5) (s .pre .2 _),
       λ k h. getD-set-other (o .out .points) (o .j) k _ origin (λ e. omega (arith, e)) ∙ o .inv .6 k (omega arith),
       o .inv .7,
@@ -106,9 +120,12 @@ returns c =
     let s = l .before .before .before in
     let z = placed s in
     let e : l .loop .j ≡ size (s .args .t2) (s .args .i) = omega (arith, z .3) in
-    let f : take (size (s .args .t2) (s .args .i)) (l .loop .out .points) ≡ tab (λ k. cornerPoint (s .args .t1) (s .args .t2 .corners) (end (s .args .t2) (s .args .i) + k)) (size (s .args .t2) (s .args .i)) =
+    let f : take (size (s .args .t2) (s .args .i)) (l .loop .out .points) ≡ tab
+    (λ k. cornerPoint (s .args .t1) (s .args .t2 .corners) (end (s .args .t2) (s .args .i) + k)) (size (s .args .t2) (s .args .i)) =
     rw e at (l .loop .inv .4) in (
-      λ es. ap (λ (k : ℕ). take k (l .loop .out .points)) (l .loop .inv .7 ∙ z .3) ∙ f ∙ Pieces.points-are (s .args .t2) (s .args .i) (s .pre .1) (s .args .t1) es,
+      λ es.
+          ap (λ (k : ℕ). take k (l .loop .out .points)) (l .loop .inv .7 ∙ z .3) ∙ f
+          ∙ Pieces.points-are (s .args .t2) (s .args .i) (s .pre .1) (s .args .t1) es,
       record { count = omega (arith, l .loop .inv .7); places = l .loop .inv .3; points = l .loop .inv .5 },
       l .loop .inv .7 ∙ z .3,
       omega (arith, l .loop .inv .7),

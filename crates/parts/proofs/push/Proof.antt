@@ -1,5 +1,5 @@
--- `push` meets its contract: the parts before stay, and one part more is read back. The loop's invariant: the places before a are as they were, and
--- those from a on are the corners put there. Assumes nothing.
+-- `push`: the parts before stay, and one part more is read back. The loop's invariant: the places before a are as they were, and
+-- those from a on are the corners put there.
 use Prim.Native.Nat.{_+_, _-_, _≤_, _<_}
 use native.Mathlib.Omega.{arith}
 use mathlib.Core.Path.{_≡_, refl, sym, subst}
@@ -43,8 +43,17 @@ add-out-3 c = search needs
 
 loop-holds : tie.Need-loop-holds Inv-loop μ-loop
 loop-holds c =
-    let s = c .before in
-    (search needs, search needs, search needs, s .pre .0 .long, record { low = λ k h. refl; high = λ k h. absurd (omega arith); rest = λ k h. refl }, s .pre .0 .below, s .pre .5, refl, refl)
+    let s = c .before in (
+      search needs,
+      search needs,
+      search needs,
+      s .pre .0 .long,
+      record { low = λ k h. refl; high = λ k h. absurd (omega arith); rest = λ k h. refl },
+      s .pre .0 .below,
+      s .pre .5,
+      refl,
+      refl,
+    )
 
 mul-c : tie.Need-mul-c Inv-loop μ-loop
 mul-c c = search needs
@@ -90,7 +99,9 @@ returns c =
     let s = c .before .before .before in
     let p = s .args .p in
     let e : l .i ≡ s .args .n = omega arith in
-    let r = Storing.is-pushed p (s .pre .0) (s .pre .1) (s .args .t2) (s .args .n) (s .pre .2) (s .pre .3) (s .pre .4) (l .out .corners) (rw e at (l .inv .4)) (l .inv .5) (l .inv .3) in
+    let r =
+    Storing.is-pushed p (s .pre .0) (s .pre .1) (s .args .t2) (s .args .n) (s .pre .2) (s .pre .3) (s .pre .4) (l .out .corners) (rw e at (l .inv .4))
+    (l .inv .5) (l .inv .3) in
     subst (Pushed p (s .args .t2) (s .args .n)) (λ j. record { corners = l .out .corners; ends = sym (l .inv .7) j; count = sym (l .inv .8) j }) r
 
 pub push-spec : {M : Type 1} → statement M

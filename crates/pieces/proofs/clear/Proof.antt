@@ -1,4 +1,4 @@
--- `pieces::clear` meets its contract.
+-- `clear`, the loop's invariant: the numbers passed are zero, and the rest as they came.
 use mathlib.Core.Path.{_≡_, refl, ap, _∙_}
 use mathlib.Core.List.{List, _++_}
 use Prim.Native.Nat.{ℕ, _+_, _-_, _*_, _≤_}

@@ -1,4 +1,4 @@
--- `pieces::piece_sides` meets its contract.
+-- `piece_sides`, the loop's invariant: the places filled are the sides of the piece, and the rest are false.
 use Prim.Native.Nat.{ℕ, _+_, _-_, _≤_}
 use mathlib.Core.Path.{_≡_, refl, _∙_}
 use mathlib.Core.Bool.{false}
@@ -16,7 +16,8 @@ use Rattle.pieces.proofs.piece_sides.Statement.{statement}
 use Rattle.pieces.proofs.piece_sides.Tie as tie
 
 abbrev Inv-loop : tie.InvT-loop
-Inv-loop i pieces a n out₀ j₀ out j = (j ≤ n) × (n ≤ 60) × (a + n ≤ 124) × (length out ≡ 60) × (take j out ≡ tab (sideOf pieces a) j) × ((k : ℕ) → j ≤ k → getD out k false ≡ false)
+Inv-loop i pieces a n out₀ j₀ out j =
+    (j ≤ n) × (n ≤ 60) × (a + n ≤ 124) × (length out ≡ 60) × (take j out ≡ tab (sideOf pieces a) j) × ((k : ℕ) → j ≤ k → getD out k false ≡ false)
 
 abbrev μ-loop : tie.MeasureT-loop
 μ-loop i pieces a n out₀ j₀ out j = n - j
@@ -46,7 +47,9 @@ sub-n : tie.Need-sub-n Inv-loop μ-loop
 sub-n c = let z = placed (c .before .before) in omega arith
 
 loop-holds : tie.Need-loop-holds Inv-loop μ-loop
-loop-holds c = let z = placed (c .before .before) in (search needs, omega arith, omega arith, search needs, tab-none _, λ k h. all-same (λ x. x ≡ false) false 60 false refl refl k)
+loop-holds c =
+    let z = placed (c .before .before) in
+    (search needs, omega arith, omega arith, search needs, tab-none _, λ k h. all-same (λ x. x ≡ false) false 60 false refl refl k)
 
 add-c : tie.Need-add-c Inv-loop μ-loop
 add-c c = search needs
@@ -71,8 +74,14 @@ loop-again c =
     let l = c .before .before .before in
     let s = l .before .before .before in
     let o = l .loop in
-    let p = s .args .t1 in
-    (search needs, search needs, search needs, simp length-set (o .inv .3), more (sideOf p (end p (s .args .i))) (o .out) (o .j) _ (omega (arith, o .inv .3)) (o .inv .4) refl, λ k h. getD-set-other (o .out) (o .j) k _ false (λ d. omega (arith, d)) ∙ o .inv .5 k (omega arith))
+    let p = s .args .t1 in (
+      search needs,
+      search needs,
+      search needs,
+      simp length-set (o .inv .3),
+      more (sideOf p (end p (s .args .i))) (o .out) (o .j) _ (omega (arith, o .inv .3)) (o .inv .4) refl,
+      λ k h. getD-set-other (o .out) (o .j) k _ false (λ d. omega (arith, d)) ∙ o .inv .5 k (omega arith),
+    )
 
 returns : tie.Need-returns Inv-loop μ-loop
 returns c =

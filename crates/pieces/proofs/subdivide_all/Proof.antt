@@ -61,7 +61,8 @@ window : (c : tie.Then1 Inv-loop μ-loop)
     → let y = c .before .before .before .before .before .before .before .before in
     let o = y .before .before .before .before .before .before .before .before .before .before in
     let a = begin o .args in
-    (a .first + a .reserve) * 4 ≤ length (putMid (o .loop .at * 4) (length (o .loop .cells) - o .loop .at * 4) (o .loop .cells) (y .subdivide .last .1 .1 .1 .0))
+    (a .first + a .reserve) * 4 ≤ length
+    (putMid (o .loop .at * 4) (length (o .loop .cells) - o .loop .at * 4) (o .loop .cells) (y .subdivide .last .1 .1 .1 .0))
 window c =
     let y = c .before .before .before .before .before .before .before .before in
     let x = y .before .before .before .before .before .before in
@@ -87,12 +88,20 @@ collect-requires c κs =
 
 -- the places to be cleared begin within the list
 low : (c : tie.Then1 Inv-loop μ-loop)
-    → let o = c .before .before .before .before .before .before .before .before .before .before .before .before .before .before .before .before .before .before in
+    → let o = c .before .before .before .before .before .before .before .before .before .before .before .before .before .before .before .before .before
+    .before in
     begin o .args .first * 16 < 2 ^ 64
-low c = let o = c .before .before .before .before .before .before .before .before .before .before .before .before .before .before .before .before .before .before in omega (arith, begin o .pre .0 .places, begin o .good .1 .1 .1 .0)
+low c =
+    let o =
+    c .before .before .before .before .before .before .before .before .before .before .before .before .before .before .before .before .before .before in
+    omega (arith, begin o .pre .0 .places, begin o .good .1 .1 .1 .0)
 
 loop-holds : tie.Need-loop-holds Inv-loop μ-loop
-loop-holds c = (search needs, refl, course.start (c .before .before .before .before .before .before .before .before .before .before .before .before .before .before .pre .0) _)
+loop-holds c = (
+  search needs,
+  refl,
+  course.start (c .before .before .before .before .before .before .before .before .before .before .before .before .before .before .pre .0) _,
+)
 
 piece-points-requires : tie.Need-piece-points-requires Inv-loop μ-loop
 piece-points-requires c κs = let f = begin (c .before) .pre .0 in (f .kept, c .loop-test .taken, f .sheet)
@@ -129,8 +138,13 @@ subdivide-requires c κs =
     let x = c .before .before .before .before .before in
     let o = x .before .before .before .before in
     let k = o .before .before .before in
-    let e = k .collect .ensures in
-    (course.can (begin o .pre .0) _ (o .loop .inv .2) (read x), simp (length-take, length-drop) (omega (arith, room x)), course.held (begin o .pre .0) _ (o .loop .inv .2) (gathering.held _ _ _ _ _ _ _ _ refl refl (k .before .before .before .before .window .ensures) (e .0) (e .1) (e .2)), course.rim-room (begin o .pre .0) _ (o .loop .inv .2) (read x) (begin o .pre .1))
+    let e = k .collect .ensures in (
+      course.can (begin o .pre .0) _ (o .loop .inv .2) (read x),
+      simp (length-take, length-drop) (omega (arith, room x)),
+      course.held (begin o .pre .0) _ (o .loop .inv .2)
+          (gathering.held _ _ _ _ _ _ _ _ refl refl (k .before .before .before .before .window .ensures) (e .0) (e .1) (e .2)),
+      course.rim-room (begin o .pre .0) _ (o .loop .inv .2) (read x) (begin o .pre .1),
+    )
 
 mul-window : tie.Need-mul-window Inv-loop μ-loop
 mul-window c = omega (arith, low c)

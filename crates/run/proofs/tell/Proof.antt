@@ -1,4 +1,4 @@
--- `tell` meets its contract: where nothing was told there is no text.
+-- `tell`: where nothing was told there is no text.
 use mathlib.Core.Path.{ap}
 use lib.ListN.{length}
 use Rattle.told.proofs.Rows.{tells-nothing}

@@ -1,4 +1,4 @@
--- `write_told` meets its contract: the text in front of the list is that of what was told.
+-- `write_told`: the text in front of the list is that of what was told.
 use Prim.Native.Nat.{ℕ}
 use mathlib.Core.Path.{sym, ap, subst}
 use mathlib.Core.List.{List}

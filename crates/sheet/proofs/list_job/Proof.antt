@@ -1,4 +1,5 @@
--- `list_job` meets its contract: it prints the nodes of a run that has ended. The loop's invariant: the state, the ring that waits, the nodes and their rim marks were reached by the bytes read so far.
+-- `list_job`: it prints the nodes of a run that has ended. The loop's invariant: the state, the ring that waits, the nodes and their rim marks were reached
+-- by the bytes read so far.
 use Prim.Native.Nat.{_-_, _≤_}
 use mathlib.Core.Path.{_≡_, refl, sym, _∙_}
 use mathlib.Core.Bool.{cond}
@@ -39,7 +40,9 @@ array-share-prefix-bytes : tie.Need-array-share-prefix-bytes Inv-loop μ-loop
 array-share-prefix-bytes c = let q = c .before .read-block in omega (arith, q .ensures, q .kept .1 .0, c .before .before .before .before .before .loop .inv .4)
 
 slice-aggregate-step : tie.Need-slice-aggregate-step Inv-loop μ-loop
-slice-aggregate-step c = let q = c .before .before .read-block in part-length _ 512 _ (q .kept .1 .0 ∙ c .before .before .before .before .before .before .loop .inv .4) (q .ensures)
+slice-aggregate-step c =
+    let q = c .before .before .read-block in
+    part-length _ 512 _ (q .kept .1 .0 ∙ c .before .before .before .before .before .before .loop .inv .4) (q .ensures)
 
 slice-aggregate-step-2 : tie.Need-slice-aggregate-step-2 Inv-loop μ-loop
 slice-aggregate-step-2 c = sym (c .before .before .before .before .before .before .before .loop .inv .1)
@@ -54,14 +57,17 @@ slice-aggregate-step-5 : tie.Need-slice-aggregate-step-5 Inv-loop μ-loop
 slice-aggregate-step-5 c = sym (c .before .before .before .before .before .before .before .before .before .before .loop .inv .5)
 
 step-requires : tie.Need-step-requires Inv-loop μ-loop
-step-requires c κs = let l = c .before .before .before .before .before .before .before .before .before .before .loop in (can-step _ _ _ _ (l .inv .0), l .inv .5)
+step-requires c κs =
+    let l = c .before .before .before .before .before .before .before .before .before .before .loop in (can-step _ _ _ _ (l .inv .0), l .inv .5)
 
 loop-less : tie.Need-loop-less Inv-loop μ-loop
 loop-less c =
     let l = c .before .before .before .before .before .before .before .before .before .before .before .before .before .before .before .before .loop in
     let q = c .before .before .before .before .before .before .before .before .before .before .before .before .read-block in
     let g = c .before .before .before .before .before .before .before .before .before .before .before .before .before .before .before .goes-on in
-    let e = not-true (l .s .ended) (sym (g .ensures) ∙ c .before .before .before .before .before .before .before .before .before .before .before .before .before .before .if1 .taken) in
+    let e =
+    not-true (l .s .ended)
+    (sym (g .ensures) ∙ c .before .before .before .before .before .before .before .before .before .before .before .before .before .before .if1 .taken) in
     let p = c .before .before .before .before .before .step in
     let b = take (q .result) (q .last .1 .0) in
     let h : length b ≤ 512 = omega (arith, length-take (q .result) (q .last .1 .0), q .ensures) in
@@ -72,11 +78,19 @@ loop-again c =
     let l = c .before .before .before .before .before .before .before .before .before .before .before .before .before .before .before .before .loop in
     let q = c .before .before .before .before .before .before .before .before .before .before .before .before .read-block in
     let g = c .before .before .before .before .before .before .before .before .before .before .before .before .before .before .before .goes-on in
-    let e = not-true (l .s .ended) (sym (g .ensures) ∙ c .before .before .before .before .before .before .before .before .before .before .before .before .before .before .if1 .taken) in
+    let e =
+    not-true (l .s .ended)
+    (sym (g .ensures) ∙ c .before .before .before .before .before .before .before .before .before .before .before .before .before .before .if1 .taken) in
     let p = c .before .before .before .before .before .step in
     let b = take (q .result) (q .last .1 .0) in
-    let h : length b ≤ 512 = omega (arith, length-take (q .result) (q .last .1 .0), q .ensures) in
-    (turned (l .s) (l .ring) (l .nodes) (l .rims) (l .inv .0) e b (p .ensures .1) h (p .result) _ _ _ _ (p .ensures .0), p .kept .1 .1 .0 ∙ l .inv .1, p .kept .1 .1 .1 .0 ∙ l .inv .2, p .kept .1 .1 .1 .1 .0 ∙ l .inv .3, q .kept .1 .0 ∙ l .inv .4, p .kept .1 .1 .1 .1 .1 .0 ∙ l .inv .5)
+    let h : length b ≤ 512 = omega (arith, length-take (q .result) (q .last .1 .0), q .ensures) in (
+      turned (l .s) (l .ring) (l .nodes) (l .rims) (l .inv .0) e b (p .ensures .1) h (p .result) _ _ _ _ (p .ensures .0),
+      p .kept .1 .1 .0 ∙ l .inv .1,
+      p .kept .1 .1 .1 .0 ∙ l .inv .2,
+      p .kept .1 .1 .1 .1 .0 ∙ l .inv .3,
+      q .kept .1 .0 ∙ l .inv .4,
+      p .kept .1 .1 .1 .1 .1 .0 ∙ l .inv .5,
+    )
 
 slice-aggregate-print-sheet : tie.Need-slice-aggregate-print-sheet Inv-loop μ-loop
 slice-aggregate-print-sheet c = sym (c .before .before .before .loop .inv .2)
@@ -89,7 +103,9 @@ print-sheet-requires c κs =
 returns : tie.Need-returns Inv-loop μ-loop
 returns c =
     let l = c .before .before .before .before .loop in
-    let w = listed (l .s) (l .ring) (l .nodes) (l .rims) (l .inv .0) (not-false (l .s .ended) (sym (c .before .before .before .goes-on .ensures) ∙ c .before .before .if1 .left)) in
+    let w =
+    listed (l .s) (l .ring) (l .nodes) (l .rims) (l .inv .0)
+    (not-false (l .s .ended) (sym (c .before .before .before .goes-on .ensures) ∙ c .before .before .if1 .left)) in
     λ e. finished (l .s .used) (l .nodes) (c .print-sheet .result .bytes) w (c .print-sheet .ensures e)
 
 pub list-job-spec : {M : Type 1} → statement M

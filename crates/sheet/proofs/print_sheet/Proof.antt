@@ -1,4 +1,4 @@
--- `print_sheet` meets its contract. The loop's invariant: as many bytes were written as the lines of the first i nodes have. The test gives what a line asks for.
+-- `print_sheet`. The loop's invariant: as many bytes were written as the lines of the first i nodes have. The test gives what a line asks for.
 use Prim.Native.Nat.{ℕ, _-_, _≤_}
 use mathlib.Core.Path.{_≡_, refl, sym, ap, _∙_}
 use mathlib.Core.Bool.{true}
@@ -28,8 +28,12 @@ returns c = λ e. not-both true refl e
 
 loop-holds : tie.Need-loop-holds Inv-loop μ-loop
 loop-holds c =
-    let s = c .before .before .before in
-    (search needs, usable (s .args .nodes .now) (s .args .used) (sym (c .before .nodes-out .ensures) ∙ c .if1 .left), none-written (s .args .nodes .now), s .pre)
+    let s = c .before .before .before in (
+      search needs,
+      usable (s .args .nodes .now) (s .args .used) (sym (c .before .nodes-out .ensures) ∙ c .if1 .left),
+      none-written (s .args .nodes .now),
+      s .pre,
+    )
 
 slice-aggregate-put-line : tie.Need-slice-aggregate-put-line Inv-loop μ-loop
 slice-aggregate-put-line c = search needs
@@ -70,8 +74,12 @@ loop-again c =
     let u = l .inv .1 in
     let h = c .before .before .before .before .before .before .loop-test .taken in
     let p = c .before .before .before .before .put-line in
-    let t = whole-line (a .nodes .now) (l .i) (omega (arith, u .few, h)) _ _ _ (p .ensures) (p .kept .0) in
-    (search needs, u, more-lines (a .nodes .now) (l .i) (l .sent) (c .before .send .result .bytes) _ (l .inv .2) t (c .before .send .ensures (c .if2 .left)), l .inv .3)
+    let t = whole-line (a .nodes .now) (l .i) (omega (arith, u .few, h)) _ _ _ (p .ensures) (p .kept .0) in (
+      search needs,
+      u,
+      more-lines (a .nodes .now) (l .i) (l .sent) (c .before .send .result .bytes) _ (l .inv .2) t (c .before .send .ensures (c .if2 .left)),
+      l .inv .3,
+    )
 
 returns-3 : tie.Need-returns-3 Inv-loop μ-loop
 returns-3 c =

@@ -1,5 +1,5 @@
--- `pops` meets its contract: whatever stack the start shows, the result shows that stack popped until none is left. The loop's invariant: after i turns
--- the state shows the stack after i pops; an empty stack stays as it is. Assumes nothing.
+-- `pops`: whatever stack the start shows, the result shows that stack popped until none is left. The loop's invariant: after i turns
+-- the state shows the stack after i pops; an empty stack stays as it is.
 use Prim.Native.Nat.{ℕ, _+_, _-_, _*_, _≤_, _<_}
 use native.Mathlib.Omega.{arith}
 use mathlib.Core.Path.{_≡_, refl, subst}
@@ -37,8 +37,11 @@ loop-holds c = let s = c .before in (omega arith, refl, s .pre .0, λ es len t h
 returns : tie.Need-returns Inv-loop μ-loop
 returns c =
     let l = c .before .before .before in
-    let s = l .before .before in
-    (l .loop .inv .2, λ es len t h. follows-empty (s .args .ring) es (s .args .limits) t (l .loop .s) (l .loop .i) _ (l .loop .inv .0) (c .if1 .taken) (l .loop .inv .3 es len t h))
+    let s = l .before .before in (
+      l .loop .inv .2,
+      λ es len t h. follows-empty (s .args .ring) es (s .args .limits) t (l .loop .s) (l .loop .i) _ (l .loop .inv .0) (c .if1 .taken)
+          (l .loop .inv .3 es len t h),
+    )
 
 pop-requires : tie.Need-pop-requires Inv-loop μ-loop
 pop-requires c κs =
@@ -55,15 +58,22 @@ loop-less c = search needs
 loop-again : tie.Need-loop-again Inv-loop μ-loop
 loop-again c =
     let l = c .before .before .before .before in
-    let s = l .before .before in
-    (omega arith, refl, c .pop .ensures .0, λ es len t h. follows-next (s .args .ring) es (s .args .limits) t (l .loop .s) (c .pop .result) (l .loop .i) (l .loop .inv .3 es len t h) (c .pop .ensures .1 es len))
+    let s = l .before .before in (
+      omega arith,
+      refl,
+      c .pop .ensures .0,
+      λ es len t h. follows-next (s .args .ring) es (s .args .limits) t (l .loop .s) (c .pop .result) (l .loop .i) (l .loop .inv .3 es len t h)
+          (c .pop .ensures .1 es len),
+    )
 
 returns-2 : tie.Need-returns-2 Inv-loop μ-loop
 returns-2 c =
     let l = c .before in
     let s = l .before .before in
-    let e : l .loop .i ≡ 2 * s .args .limits .cuts + 1 = omega arith in
-    (l .loop .inv .2, λ es len t h. subst (λ (k : ℕ). Follows (s .args .ring) es (l .loop .s) (Split.pops (s .args .limits) k t)) e (l .loop .inv .3 es len t h))
+    let e : l .loop .i ≡ 2 * s .args .limits .cuts + 1 = omega arith in (
+      l .loop .inv .2,
+      λ es len t h. subst (λ (k : ℕ). Follows (s .args .ring) es (l .loop .s) (Split.pops (s .args .limits) k t)) e (l .loop .inv .3 es len t h),
+    )
 
 pub pops-spec : {M : Type 1} → statement M
 pops-spec =

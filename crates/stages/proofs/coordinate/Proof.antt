@@ -1,4 +1,4 @@
--- `coordinate` meets its contract: what it casts is below 2 ^ 23.
+-- `coordinate`: what it casts is below 2 ^ 23.
 use Prim.Native.Nat.{_-_}
 use native.Mathlib.Omega.{arith}
 use borrow.Author.Needs.{needs}

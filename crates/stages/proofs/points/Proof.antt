@@ -97,8 +97,12 @@ loop-less c = search needs
 
 loop-again : tie.Need-loop-again Inv-loop μ-loop
 loop-again c =
-    let l = c .before .before .before .before .before .loop in
-    (search needs, all-set OnSheet origin (l .out) (l .i) _ (l .inv .1) (values.on-sheet (c .before .before .coordinate .result) (c .coordinate2 .result) (c .before .before .coordinate .ensures) (c .coordinate2 .ensures)), simp length-set (l .inv .2))
+    let l = c .before .before .before .before .before .loop in (
+      search needs,
+      all-set OnSheet origin (l .out) (l .i) _ (l .inv .1)
+          (values.on-sheet (c .before .before .coordinate .result) (c .coordinate2 .result) (c .before .before .coordinate .ensures) (c .coordinate2 .ensures)),
+      simp length-set (l .inv .2),
+    )
 
 count-requires : tie.Need-count-requires Inv-loop μ-loop
 count-requires c κs = search needs

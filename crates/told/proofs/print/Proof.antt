@@ -1,4 +1,4 @@
--- `print` meets its contract. Laws in proofs/Rows.
+-- `print`: laws in proofs/Rows.
 use native.Mathlib.Omega.{arith}
 use borrow.Author.Needs.{needs}
 use mathlib.Core.Path.{refl}
@@ -43,7 +43,8 @@ returns-2 : tie.Need-returns-2
 returns-2 c =
     let a = c .before .before .before .before .before .before .before .before .before .args in
     let p = c .before .before .print-row in
-    printed-as true (a .text .now) _ _ (p .result) (p .last .0) refl (tells-ring (a .told) (a .cells .now) _ _ _ (c .before .before .before .before .before .told .given .1)) (p .ensures)
+    printed-as true (a .text .now) _ _ (p .result) (p .last .0) refl
+    (tells-ring (a .told) (a .cells .now) _ _ _ (c .before .before .before .before .before .told .given .1)) (p .ensures)
 
 same-length-2 : tie.Need-same-length-2
 same-length-2 c = search needs
@@ -53,7 +54,8 @@ returns-3 c =
     let s = c .before .before .before .before .before .before .before .before .before in
     let a = s .args in
     let p = c .before .before .print-refused-block in
-    printed-as (Report.holds (a .text .now)) (a .text .now) _ _ (p .result) (p .last .0) (has-room (a .text .now) (s .pre .1)) (tells-block (a .told) (a .cells .now) _ _ (c .before .before .before .before .before .told2 .given .1)) (p .ensures)
+    printed-as (Report.holds (a .text .now)) (a .text .now) _ _ (p .result) (p .last .0) (has-room (a .text .now) (s .pre .1))
+    (tells-block (a .told) (a .cells .now) _ _ (c .before .before .before .before .before .told2 .given .1)) (p .ensures)
 
 pub print-spec : {M : Type 1} → statement M
 print-spec =

@@ -1,4 +1,4 @@
--- `print_row` meets its contract. Laws in proofs/Rows.
+-- `print_row`: laws in proofs/Rows.
 use Prim.Native.Nat.{_*_}
 use mathlib.Core.Path.{refl}
 use native.Mathlib.Omega.{arith}
@@ -21,7 +21,8 @@ returns c =
     let s = c .before .before .before .before .before .before .before .before in
     let a = s .args in
     let p = c .before .before .print-refused-ring in
-    printed-as (Report.holds (a .text .now)) (a .text .now) _ _ (p .result) (p .last .0) (has-room (a .text .now) (s .pre .2)) (row-refused (a .ring) (a .used) (a .v) (a .cells .now) (c .before .before .before .before .if1 .taken)) (p .ensures)
+    printed-as (Report.holds (a .text .now)) (a .text .now) _ _ (p .result) (p .last .0) (has-room (a .text .now) (s .pre .2))
+    (row-refused (a .ring) (a .used) (a .v) (a .cells .now) (c .before .before .before .before .if1 .taken)) (p .ensures)
 
 sub-t12 : tie.Need-sub-t12
 sub-t12 c =
@@ -51,7 +52,9 @@ returns-2 c =
     let a = s .args in
     let p = c .before .before .print-ring in
     let z = c .before .before .before .before .before .before .if1 .left in
-    printed-as _ (a .text .now) _ _ (p .result) (p .last .0) (has-both (a .text .now) (a .cells .now) (a .v .cells * 4) (s .pre .2) (s .pre .1) (s .pre .0 .listed z)) (row-accepted (a .ring) (a .used) (a .v) (a .cells .now) z) (p .ensures)
+    printed-as _ (a .text .now) _ _ (p .result) (p .last .0)
+    (has-both (a .text .now) (a .cells .now) (a .v .cells * 4) (s .pre .2) (s .pre .1) (s .pre .0 .listed z))
+    (row-accepted (a .ring) (a .used) (a .v) (a .cells .now) z) (p .ensures)
 
 pub print-row-spec : {M : Type 1} → statement M
 print-row-spec =

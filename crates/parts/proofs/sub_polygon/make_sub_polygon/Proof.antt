@@ -25,8 +25,12 @@ returns c =
     let vs = s .args .vs in
     let b = back (a .polygon-area .result) (omega (arith, a .polygon-area .ensures .1)) ∙ a .polygon-area .ensures .0 in
     let n = Segments.by-sign _ _ true b (c .if1 .taken) in
-    let e = a .before .rotated-points .ensures .0 ∙ Segments.from-first ring vs (s .args .m) in
-    (λ es len. Segments.kept-part ring vs (s .args .m) _ e es len (omega arith) (s .pre .4) n, Segments.none-turned ring vs (s .args .m) _ e n, s .pre .2, lit≤ tt)
+    let e = a .before .rotated-points .ensures .0 ∙ Segments.from-first ring vs (s .args .m) in (
+      λ es len. Segments.kept-part ring vs (s .args .m) _ e es len (omega arith) (s .pre .4) n,
+      Segments.none-turned ring vs (s .args .m) _ e n,
+      s .pre .2,
+      lit≤ tt,
+    )
 
 reversed-requires : tie.Need-reversed-requires
 reversed-requires c κs = search needs
@@ -47,7 +51,8 @@ returns-2 c =
     let n = Segments.by-sign _ _ false b (c .before .before .if1 .left) in
     let e = a .before .rotated-points .ensures .0 ∙ Segments.from-first ring vs (s .args .m) in
     let d : c .magnitude .result ≡ natAbs (a .polygon-area .result) = c .magnitude .ensures ∙ ap natAbs z in (
-      λ es len. Segments.turned-part ring vs (s .args .m) _ e es len (omega arith) (s .pre .4) (c .before .reversed .result) (c .before .reversed .ensures .0) n,
+      λ es len.
+          Segments.turned-part ring vs (s .args .m) _ e es len (omega arith) (s .pre .4) (c .before .reversed .result) (c .before .reversed .ensures .0) n,
       c .magnitude .ensures ∙ ap natAbs b ∙ Segments.all-turned ring vs (s .args .m) _ e n,
       c .before .reversed .ensures .1,
       rw d (a .polygon-area .ensures .1),

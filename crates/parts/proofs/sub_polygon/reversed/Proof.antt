@@ -1,4 +1,4 @@
--- `reversed` meets its contract. The loop's invariant: the places filled are the corners counted back, each with the edge that now starts there. Assumes nothing.
+-- `reversed`. The loop's invariant: the places filled are the corners counted back, each with the edge that now starts there.
 use lib.Dec.{lit<}
 use Rattle.parts.specs.Vertices.{noVertex, vertex, Below, backward}
 use Rattle.parts.proofs.Segments as Segments
@@ -14,7 +14,8 @@ use Rattle.parts.proofs.sub_polygon.reversed.Statement.{statement}
 use Rattle.parts.proofs.sub_polygon.reversed.Tie as tie
 
 abbrev Inv-loop : tie.InvT-loop
-Inv-loop m vs out₀ a₀ i₀ i-end out a i = (i + 1 ≤ m) × (m ≤ 60) × (length out ≡ 60) × (a ≡ vertex vs (m - 1 - i)) × (take i out ≡ tab (backward vs m) i) × Below out × Below vs
+Inv-loop m vs out₀ a₀ i₀ i-end out a i =
+    (i + 1 ≤ m) × (m ≤ 60) × (length out ≡ 60) × (a ≡ vertex vs (m - 1 - i)) × (take i out ≡ tab (backward vs m) i) × Below out × Below vs
 
 abbrev μ-loop : tie.MeasureT-loop
 μ-loop m vs out₀ a₀ i₀ i-end out a i = m - i
@@ -71,7 +72,8 @@ loop-again c =
       search needs,
       simp length-set (l .inv .2),
       ap (vertex vs) e,
-      more (backward vs (s .args .m)) (l .out) (l .i) _ (omega (arith, l .inv .2)) (l .inv .4) (Segments.backward-in vs (s .args .m) (l .i) (l .a) (omega arith) (l .inv .3)),
+      more (backward vs (s .args .m)) (l .out) (l .i) _ (omega (arith, l .inv .2)) (l .inv .4)
+          (Segments.backward-in vs (s .args .m) (l .i) (l .a) (omega arith) (l .inv .3)),
       all-set (λ v. v .at < 60) noVertex (l .out) (l .i) _ (l .inv .5) (rw (l .inv .3) (l .inv .6 _)),
       l .inv .6,
     )
@@ -90,7 +92,8 @@ returns c =
     let l = c .before .loop in
     let s = c .before .before .before in
     let vs = s .args .t1 in (
-      more-last (backward vs (s .args .m)) (l .out) (l .i) (s .args .m) _ (omega arith) (omega arith) (omega (arith, l .inv .2)) (l .inv .4) (Segments.backward-last vs (s .args .m) (l .i) (l .a) (omega arith) (l .inv .3)),
+      more-last (backward vs (s .args .m)) (l .out) (l .i) (s .args .m) _ (omega arith) (omega arith) (omega (arith, l .inv .2)) (l .inv .4)
+          (Segments.backward-last vs (s .args .m) (l .i) (l .a) (omega arith) (l .inv .3)),
       all-set (λ v. v .at < 60) noVertex (l .out) _ _ (l .inv .5) (rw (l .inv .3) (l .inv .6 _)),
     )
 

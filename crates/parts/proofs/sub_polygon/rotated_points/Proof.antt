@@ -15,13 +15,26 @@ use Rattle.parts.proofs.sub_polygon.rotated_points.Statement.{statement
 use Rattle.parts.proofs.sub_polygon.rotated_points.Tie as tie
 
 abbrev Inv-loop : tie.InvT-loop
-Inv-loop n v ring vs out₀ j₀ i₀ out j i = (i ≤ n) × (n ≤ 60) × (length (out .points) ≡ 60) × (j < n) × (j ≡ (v + i) % n) × (take i (out .points) ≡ tab (λ i. cornerPoint ring vs ((v + i) % n)) i) × AllOnSheet (out .points) × Below vs × AllOnSheet ring × (out .count ≡ n)
+Inv-loop n v ring vs out₀ j₀ i₀ out j i =
+    (i ≤ n) × (n ≤ 60) × (length (out .points) ≡ 60) × (j < n) × (j ≡ (v + i) % n) × (take i (out .points) ≡ tab (λ i. cornerPoint ring vs ((v + i) % n)) i)
+    × AllOnSheet (out .points) × Below vs × AllOnSheet ring × (out .count ≡ n)
 
 abbrev μ-loop : tie.MeasureT-loop
 μ-loop n v ring vs out₀ j₀ i₀ out j i = n - i
 
 loop-holds : tie.Need-loop-holds Inv-loop μ-loop
-loop-holds c = (search needs, search needs, refl, search needs, start-mod (c .args .v) (c .args .n) (omega arith), tab-none _, all-same OnSheet origin 60 _ origin-on origin-on, c .pre .2, c .pre .3, refl)
+loop-holds c = (
+  search needs,
+  search needs,
+  refl,
+  search needs,
+  start-mod (c .args .v) (c .args .n) (omega arith),
+  tab-none _,
+  all-same OnSheet origin 60 _ origin-on origin-on,
+  c .pre .2,
+  c .pre .3,
+  refl,
+)
 
 mul-c : tie.Need-mul-c Inv-loop μ-loop
 mul-c c = search needs
@@ -64,7 +77,8 @@ loop-again c =
       simp length-set (l .inv .2),
       c .next .ensures .1,
       step-mod (s .args .v) (l .i) (s .args .n) (l .j) (c .next .result) (l .inv .4) (c .next .ensures .0),
-      more (λ i. cornerPoint ring vs ((s .args .v + i) % s .args .n)) (l .out .points) (l .i) (cornerPoint ring vs (l .j)) (omega (arith, l .inv .2)) (l .inv .5) (ap (cornerPoint ring vs) (l .inv .4)),
+      more (λ i. cornerPoint ring vs ((s .args .v + i) % s .args .n)) (l .out .points) (l .i) (cornerPoint ring vs (l .j)) (omega (arith, l .inv .2))
+          (l .inv .5) (ap (cornerPoint ring vs) (l .inv .4)),
       all-set OnSheet origin (l .out .points) (l .i) (cornerPoint ring vs (l .j)) (l .inv .6) (l .inv .8 _),
       l .inv .7,
       l .inv .8,

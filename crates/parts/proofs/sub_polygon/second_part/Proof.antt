@@ -1,4 +1,4 @@
--- `second_part` meets its contract: the corners from the diagonal's end on, back to its start. Assumes nothing.
+-- `second_part`: the corners from the diagonal's end on, back to its start.
 use Prim.Native.Nat.{_+_, _-_, _%_}
 use native.Mathlib.Nat.{mod-lt}
 use mathlib.Core.Path.{ap, _∙_}
@@ -37,7 +37,8 @@ make-sub-polygon-requires c κs =
       omega arith,
       c .segment .ensures .1,
       s .pre .5,
-      Segments.seg-straight (s .args .vs) (c .segment .result) (s .args .n) ((s .args .v + s .args .k) % s .args .n) (s .args .n - s .args .k + 1) (omega arith) (c .segment .ensures .0),
+      Segments.seg-straight (s .args .vs) (c .segment .result) (s .args .n) ((s .args .v + s .args .k) % s .args .n) (s .args .n - s .args .k + 1)
+          (omega arith) (c .segment .ensures .0),
     )
 
 returns : tie.Need-returns
@@ -45,8 +46,13 @@ returns c =
     let s = c .before .before in
     let g = c .before .segment in
     let m = c .make-sub-polygon .ensures in (
-      λ es len. m .0 es len ∙ Segments.second-is (s .args .ring) (s .args .vs) (s .args .n) (s .args .v) (s .args .k) (omega arith) (g .result) es (omega arith) (omega arith) (g .ensures .0),
-      m .1 ∙ ap turnedArea (Segments.second-points (s .args .ring) (s .args .vs) (s .args .n) (s .args .v) (s .args .k) (omega arith) (g .result) (omega arith) (omega arith) (g .ensures .0)),
+      λ es len. m .0 es len
+          ∙ Segments.second-is (s .args .ring) (s .args .vs) (s .args .n) (s .args .v) (s .args .k) (omega arith) (g .result) es (omega arith) (omega arith)
+          (g .ensures .0),
+      m .1
+          ∙ ap turnedArea
+          (Segments.second-points (s .args .ring) (s .args .vs) (s .args .n) (s .args .v) (s .args .k) (omega arith) (g .result) (omega arith) (omega arith)
+          (g .ensures .0)),
       m .2,
       m .3,
     )

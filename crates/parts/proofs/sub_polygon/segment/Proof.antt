@@ -1,4 +1,4 @@
--- `segment` meets its contract. The loop's invariant: the places filled are the corners from v on, counted round. Assumes nothing.
+-- `segment`. The loop's invariant: the places filled are the corners from v on, counted round.
 use lib.Dec.{lit<}
 use Rattle.parts.specs.Vertices.{noVertex, vertex, Below, closing}
 use Rattle.parts.proofs.Segments as Segments
@@ -14,7 +14,8 @@ use Rattle.parts.proofs.sub_polygon.segment.Statement.{statement}
 use Rattle.parts.proofs.sub_polygon.segment.Tie as tie
 
 abbrev Inv-loop : tie.InvT-loop
-Inv-loop n v m vs out₀ j₀ i₀ i-end out j i = (i + 1 ≤ m) × (m ≤ n) × (n ≤ 60) × (length out ≡ 60) × (j < n) × (j ≡ (v + i) % n) × (take i out ≡ tab (closing vs n v m) i) × Below out × Below vs
+Inv-loop n v m vs out₀ j₀ i₀ i-end out j i =
+    (i + 1 ≤ m) × (m ≤ n) × (n ≤ 60) × (length out ≡ 60) × (j < n) × (j ≡ (v + i) % n) × (take i out ≡ tab (closing vs n v m) i) × Below out × Below vs
 
 abbrev μ-loop : tie.MeasureT-loop
 μ-loop n v m vs out₀ j₀ i₀ i-end out j i = m - i
@@ -23,7 +24,17 @@ sub-i-end : tie.Need-sub-i-end Inv-loop μ-loop
 sub-i-end c = search needs
 
 loop-holds : tie.Need-loop-holds Inv-loop μ-loop
-loop-holds c = (omega arith, search needs, search needs, refl, search needs, start-mod (c .args .v) (c .args .n) (omega arith), tab-none _, all-same (λ v. v .at < 60) noVertex 60 _ (lit< tt) (lit< tt), c .pre .4)
+loop-holds c = (
+  omega arith,
+  search needs,
+  search needs,
+  refl,
+  search needs,
+  start-mod (c .args .v) (c .args .n) (omega arith),
+  tab-none _,
+  all-same (λ v. v .at < 60) noVertex 60 _ (lit< tt) (lit< tt),
+  c .pre .4,
+)
 
 mul-c : tie.Need-mul-c Inv-loop μ-loop
 mul-c c = search needs
@@ -57,7 +68,8 @@ loop-again c =
       simp length-set (l .inv .3),
       c .next .ensures .1,
       step-mod (s .args .v) (l .i) (s .args .n) (l .j) (c .next .result) (l .inv .5) (c .next .ensures .0),
-      more (closing vs (s .args .n) (s .args .v) (s .args .m)) (l .out) (l .i) (vertex vs (l .j)) (omega (arith, l .inv .3)) (l .inv .6) (Segments.closing-in vs (s .args .n) (s .args .v) (s .args .m) (l .i) (l .j) (omega arith) (l .inv .5)),
+      more (closing vs (s .args .n) (s .args .v) (s .args .m)) (l .out) (l .i) (vertex vs (l .j)) (omega (arith, l .inv .3)) (l .inv .6)
+          (Segments.closing-in vs (s .args .n) (s .args .v) (s .args .m) (l .i) (l .j) (omega arith) (l .inv .5)),
       all-set (λ v. v .at < 60) noVertex (l .out) (l .i) (vertex vs (l .j)) (l .inv .7) (l .inv .8 (l .j)),
       l .inv .8,
     )
@@ -82,7 +94,8 @@ returns c =
     let l = c .before .before .loop in
     let s = c .before .before .before in
     let vs = s .args .t1 in (
-      more-last (closing vs (s .args .n) (s .args .v) (s .args .m)) (l .out) (l .i) (s .args .m) _ (omega arith) (omega arith) (omega (arith, l .inv .3)) (l .inv .6) (Segments.closing-last vs (s .args .n) (s .args .v) (s .args .m) (l .i) (l .j) (omega arith) (l .inv .5)),
+      more-last (closing vs (s .args .n) (s .args .v) (s .args .m)) (l .out) (l .i) (s .args .m) _ (omega arith) (omega arith) (omega (arith, l .inv .3))
+          (l .inv .6) (Segments.closing-last vs (s .args .n) (s .args .v) (s .args .m) (l .i) (l .j) (omega arith) (l .inv .5)),
       all-set (λ v. v .at < 60) noVertex (l .out) _ _ (l .inv .7) (l .inv .8 (l .j)),
     )
 

@@ -1,4 +1,3 @@
--- `pieces::extent::side` meets its contract.
 use mathlib.Core.Path.{sym, subst}
 use mathlib.Core.Bool.{true, false}
 use lib.IntN.{pos}
