@@ -1,4 +1,5 @@
--- The picture of a job as one definition, `pictured`, from the bytes that go in to those that come out. Definitions only.
+-- The picture of a job as one definition, `pictured`, from the bytes that go in to those that come out; and what is owed of it after so many bytes. Of what was
+-- written no contract can speak, so it stands for its length. Definitions only.
 use Prim.Native.Nat.{ℕ, zero, suc, _+_, _*_, _/_, _≤_}
 use mathlib.Core.Path.{_≡_}
 use mathlib.Core.Bool.{true, false, cond}
@@ -11,8 +12,8 @@ use Rattle.table.specs.declared.Row.{Row}
 use Rattle.told.specs.declared.Told.{Told}
 use Rattle.told.specs.declared.Told.the-variants.{Nothing, Ring, Block}
 use Rattle.job.specs.Step.{Step, stepOf}
-use Rattle.job.specs.Run.{Course, ran, readTo, blockAt}
-use Rattle.scene.specs.Scene.{ringText, nodesText}
+use Rattle.job.specs.Run.{Course, ran, readTo, wholeRun, blockAt}
+use Rattle.scene.specs.Scene.{ringText, mostRing, nodesText}
 use Rattle.frame.specs.declared.Frame.{Frame}
 use Rattle.frame.specs.Bounds.{extentOf, frameOf}
 use Rattle.frame.specs.Head.{headText, endedText, footText}
@@ -33,31 +34,52 @@ stepDrawn f r b =
     let e = stepOf (r .state) (r .points) (r .nodes) (r .rims) b in
     cond (r .state .ended) [] (drawn f (e .told) (e .state .count) (e .points) (e .nodes) (e .rims) (e .cells))
 
--- of the first i blocks of a job
+-- the head, and what is drawn of the first i blocks of a job
 unfoldable pub drawnTo : Frame → List ℕ → ℕ → List ℕ
-drawnTo f l zero = []
+drawnTo f l zero = headText f
 drawnTo f l (suc i) = drawnTo f l i ++ stepDrawn f (ran (readTo l i)) (blockAt l i)
 
--- the whole: the head, the rings in their order, then all nodes that are listed in the end, and the foot
-unfoldable pub pictured : List ℕ → List ℕ
-pictured l =
-    let f = frameOf (extentOf l) in
-    let n = length l / 512 + 1 in
-    let r = ran (readTo l n) in
-    headText f ++ drawnTo f l n ++ nodesText (r .nodes) (r .rims) (r .state .used) ++ footText
+-- the head and the rings in their order
+unfoldable pub ringsDrawn : List ℕ → List ℕ
+ringsDrawn l = drawnTo (frameOf (extentOf l)) l (length l / 512 + 1)
 
--- t is what `pictured` has of one step of a job: of the run that its first blocks reached, and that goes on
-pub record Due (t : List ℕ) : Type 0 where
-  pub job : List ℕ
-  pub blocks : ℕ
-  pub going : ran (readTo job blocks) .state .ended ≡ false
-  pub text : t ≡ stepDrawn (frameOf (extentOf job)) (ran (readTo job blocks)) (blockAt job blocks)
+-- then the first i of the nodes that are listed in the end, and all of them
+unfoldable pub nodesDrawn : List ℕ → ℕ → List ℕ
+nodesDrawn l i = ringsDrawn l ++ nodesText (wholeRun l .nodes) (wholeRun l .rims) i
+
+unfoldable pub allDrawn : List ℕ → List ℕ
+allDrawn l = nodesDrawn l (wholeRun l .state .used)
+
+-- the whole: these, and the foot
+unfoldable pub pictured : List ℕ → List ℕ
+pictured l = allDrawn l ++ footText
+
+-- a job of less than 4 GB has no more bytes of head and rings, and no longer a picture
+abbrev pub mostRings : ℕ
+mostRings = 1000000000000
+
+abbrev pub mostPicture : ℕ
+mostPicture = 1099511627776
+
+-- as many bytes were written as t has
+pub record Wrote (t : List ℕ) (sent : ℕ) : Type 0 where
+  pub count : sent ≡ length t
+  pub bound : sent ≤ mostPicture
+
+-- t is what the picture of a job has next, after `sent` bytes
+pub record Owed (job : List ℕ) (sent : ℕ) (t : List ℕ) : Type 0 where
+  pub before : List ℕ
+  pub after : List ℕ
+  pub wrote : Wrote before sent
+  pub whole : pictured job ≡ before ++ t ++ after
+
+-- the text t, no longer than a ring's, was written after `sent` bytes, which makes n
+pub record Sends (sent : ℕ) (t : List ℕ) (n : ℕ) : Type 0 where
+  pub count : n ≡ sent + length t
+  pub short : length t ≤ mostRing
 
 -- the run of a job has ended, and left so many nodes in the list l with the rim marks rs
-pub record Left (used : ℕ) (l : List Float) (rs : List ℕ) : Type 0 where
-  pub job : List ℕ
-  pub blocks : ℕ
-  pub ended : ran (readTo job blocks) .state .ended ≡ true
-  pub count : used ≡ ran (readTo job blocks) .state .used
-  pub nodes : l ≡ ran (readTo job blocks) .nodes
-  pub rims : rs ≡ ran (readTo job blocks) .rims
+pub record Left (job : List ℕ) (used : ℕ) (l : List Float) (rs : List ℕ) : Type 0 where
+  pub count : used ≡ wholeRun job .state .used
+  pub nodes : l ≡ wholeRun job .nodes
+  pub rims : rs ≡ wholeRun job .rims

@@ -2,22 +2,27 @@
 // scale: outlines, cuts, cells and numbered nodes, refused rings in grey with their number, axes in mm and a scale bar.
 //
 // The box of the drawing stands in front, so the whole job is read first, 256 rings at most. Then the blocks are stepped over
-// as in run. specs/Picture says what comes out as one definition, `pictured`.
+// as in run. specs/Picture says what comes out as one definition, `pictured`: each text that is handed over is what it has
+// next after the bytes written so far, and a run that ends has written as many as it has. What is left to the operating
+// system's calls is said in run.
 
 ghost use mathlib.Core.Path.{_≡_};
+ghost use mathlib.Core.Bool.{false};
 ghost use Prim.Native.Nat.{_+_, _*_, _≤_, _<_};
 ghost use lib.ListN.{length};
 ghost use Rattle.text.specs.Text.{Written};
 ghost use Rattle.told.specs.Text.{CanTell, Shown};
 ghost use Rattle.scene.specs.Scene.{ringText, mostRing};
 ghost use Rattle.frame.specs.Bounds.{extentOf, frameOf};
-ghost use Rattle.picture.specs.Picture.{cellsOf, drawn, Due, Left};
+ghost use Rattle.frame.specs.Head.{headText, mostHead};
+ghost use Rattle.picture.specs.Picture.{cellsOf, drawn, ringsDrawn, allDrawn, pictured, mostRings, Wrote, Owed, Sends, Left};
 use frame::Frame;
 use job::State;
 use libc::STDERR_FILENO;
 use libc::STDIN_FILENO;
 use libc::STDOUT_FILENO;
 use nodes::NodeNumber;
+use run::Sent;
 use scene::MOST_RING;
 use table::Row;
 use told::Told;
@@ -107,8 +112,26 @@ fn put_told(
     }
 }
 
+// Writes the text that is owed after `sent` bytes.
+fn send(job: &[u8], text: &[u8], sent: u64) -> Sent
+    requires { ⌜ Owed (now job) sent (now text) × (length (now text) ≤ mostRing) ⌝ }
+    ensures { λ r. ⌜ (r .failed ≡ false → r .bytes ≡ sent + length (now (text .entry))) ⌝ }
+{
+    if run::write_all(STDOUT_FILENO, text) {
+        return Sent {
+            bytes: sent + text.len() as u64,
+            failed: false,
+        };
+    }
+    Sent {
+        bytes: sent,
+        failed: true,
+    }
+}
+
 // Writes what is drawn of a step.
 fn draw_step(
+    job: &[u8],
     f: Frame,
     told: Told,
     points: &[i32],
@@ -116,40 +139,48 @@ fn draw_step(
     nodes: &[f64],
     rims: &[u8],
     cells: &[NodeNumber],
-) -> bool
-    requires { ⌜ Due (drawn f told count (now points) (now nodes) (now rims) (now cells)) × CanTell told (now cells) × (count ≤ 60) ⌝ }
+    sent: u64,
+) -> Sent
+    requires { ⌜ Owed (now job) sent (drawn f told count (now points) (now nodes) (now rims) (now cells)) × CanTell told (now cells) × (count ≤ 60) ⌝ }
+    ensures { λ r. ⌜ (r .failed ≡ false → Sends sent (drawn f told count (now (points .entry)) (now (nodes .entry)) (now (rims .entry)) (now (cells .entry))) (r .bytes)) ⌝ }
 {
     let mut text = [0u8; MOST_RING];
     let n = put_told(&mut text, f, told, points, count, nodes, rims, cells);
-    run::write_all(STDOUT_FILENO, &text[..n])
+    send(job, &text[..n], sent)
 }
 
-// Writes the nodes that a run has left. That they are no more than the list has places is not proved here but tested.
-fn draw_nodes(nodes: &[f64], rims: &[u8], used: usize) -> bool
-    requires { ⌜ Left used (now nodes) (now rims) ⌝ }
+// Writes the nodes that a run has left, after the head and the rings.
+fn draw_nodes(job: &[u8], nodes: &[f64], rims: &[u8], used: usize, rings: u64) -> Sent
+    requires { ⌜ Left (now job) used (now nodes) (now rims) × (rings ≡ length (ringsDrawn (now job))) × (rings ≤ mostRings) ⌝ }
+    ensures { λ r. ⌜ (r .failed ≡ false → Wrote (allDrawn (now (job .entry))) (r .bytes)) ⌝ }
 {
-    if 1536 < used {
-        return false;
-    }
+    let mut sent = rings;
     for i in 0..used {
         let mut text = [0u8; 256];
         let n = scene::put_node(&mut text, nodes, rims, i);
-        if !run::write_all(STDOUT_FILENO, &text[..n]) {
-            return false;
+        let out = send(job, &text[..n], sent);
+        if out.failed {
+            return out;
         }
+        sent = out.bytes;
     }
-    true
+    Sent {
+        bytes: sent,
+        failed: false,
+    }
 }
 
-// Runs the job over an empty node list, and draws each ring when it is told, then the nodes.
-fn draw(job: &[u8], f: Frame) -> bool
-    requires { ⌜ (length (now job) < 4294967296) × (f ≡ frameOf (extentOf (now job))) ⌝ }
+// Runs the job over an empty node list, and draws each ring when it is told, then the nodes. The head stands before them.
+fn draw(job: &[u8], f: Frame, head: u64) -> Sent
+    requires { ⌜ (length (now job) < 4294967296) × (f ≡ frameOf (extentOf (now job))) × (head ≡ length (headText f)) × (head ≤ mostHead) ⌝ }
+    ensures { λ r. ⌜ (r .failed ≡ false → Wrote (allDrawn (now (job .entry))) (r .bytes)) ⌝ }
 {
     let mut ring = [0i32; 120];
     let mut nodes = [0.0f64; 3072];
     let mut rims = [0u8; 1536];
     let mut cells = [0; 496];
     let mut s = State::new();
+    let mut sent = head;
     let mut i: usize = 0;
     while run::goes_on(s) {
         let stepped = job::step(
@@ -161,32 +192,36 @@ fn draw(job: &[u8], f: Frame) -> bool
             &mut cells,
         );
         let told = stepped.told;
-        let after = stepped.state;
-        if !draw_step(f, told, &ring, after.count, &nodes, &rims, &cells) {
-            return false;
+        s = stepped.state;
+        let out = draw_step(job, f, told, &ring, s.count, &nodes, &rims, &cells, sent);
+        if out.failed {
+            return out;
         }
-        s = after;
+        sent = out.bytes;
         i += 1;
     }
     let used = s.used;
-    draw_nodes(&nodes, &rims, used)
+    draw_nodes(job, &nodes, &rims, used, sent)
 }
 
 // The whole picture of a job.
-fn picture(job: &[u8]) -> bool
+fn picture(job: &[u8]) -> Sent
     requires { ⌜ length (now job) < 4294967296 ⌝ }
+    ensures { λ r. ⌜ (r .failed ≡ false → r .bytes ≡ length (pictured (now (job .entry)))) ⌝ }
 {
     let mut text = [0u8; 4096];
     let f = frame::frame_of(frame::extent_of(job));
     let n = frame::put_head(&mut text, f);
-    if !run::write_all(STDOUT_FILENO, &text[..n]) {
-        return false;
+    let head = send(job, &text[..n], 0);
+    if head.failed {
+        return head;
     }
-    if !draw(job, f) {
-        return false;
+    let drawn = draw(job, f, head.bytes);
+    if drawn.failed {
+        return drawn;
     }
     let m = frame::put_foot(&mut text);
-    run::write_all(STDOUT_FILENO, &text[..m])
+    send(job, &text[..m], drawn.bytes)
 }
 
 fn main() {
@@ -196,7 +231,8 @@ fn main() {
         run::write_all(STDERR_FILENO, b"picture: more than 256 rings\n");
         return;
     }
-    if !picture(&bytes[..n]) {
+    let sent = picture(&bytes[..n]);
+    if sent.failed {
         run::write_all(STDERR_FILENO, b"picture: standard output failed\n");
     }
 }

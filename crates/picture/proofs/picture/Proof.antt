@@ -1,9 +1,11 @@
--- `picture`: the head, what is drawn of the job, and the foot.
+-- `picture` meets its contract: the head, what is drawn of the job, and the foot are the whole.
 use Prim.Native.Nat.{ℕ}
 use mathlib.Core.Path.{ap, _∙_}
-use lib.ListN.{length-replicate}
+use lib.ListN.{length, length-replicate, length-take}
 use Rattle.laws.proofs.Lists.{part-length}
+use Rattle.job.proofs.Runs.{not-both}
 use Rattle.frame.specs.Bounds.{frameOf}
+use Rattle.picture.proofs.Drawing.{front, owed-as, owes-head, owes-foot, foot-last}
 use native.Mathlib.Omega.{arith}
 use borrow.Author.Needs.{needs}
 use Rattle.picture.proofs.picture.Statement.{statement}
@@ -24,20 +26,37 @@ put-head-requires c κs = search needs
 array-share-prefix-text : tie.Need-array-share-prefix-text
 array-share-prefix-text c = search needs
 
-slice-aggregate-write-all : tie.Need-slice-aggregate-write-all
-slice-aggregate-write-all c = let p = c .before .before .put-head in part-length (p .result) 4096 _ (p .kept .0 ∙ length-replicate {A = ℕ} 4096 0) (p .ensures .1)
+slice-aggregate-send : tie.Need-slice-aggregate-send
+slice-aggregate-send c =
+    let p = c .before .before .put-head in
+    part-length (p .result) 4096 _ (p .kept .0 ∙ length-replicate {A = ℕ} 4096 0) (p .ensures .1)
 
-write-all-requires : tie.Need-write-all-requires
-write-all-requires c κs = search needs
+send-requires : tie.Need-send-requires
+send-requires c κs =
+    let p = c .before .before .put-head in
+    let d = c .before .before .before .before in
+    let e = d .frame-of .ensures .0 ∙ ap frameOf (d .before .extent-of .ensures .0) in (
+      owed-as (front (p .ensures .0)) (owes-head (c .before .before .before .before .before .before .before .args .job .now) (d .frame-of .result) e),
+      omega (arith, length-take (p .result) (p .last .0), p .ensures .1),
+    )
 
 returns : tie.Need-returns
-returns c = search needs
+returns c = λ e. not-both (c .before .send .result .failed) (c .if1 .taken) e
 
 draw-requires : tie.Need-draw-requires
-draw-requires c κs = (c .before .before .before .before .before .before .before .before .before .pre, c .before .before .before .before .before .before .frame-of .ensures .0 ∙ ap frameOf (c .before .before .before .before .before .before .before .extent-of .ensures .0))
+draw-requires c κs =
+    let p = c .before .before .before .before .put-head in
+    let d = c .before .before .before .before .before .before in
+    let q = c .before .send .ensures (c .if1 .left) in
+    let f = ap length (front (p .ensures .0)) in (
+      c .before .before .before .before .before .before .before .before .before .pre,
+      d .frame-of .ensures .0 ∙ ap frameOf (d .before .extent-of .ensures .0),
+      omega (arith, q, f),
+      omega (arith, q, length-take (p .result) (p .last .0), p .ensures .1),
+    )
 
 returns-2 : tie.Need-returns-2
-returns-2 c = search needs
+returns-2 c = λ e. not-both (c .before .draw .result .failed) (c .if2 .taken) e
 
 slice-aggregate-put-foot : tie.Need-slice-aggregate-put-foot
 slice-aggregate-put-foot c = search needs
@@ -48,14 +67,22 @@ put-foot-requires c κs = search needs
 array-share-prefix-text-2 : tie.Need-array-share-prefix-text-2
 array-share-prefix-text-2 c = search needs
 
-slice-aggregate-write-all-2 : tie.Need-slice-aggregate-write-all-2
-slice-aggregate-write-all-2 c = let p = c .before .before .put-foot in part-length (p .result) 4096 _ (p .kept .0 ∙ c .before .before .before .before .before .before .before .before .before .before .put-head .kept .0 ∙ length-replicate {A = ℕ} 4096 0) (p .ensures .1)
+slice-aggregate-send-2 : tie.Need-slice-aggregate-send-2
+slice-aggregate-send-2 c =
+    let p = c .before .before .put-foot in
+    part-length (p .result) 4096 _ (p .kept .0 ∙ c .before .before .before .before .before .before .before .before .before .before .put-head .kept .0 ∙ length-replicate {A = ℕ} 4096 0) (p .ensures .1)
 
-write-all-requires-2 : tie.Need-write-all-requires-2
-write-all-requires-2 c κs = search needs
+send-requires-2 : tie.Need-send-requires-2
+send-requires-2 c κs =
+    let p = c .before .before .put-foot in
+    let w = c .before .before .before .before .before .draw .ensures (c .before .before .before .before .if2 .left) in
+    (owed-as (front (p .ensures .0)) (owes-foot _ _ w), omega (arith, length-take (p .result) (p .last .0), p .ensures .1))
 
 returns-3 : tie.Need-returns-3
-returns-3 c = search needs
+returns-3 c =
+    let p = c .before .before .before .put-foot in
+    let w = c .before .before .before .before .before .before .draw .ensures (c .before .before .before .before .before .if2 .left) in
+    λ e. foot-last _ _ _ w (omega (arith, c .send2 .ensures e, ap length (front (p .ensures .0))))
 
 pub picture-spec : {M : Type 1} → statement M
 picture-spec =
@@ -66,14 +93,14 @@ picture-spec =
     slice-aggregate-put-head
     put-head-requires
     array-share-prefix-text
-    slice-aggregate-write-all
-    write-all-requires
+    slice-aggregate-send
+    send-requires
     returns
     draw-requires
     returns-2
     slice-aggregate-put-foot
     put-foot-requires
     array-share-prefix-text-2
-    slice-aggregate-write-all-2
-    write-all-requires-2
+    slice-aggregate-send-2
+    send-requires-2
     returns-3)
