@@ -1,5 +1,6 @@
--- What is drawn of each thing told; the parts of a picture, each of which stands at the front of all that comes after it (`Starts`) and so is owed when as many bytes
--- were written as stand before it (`owes-head`, `due`, `owes-node`, `owes-foot`); and one more block of a job (`turned`, `drew`). Where the run has ended, all rings are drawn.
+-- What is drawn of each thing told; the parts of a picture, each of which stands at the front of all that comes after it (`Starts`), and so is owed when as
+-- many bytes were written as stand before it (`owes-head`, `due`, `owes-node`, `owes-foot`); and one more block of a job (`turned`, `drew`). Where the run has
+-- ended, all rings are drawn (`rings-drawn`).
 use Prim.Native.Nat.{ℕ, zero, suc, _+_, _-_, _*_, _/_, _≤_, _<_}
 use mathlib.Core.Path.{_≡_, refl, sym, ap, subst, _∙_}
 use mathlib.Core.Bool.{true, false, cond}
@@ -197,7 +198,8 @@ module _ (job : List ℕ) where
     owes-node i sent t k w e =
         owed-as (e ∙ same-dot i) (owes w (after-nodes (next-part (nodesDrawn job) dot one-node i (wholeRun job .state .used) (omega (arith, k, h .count)))))
 
-    pub more-nodes : (i sent n : ℕ) (t : List ℕ) → sent ≡ length (nodesDrawn job i) → t ≡ nodeText l rs i → n ≡ sent + length t → n ≡ length (nodesDrawn job (i + 1))
+    pub more-nodes : (i sent n : ℕ) (t : List ℕ) → sent ≡ length (nodesDrawn job i) → t ≡ nodeText l rs i → n ≡ sent + length t
+        → n ≡ length (nodesDrawn job (i + 1))
     more-nodes i sent n t e d q =
         rw (add-one i) (omega (arith, q, e, ap length (d ∙ same-dot i), ap length (one-node i), length-append (nodesDrawn job i) (dot i)))
 
@@ -298,7 +300,10 @@ module _ (job : List ℕ) (i : ℕ) (s : State) (ps : List ℤ) (l : List Float)
         drew sent n d q =
             rw (add-one i) (
             let a = length-append (drawnTo (frameOf (extentOf job)) job i) (stepDrawn (frameOf (extentOf job)) now (blockAt job i)) in
-            record { count = omega (arith, d .count, q .count, ap length its-text, ap length (one-drawn job i), a); bound = omega (arith, d .bound, q .count, q .short) }
+            record {
+              count = omega (arith, d .count, q .count, ap length its-text, ap length (one-drawn job i), a);
+              bound = omega (arith, d .bound, q .count, q .short);
+            }
             )
 
       pub goes-on : (h : x .state .ended ≡ false) → 512 * suc i ≤ length job

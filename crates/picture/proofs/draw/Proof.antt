@@ -1,4 +1,4 @@
--- `draw` meets its contract. The loop's invariant: what the first i blocks reach (`Reached`), and that as many bytes were written as are drawn of them (`Drew`).
+-- `draw` meets its contract. The loop's invariant: what the first i blocks reach (`Reached`), and as many bytes were written as are drawn of them (`Drew`).
 use Prim.Native.Nat.{ℕ, _+_, _-_, _*_, _/_, _≤_, _<_}
 use mathlib.Core.Path.{_≡_, refl, sym, ap, subst, _∙_}
 use native.Mathlib.Numerals.{add-one}
@@ -68,16 +68,24 @@ step-requires : tie.Need-step-requires Inv-loop μ-loop
 step-requires c κs = let l = c .before .before .before .before .before .before .before .loop in (can-step _ _ _ _ _ _ (l .inv .0), l .inv .6)
 
 slice-aggregate-draw-step : tie.Need-slice-aggregate-draw-step Inv-loop μ-loop
-slice-aggregate-draw-step c = let d = c .before .before .before .before .before .before in sym (d .step .kept .1 .1 .0 ∙ d .before .before .before .before .before .before .before .before .loop .inv .3)
+slice-aggregate-draw-step c =
+    let d = c .before .before .before .before .before .before in
+    sym (d .step .kept .1 .1 .0 ∙ d .before .before .before .before .before .before .before .before .loop .inv .3)
 
 slice-aggregate-draw-step-2 : tie.Need-slice-aggregate-draw-step-2 Inv-loop μ-loop
-slice-aggregate-draw-step-2 c = let d = c .before .before .before .before .before .before .before in sym (d .step .kept .1 .1 .1 .0 ∙ d .before .before .before .before .before .before .before .before .loop .inv .4)
+slice-aggregate-draw-step-2 c =
+    let d = c .before .before .before .before .before .before .before in
+    sym (d .step .kept .1 .1 .1 .0 ∙ d .before .before .before .before .before .before .before .before .loop .inv .4)
 
 slice-aggregate-draw-step-3 : tie.Need-slice-aggregate-draw-step-3 Inv-loop μ-loop
-slice-aggregate-draw-step-3 c = let d = c .before .before .before .before .before .before .before .before in sym (d .step .kept .1 .1 .1 .1 .0 ∙ d .before .before .before .before .before .before .before .before .loop .inv .5)
+slice-aggregate-draw-step-3 c =
+    let d = c .before .before .before .before .before .before .before .before in
+    sym (d .step .kept .1 .1 .1 .1 .0 ∙ d .before .before .before .before .before .before .before .before .loop .inv .5)
 
 slice-aggregate-draw-step-4 : tie.Need-slice-aggregate-draw-step-4 Inv-loop μ-loop
-slice-aggregate-draw-step-4 c = let d = c .before .before .before .before .before .before .before .before .before in sym (d .step .kept .1 .1 .1 .1 .1 .0 ∙ d .before .before .before .before .before .before .before .before .loop .inv .6)
+slice-aggregate-draw-step-4 c =
+    let d = c .before .before .before .before .before .before .before .before .before in
+    sym (d .step .kept .1 .1 .1 .1 .1 .0 ∙ d .before .before .before .before .before .before .before .before .loop .inv .6)
 
 draw-step-requires : tie.Need-draw-step-requires Inv-loop μ-loop
 draw-step-requires c κs =
@@ -98,10 +106,15 @@ returns : tie.Need-returns Inv-loop μ-loop
 returns c = λ e. not-both (c .before .draw-step .result .failed) (c .if2 .taken) e
 
 add-i : tie.Need-add-i Inv-loop μ-loop
-add-i c = let d = c .before .before .before .before .before .before .before .before .before .before .before in let l = d .before .before .before .before .before .before .before .before .loop in omega (arith, l .inv .0 .turns, l .inv .1)
+add-i c =
+    let d = c .before .before .before .before .before .before .before .before .before .before .before in
+    let l = d .before .before .before .before .before .before .before .before .loop in
+    omega (arith, l .inv .0 .turns, l .inv .1)
 
 loop-less : tie.Need-loop-less Inv-loop μ-loop
-loop-less c = let d = c .before .before .before .before .before .before .before .before .before .before .before in omega (arith, d .before .before .before .before .before .before .before .before .loop .inv .0 .turns)
+loop-less c =
+    let d = c .before .before .before .before .before .before .before .before .before .before .before in
+    omega (arith, d .before .before .before .before .before .before .before .before .loop .inv .0 .turns)
 
 loop-again : tie.Need-loop-again Inv-loop μ-loop
 loop-again c =
@@ -122,7 +135,8 @@ loop-again c =
       p .kept .1 .1 .1 .0 ∙ l .inv .4,
       p .kept .1 .1 .1 .1 .0 ∙ l .inv .5,
       p .kept .1 .1 .1 .1 .1 .0 ∙ l .inv .6,
-      drew _ (l .i) (l .s) (l .ring) (l .nodes) (l .rims) (l .inv .0) e _ b (p .result) _ _ _ _ (p .ensures .0) _ (l .inv .2) (l .sent) (q .result .bytes) (l .inv .7)
+      drew _ (l .i) (l .s) (l .ring) (l .nodes) (l .rims) (l .inv .0) e _ b (p .result) _ _ _ _ (p .ensures .0) _ (l .inv .2)
+          (l .sent) (q .result .bytes) (l .inv .7)
           (q .ensures (c .if2 .left)),
     )
 

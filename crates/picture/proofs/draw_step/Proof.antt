@@ -28,7 +28,8 @@ send-requires : tie.Need-send-requires
 send-requires c κs =
     let p = c .before .before .put-told in
     let n = length-replicate {A = ℕ} 72000 0 in
-    (owed-as (front (p .ensures)) (c .before .before .before .before .before .before .before .before .pre .0), omega (arith, length-take (p .result) (p .last .0), fits (p .ensures) (p .kept .0), n))
+    let o = c .before .before .before .before .before .before .before .before .pre .0 in
+    (owed-as (front (p .ensures)) o, omega (arith, length-take (p .result) (p .last .0), fits (p .ensures) (p .kept .0), n))
 
 returns : tie.Need-returns
 returns c =

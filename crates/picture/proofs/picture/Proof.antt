@@ -70,7 +70,8 @@ array-share-prefix-text-2 c = search needs
 slice-aggregate-send-2 : tie.Need-slice-aggregate-send-2
 slice-aggregate-send-2 c =
     let p = c .before .before .put-foot in
-    part-length (p .result) 4096 _ (p .kept .0 ∙ c .before .before .before .before .before .before .before .before .before .before .put-head .kept .0 ∙ length-replicate {A = ℕ} 4096 0) (p .ensures .1)
+    let h = c .before .before .before .before .before .before .before .before .before .before .put-head in
+    part-length (p .result) 4096 _ (p .kept .0 ∙ h .kept .0 ∙ length-replicate {A = ℕ} 4096 0) (p .ensures .1)
 
 send-requires-2 : tie.Need-send-requires-2
 send-requires-2 c κs =
