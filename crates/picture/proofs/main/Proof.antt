@@ -27,7 +27,9 @@ array-share-prefix-bytes : tie.Need-array-share-prefix-bytes
 array-share-prefix-bytes c = search needs
 
 slice-aggregate-picture : tie.Need-slice-aggregate-picture
-slice-aggregate-picture c = let q = c .before .before .before .read-job in part-length (q .result) 262145 _ (q .kept .0 ∙ length-replicate {A = ℕ} 262145 0) (q .ensures)
+slice-aggregate-picture c =
+    let q = c .before .before .before .read-job in
+    part-length (q .result) 262145 _ (q .kept .0 ∙ length-replicate {A = ℕ} 262145 0) (q .ensures)
 
 picture-requires : tie.Need-picture-requires
 picture-requires c κs = let q = c .before .before .before .read-job in omega (arith, length-take (q .result) (q .last .0), q .ensures)

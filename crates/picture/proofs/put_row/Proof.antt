@@ -15,10 +15,14 @@ mul-end : tie.Need-mul-end
 mul-end c = let s = c .before .before .before .before .before .before in let h = s .pre .0 (c .if1 .taken) in omega (arith, h, s .pre .1)
 
 slice-aggregate-put-ring : tie.Need-slice-aggregate-put-ring
-slice-aggregate-put-ring c = let s = c .before .before .before .before .before .before .before .before in part-length (s .args .v .cells * 4) (length (s .args .cells .now)) (s .args .cells .now) refl (s .pre .0 (c .before .before .if1 .taken))
+slice-aggregate-put-ring c =
+    let s = c .before .before .before .before .before .before .before .before in
+    part-length (s .args .v .cells * 4) (length (s .args .cells .now)) (s .args .cells .now) refl (s .pre .0 (c .before .before .if1 .taken))
 
 put-ring-requires : tie.Need-put-ring-requires
-put-ring-requires c κs = let s = c .before .before .before .before .before .before .before .before in (s .pre .2, omega (arith, length-take (s .args .v .cells * 4) (s .args .cells .now), s .pre .1), s .pre .3)
+put-ring-requires c κs =
+    let s = c .before .before .before .before .before .before .before .before in
+    (s .pre .2, omega (arith, length-take (s .args .v .cells * 4) (s .args .cells .now), s .pre .1), s .pre .3)
 
 same-length : tie.Need-same-length
 same-length c = search needs
@@ -27,7 +31,9 @@ returns : tie.Need-returns
 returns c =
     let s = c .before .before .before .before .before .before .before .before .before .before .before in
     let a = s .args in
-    written-as (ap (ringText (a .ring) (a .v) (a .points .now) (a .count) (a .nodes .now) (a .rims .now)) (cells-some (a .v) (a .cells .now) (c .before .before .before .before .before .if1 .taken))) (c .before .before .put-ring .ensures)
+    written-as (ap (ringText (a .ring) (a .v) (a .points .now) (a .count) (a .nodes .now) (a .rims .now))
+    (cells-some (a .v) (a .cells .now) (c .before .before .before .before .before .if1 .taken)))
+    (c .before .before .put-ring .ensures)
 
 slice-aggregate-put-ring-2 : tie.Need-slice-aggregate-put-ring-2
 slice-aggregate-put-ring-2 c = search needs
@@ -42,7 +48,9 @@ returns-2 : tie.Need-returns-2
 returns-2 c =
     let s = c .before .before .before .before .before .before .before .before .before .before .before in
     let a = s .args in
-    written-as (ap (ringText (a .ring) (a .v) (a .points .now) (a .count) (a .nodes .now) (a .rims .now)) (cells-none (a .v) (a .cells .now) (c .before .before .before .before .before .if1 .left))) (c .before .before .put-ring2 .ensures)
+    written-as (ap (ringText (a .ring) (a .v) (a .points .now) (a .count) (a .nodes .now) (a .rims .now))
+    (cells-none (a .v) (a .cells .now) (c .before .before .before .before .before .if1 .left)))
+    (c .before .before .put-ring2 .ensures)
 
 pub put-row-spec : {M : Type 1} → statement M
 put-row-spec =

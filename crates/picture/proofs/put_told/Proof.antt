@@ -35,7 +35,8 @@ put-ended-requires c κs = omega (arith, c .before .before .before .before .befo
 returns : tie.Need-returns
 returns c =
     let a = c .before .before .before .before .before .before .args in
-    written-as (draws-nothing (a .f) (a .told) (a .count) (a .points .now) (a .nodes .now) (a .rims .now) (a .cells .now) (c .enum-told .given .1)) (nothing (a .out .now) 0 (omega arith))
+    written-as (draws-nothing (a .f) (a .told) (a .count) (a .points .now) (a .nodes .now) (a .rims .now) (a .cells .now) (c .enum-told .given .1))
+    (nothing (a .out .now) 0 (omega arith))
 
 same-length : tie.Need-same-length
 same-length c = search needs
@@ -43,7 +44,9 @@ same-length c = search needs
 returns-2 : tie.Need-returns-2
 returns-2 c =
     let a = c .before .before .before .before .before .before .before .before .before .before .before .args in
-    written-as (draws-ring (a .f) (a .told) (a .count) (a .points .now) (a .nodes .now) (a .rims .now) (a .cells .now) _ _ _ (c .before .before .before .before .before .told .given .1)) (c .before .before .put-row .ensures)
+    written-as (draws-ring (a .f) (a .told) (a .count) (a .points .now) (a .nodes .now) (a .rims .now) (a .cells .now) _ _ _
+    (c .before .before .before .before .before .told .given .1))
+    (c .before .before .put-row .ensures)
 
 same-length-2 : tie.Need-same-length-2
 same-length-2 c = search needs
@@ -51,7 +54,9 @@ same-length-2 c = search needs
 returns-3 : tie.Need-returns-3
 returns-3 c =
     let a = c .before .before .before .before .before .before .before .before .before .before .before .args in
-    written-as (draws-block (a .f) (a .told) (a .count) (a .points .now) (a .nodes .now) (a .rims .now) (a .cells .now) _ _ (c .before .before .before .before .before .told2 .given .1)) (c .before .before .put-ended .ensures)
+    written-as (draws-block (a .f) (a .told) (a .count) (a .points .now) (a .nodes .now) (a .rims .now) (a .cells .now) _ _
+    (c .before .before .before .before .before .told2 .given .1))
+    (c .before .before .put-ended .ensures)
 
 pub put-told-spec : {M : Type 1} → statement M
 put-told-spec =
