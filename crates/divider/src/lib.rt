@@ -159,9 +159,9 @@ fn prepared(ring: &[i32], chain: &[i32], size: u32) -> MarkedRing
 {
     let n = ring.len() / 2;
     let m = chain.len() / 2;
-    let clean = clean::clean_polygon(entry::points(ring, n), size);
+    let clean = clean::clean_polygon(lent_points::points(ring, n), size);
     let cleaned = clean.ring;
-    let run = chain::simplify_chain(entry::points(chain, m));
+    let run = chain::simplify_chain(lent_points::points(chain, m));
     let edges = marks::mark_edges(cleaned, run);
     MarkedRing {
         ring: cleaned,

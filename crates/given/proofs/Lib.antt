@@ -1,3 +1,3 @@
 -- Laws for the code of this crate.
-pub mod Scans
+pub mod LeadLines
 pub mod Laying

@@ -24,13 +24,10 @@ use table::Answer;
 fn units_out(ring: &[i32], size: u32) -> bool
     ensures { λ r. ⌜ r ≡ Call.unitsOut (allPoints (now (ring .entry))) [] size ⌝ }
 {
-    if entry::any_outside(ring) {
+    if lent_points::any_outside(ring) {
         return true;
     }
-    if size == 0 {
-        return true;
-    }
-    2048 < size
+    lent_points::size_out(size)
 }
 
 // The first refusal, or 0: 1 and 2 of the ring, 13 and 14 of its marks, 15 of the set, 3 and 4 of the lists. Of the cell list
@@ -61,16 +58,16 @@ fn refusal(
           cellCount = «cell_count»;
         }))) ⌝ }
 {
-    if entry::counts_out(ring.len(), 0) {
+    if lent_points::counts_out(ring.len(), 0) {
         return 1;
     }
     if units_out(ring, size) {
         return 2;
     }
-    if given::marks_out(ring.len() / 2, kinds, snaps) {
+    if given_tests::marks_out(ring.len() / 2, kinds, snaps) {
         return 13;
     }
-    if given::outline_out(kinds, outline, loops) {
+    if given_tests::outline_out(kinds, outline, loops) {
         return 14;
     }
     if sets::limits_out(limits) {
@@ -108,7 +105,7 @@ fn marked_ring(
     }) size r ⌝ }
 {
     let n = ring.len() / 2;
-    let own = entry::points(ring, n);
+    let own = lent_points::points(ring, n);
     let clean = clean::clean_polygon(own, size);
     let cleaned = clean.ring;
     let edges = given::surviving_marks(own, clean, kinds, snaps, outline, loops);

@@ -19,7 +19,7 @@ fn over_paper(ring: usize, chain: usize) -> bool
     ensures { λ r. ⌜ r ≡ (not (not (eqb (ring % 2) 0) || not (eqb (chain % 2) 0) || Call.countsOut (ring / 2) (chain / 2))
         && Call.over24 (ring / 2) (chain / 2)) ⌝ }
 {
-    if entry::counts_out(ring, chain) {
+    if lent_points::counts_out(ring, chain) {
         return false;
     }
     if 24 < ring / 2 {

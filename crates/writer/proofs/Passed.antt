@@ -17,7 +17,7 @@ use Rattle.laws.proofs.Search.{any-none}
 use Rattle.laws.proofs.Booleans.{neither, is-false, is-true, not-of}
 use Rattle.call.specs.Call.{beyond, outside, anyOutside, countsOut, unitsOut}
 use Rattle.call.specs.Lent.{pointIn, pointsIn, odd}
-use Rattle.entry.proofs.Tests.{outsideAt, any-outside-is}
+use Rattle.lent_points.proofs.Reading.{outsideAt, any-outside-is}
 use Rattle.blocks.specs.Writing.{blockBytes, Writable}
 use Rattle.blocks.proofs.Words.{past, length-block, part-back}
 use Rattle.writer.specs.Write.{counts, units, destinationOut, refusal, pairBytes, written}

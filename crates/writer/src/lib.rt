@@ -25,10 +25,10 @@ fn destination_out(places: usize, number: u32) -> bool
 fn refusal(ring: &[i32], chain: &[i32], size: u32, number: u32, places: usize) -> u64
     ensures { λ r. ⌜ r ≡ Write.refusal (now (ring .entry)) (now (chain .entry)) size number places ⌝ }
 {
-    if entry::counts_out(ring.len(), chain.len()) {
+    if lent_points::counts_out(ring.len(), chain.len()) {
         return 1;
     }
-    if entry::units_out(ring, chain, size) {
+    if lent_points::units_out(ring, chain, size) {
         return 2;
     }
     if destination_out(places, number) {

@@ -5,7 +5,7 @@ use mathlib.Core.Path.{refl, sym, ap, _∙_, subst}
 use Rattle.vector.specs.declared.Ring.{Ring}
 use lib.Dec.{T}
 use Rattle.laws.proofs.Booleans.{is-true, is-false}
-use Rattle.given.proofs.Scans.{none-sought, outline-asks, few-loops, held}
+use Rattle.given.proofs.LeadLines.{none-sought, outline-asks, few-loops, held}
 use Rattle.given.proofs.lead_line.Statement.{statement}
 use Rattle.given.proofs.lead_line.Tie as tie
 

@@ -4,8 +4,8 @@ use mathlib.Core.Path.{sym, ap, _∙_}
 use borrow.Author.Tests.{eq-eqb, ne-eqb, lt-ltb, le-ltb}
 use Rattle.call.specs.Marked.{markOut}
 use mathlib.Core.Bool.{not}
-use Rattle.given.proofs.mark_out.Statement.{statement}
-use Rattle.given.proofs.mark_out.Tie as tie
+use Rattle.given_tests.proofs.mark_out.Statement.{statement}
+use Rattle.given_tests.proofs.mark_out.Tie as tie
 
 returns : tie.Need-returns
 unfolding markOut

@@ -9,9 +9,9 @@ use borrow.Author.Tests.{eq-eqb, ne-eqb}
 use Rattle.laws.specs.Bounded.{any}
 use Rattle.laws.proofs.Search.{any-zero, any-pass, any-hit}
 use Rattle.call.specs.Marked.{calledFor}
-use Rattle.given.proofs.Scans.{calls}
-use Rattle.given.proofs.called_for.Statement.{statement}
-use Rattle.given.proofs.called_for.Tie as tie
+use Rattle.given_tests.proofs.Scans.{calls}
+use Rattle.given_tests.proofs.called_for.Statement.{statement}
+use Rattle.given_tests.proofs.called_for.Tie as tie
 
 abbrev Inv-loop : tie.InvT-loop
 Inv-loop kinds i₀ i-end i = (i ≤ length kinds) × (i-end ≡ length kinds) × (any (calls kinds) i ≡ false)

@@ -9,9 +9,9 @@ use borrow.Author.Tests.{le-ltb}
 use Rattle.laws.specs.Bounded.{any}
 use Rattle.laws.proofs.Search.{any-zero, any-pass}
 use Rattle.outline.specs.Outline.{total}
-use Rattle.given.proofs.Scans.{short, loop-short, sum-next, loops-over, loops-sum}
-use Rattle.given.proofs.loops_out.Statement.{statement}
-use Rattle.given.proofs.loops_out.Tie as tie
+use Rattle.given_tests.proofs.Scans.{short, loop-short, sum-next, loops-over, loops-sum}
+use Rattle.given_tests.proofs.loops_out.Statement.{statement}
+use Rattle.given_tests.proofs.loops_out.Tie as tie
 
 abbrev Inv-loop : tie.InvT-loop
 Inv-loop loops n sum₀ i₀ i-end sum i =

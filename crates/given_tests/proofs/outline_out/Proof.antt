@@ -5,8 +5,8 @@ use lib.Dec.{T}
 use Rattle.laws.proofs.Booleans.{is-true, is-false}
 use borrow.Author.Tests.{eq-eqb, ne-eqb, lt-ltb, le-ltb}
 use Rattle.call.specs.Marked.{outlineOut}
-use Rattle.given.proofs.outline_out.Statement.{statement}
-use Rattle.given.proofs.outline_out.Tie as tie
+use Rattle.given_tests.proofs.outline_out.Statement.{statement}
+use Rattle.given_tests.proofs.outline_out.Tie as tie
 
 called-for-requires : tie.Need-called-for-requires
 called-for-requires c κs = search needs

@@ -9,9 +9,9 @@ use borrow.Author.Tests.{eq-eqb, ne-eqb}
 use Rattle.laws.specs.Bounded.{any}
 use Rattle.laws.proofs.Search.{any-zero, any-pass, any-hit}
 use Rattle.call.specs.Marked.{marksOut}
-use Rattle.given.proofs.Scans.{outAt}
-use Rattle.given.proofs.marks_out.Statement.{statement}
-use Rattle.given.proofs.marks_out.Tie as tie
+use Rattle.given_tests.proofs.Scans.{outAt}
+use Rattle.given_tests.proofs.marks_out.Statement.{statement}
+use Rattle.given_tests.proofs.marks_out.Tie as tie
 
 abbrev Inv-loop : tie.InvT-loop
 Inv-loop n kinds snaps i₀ i = (i ≤ n) × (n ≤ 60) × (length kinds ≡ n) × (length snaps ≡ n * 2) × (any (outAt kinds snaps) i ≡ false)
