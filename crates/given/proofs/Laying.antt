@@ -61,17 +61,17 @@ laid-more f i es e so l q =
       places = length-set es i e ∙ so .places;
     }
 
--- the mark that the code lays, with the next places that it found
-pub mark-next : (ring : Ring) (c : CleanedRing) (kinds : List ℕ) (snaps : List Float) (ss : List Segment) (j m after : ℕ) → m ≡ (j + 1) % c .ring .count
-    → after ≡ (getD (c .places) j 0 + 1) % ring .count
+-- the mark that the code lays, with the next places and the given point that it found
+pub mark-next : (ring : Ring) (c : CleanedRing) (kinds : List ℕ) (snaps : List Float) (ss : List Segment) (j m after : ℕ) (p : Point)
+    → m ≡ (j + 1) % c .ring .count → after ≡ (getD (c .places) j 0 + 1) % ring .count → p ≡ nodeIn snaps (getD (c .places) j 0)
     → (let k = getD (c .places) j 0 in
     cond (eqb (getD (c .places) m 0) after)
-    (markOf (getD kinds k 0) (nodeIn snaps k) (leadPoint ss (getD (ring .points) k origin) (getD (ring .points) after origin))) Straight)
+    (markOf (getD kinds k 0) p (leadPoint ss (getD (ring .points) k origin) (getD (ring .points) after origin))) Straight)
     ≡ markLeft ring c kinds snaps ss j
-mark-next ring c kinds snaps ss j m after d e =
+mark-next ring c kinds snaps ss j m after p d e f =
     let k = getD (c .places) j 0 in
     λ i. cond (eqb (getD (c .places) (d i) 0) (e i))
-    (markOf (getD kinds k 0) (nodeIn snaps k) (leadPoint ss (getD (ring .points) k origin) (getD (ring .points) (e i) origin))) Straight
+    (markOf (getD kinds k 0) (f i) (leadPoint ss (getD (ring .points) k origin) (getD (ring .points) (e i) origin))) Straight
 
 -- the outline's nearest point is looked at where the kind is 2 alone
 mark-same : (kind : ℕ) (p q u : Point) → (kind ≡ 2 → q ≡ u) → markOf kind p q ≡ markOf kind p u

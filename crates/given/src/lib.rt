@@ -118,10 +118,7 @@ fn marks_left(
         let k = clean.places[j] as usize;
         let after = vector::next(k, n);
         let kept = clean.places[vector::next(j, count)] as usize;
-        let p = Point {
-            x: snaps[k * 2],
-            y: snaps[k * 2 + 1],
-        };
+        let p = given_tests::snap_at(snaps, k);
         let mark = surviving_mark(
             kept == after,
             kinds[k],

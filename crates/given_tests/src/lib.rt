@@ -4,8 +4,10 @@
 // those of call's specs/Marked.
 
 ghost use mathlib.Core.Path.{_≡_};
-ghost use Prim.Native.Nat.{_≤_};
+ghost use Prim.Native.Nat.{_+_, _*_, _≤_};
+ghost use lib.ListN.{length};
 ghost use Rattle.vector.specs.Rings.{mostPoints};
+ghost use Rattle.nodes.specs.Flat.{nodeIn};
 ghost use Rattle.call.specs.Marked as Marked;
 use vector::MOST_POINTS;
 use vector::Point;
@@ -26,6 +28,18 @@ fn mark_out(kind: u8, p: Point) -> bool
     true
 }
 
+// The point that is given with mark i.
+pub fn snap_at(snaps: &[f64], i: usize) -> Point
+    requires { ⌜ i * 2 + 2 ≤ length (now snaps) ⌝ }
+    ensures { λ r. ⌜ r ≡ nodeIn (now (snaps .entry)) i ⌝ }
+{
+    let at = i * 2;
+    Point {
+        x: snaps[at],
+        y: snaps[at + 1],
+    }
+}
+
 // 13: the marks of a ring of n points. The given point of a mark that is not of kind 1 may be anything.
 pub fn marks_out(n: usize, kinds: &[u8], snaps: &[f64]) -> bool
     requires { ⌜ n ≤ mostPoints ⌝ }
@@ -38,11 +52,7 @@ pub fn marks_out(n: usize, kinds: &[u8], snaps: &[f64]) -> bool
         return true;
     }
     for i in 0..n {
-        let p = Point {
-            x: snaps[i * 2],
-            y: snaps[i * 2 + 1],
-        };
-        if mark_out(kinds[i], p) {
+        if mark_out(kinds[i], snap_at(snaps, i)) {
             return true;
         }
     }

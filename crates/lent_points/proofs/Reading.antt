@@ -1,11 +1,11 @@
--- The scan of the points place by place, a point read back from its numbers, and the points as an array holds them.
+-- The scan of the points place by place, and the points as an array holds them.
 use Prim.Native.Nat.{ℕ, zero, suc, _+_, _-_, _*_}
 use native.Mathlib.Omega.{arith}
 use native.Mathlib.Numerals.{unary-clauses}
 use mathlib.Core.Path.{_≡_, refl, sym, ap, _∙_}
 use mathlib.Core.Bool.{Bool}
 use mathlib.Core.List.{List, _++_}
-use lib.IntN.{ℤ, pos}
+use lib.IntN.{ℤ}
 use lib.ListN.{getD, set, take, drop, replicate, take-append-drop}
 use lib.Seq.{drop-set-lt, drop-drop}
 use mir.Syntax.{w32}
@@ -16,7 +16,6 @@ use Rattle.laws.proofs.Signed.{r32}
 use Rattle.laws.proofs.Search.{any-ext}
 use Rattle.laws.specs.Table.{tab}
 use Rattle.laws.proofs.Table.{length-tab, getD-tab}
-use Rattle.vector.specs.declared.GridPoint.{GridPoint}
 use Rattle.vector.specs.Grid.{origin}
 use Rattle.call.specs.Call.{beyond, outside, anyOutside}
 use Rattle.call.specs.Lent.{pointIn, pointsIn}
@@ -31,11 +30,7 @@ any-outside-is l n =
     ap (λ (k : ℕ). any (λ i. outside (getD (pointsIn l n) i origin)) k) (length-tab (pointIn l) n)
     ∙ any-ext (λ i. outside (getD (pointsIn l n) i origin)) (outsideAt l) n (λ i h. ap outside (getD-tab (pointIn l) n i origin h))
 
--- a point of the list, read back from the bits of its numbers
-pub point-back : (l : List ℤ) (i : ℕ) → SFits w32 (getD l (i * 2) (pos 0)) → SFits w32 (getD l (i * 2 + 1) (pos 0))
-    → _≡_ {A = GridPoint} (record { x = r32 (getD l (i * 2) (pos 0)); y = r32 (getD l (i * 2 + 1) (pos 0)) }) (pointIn l i)
-point-back l i f g = λ j. record { x = toZ-ofZ f j; y = toZ-ofZ g j }
-
+-- a coordinate, read back from its bits
 pub beyond-back : (z : ℤ) (b : Bool) → SFits w32 z → b ≡ beyond (r32 z) → b ≡ beyond z
 beyond-back z b f e = e ∙ ap beyond (toZ-ofZ f)
 

@@ -7,14 +7,14 @@
 ghost use mathlib.Core.Path.{_≡_};
 ghost use mathlib.Core.Bool.{_||_, not};
 ghost use mathlib.Core.List.{_++_};
-ghost use Prim.Native.Nat.{_-_, _*_, _/_, _%_, _≤_};
+ghost use Prim.Native.Nat.{_+_, _-_, _*_, _/_, _%_, _≤_};
 ghost use lib.Dec.{eqb, ltb};
 ghost use lib.ListN.{length, replicate};
 ghost use Rattle.vector.specs.Grid.{origin};
 ghost use Rattle.vector.specs.Size.{AllOnSheet};
 ghost use Rattle.vector.specs.Rings.{mostPoints, OnSheetRing};
 ghost use Rattle.call.specs.Call as Call;
-ghost use Rattle.call.specs.Lent.{pointsIn};
+ghost use Rattle.call.specs.Lent.{pointIn, pointsIn};
 use vector::GridPoint;
 use vector::MOST_POINTS;
 use vector::Ring;
@@ -56,16 +56,24 @@ fn outside(p: GridPoint) -> bool
     beyond(p.y)
 }
 
+// Point i of a ring or a chain.
+fn point_at(l: &[i32], i: usize) -> GridPoint
+    requires { ⌜ i * 2 + 2 ≤ length (now l) ⌝ }
+    ensures { λ r. ⌜ r ≡ pointIn (now (l .entry)) i ⌝ }
+{
+    let at = i * 2;
+    GridPoint {
+        x: l[at],
+        y: l[at + 1],
+    }
+}
+
 // A coordinate of a ring or a chain is beyond the limits.
 pub fn any_outside(l: &[i32]) -> bool
     ensures { λ r. ⌜ r ≡ Call.anyOutside (pointsIn (now (l .entry)) (length (now (l .entry)) / 2)) ⌝ }
 {
     for i in 0..l.len() / 2 {
-        let p = GridPoint {
-            x: l[i * 2],
-            y: l[i * 2 + 1],
-        };
-        if outside(p) {
+        if outside(point_at(l, i)) {
             return true;
         }
     }
@@ -106,11 +114,7 @@ pub fn points(l: &[i32], n: usize) -> Ring
         count: n,
     };
     for i in 0..n {
-        let p = GridPoint {
-            x: l[i * 2],
-            y: l[i * 2 + 1],
-        };
-        out.points[i] = p;
+        out.points[i] = point_at(l, i);
     }
     out
 }

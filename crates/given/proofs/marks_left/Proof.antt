@@ -1,8 +1,8 @@
 -- `marks_left`. The loop's invariant: the edges before j have the marks that are left (`Laid`).
 use borrow.Author.Needs.{needs}
 use native.Mathlib.Omega.{arith}
-use Prim.Native.Nat.{ℕ, _-_, _≤_, _<_}
-use lib.ListN.{getD}
+use Prim.Native.Nat.{ℕ, _+_, _*_, _-_, _≤_, _<_}
+use lib.ListN.{getD, length}
 use mathlib.Core.Path.{_≡_, _∙_, subst}
 use Rattle.given.specs.Steps.{sought, markLeft, Laid}
 use Rattle.given.proofs.Laying.{place-low, laid-none, laid-more, mark-next}
@@ -25,11 +25,21 @@ element-copy-out-k c = search needs
 cast-k : tie.Need-cast-k Inv-loop μ-loop
 cast-k c = search needs
 
--- the kept place is one of the ring's
+-- the kept place is one of the ring's, and has a mark and its point
 low : (c : tie.In-loop Inv-loop μ-loop) → let s = c .before .before .before .before in getD (s .args .t2 .places) (c .before .loop .j) 0 < s .args .t1 .count
 low c =
     let s = c .before .before .before .before in
     place-low _ _ _ (s .args .t2) (s .pre .1) (c .before .loop .j) (omega (arith, c .loop-test .taken, c .before .loop .inv .1))
+
+marked : (c : tie.In-loop Inv-loop μ-loop)
+    → let s = c .before .before .before .before in
+    let k = getD (s .args .t2 .places) (c .before .loop .j) 0 in
+    (k < 60) × (k < length (s .args .kinds .now)) × (k * 2 + 2 ≤ length (s .args .snaps .now))
+marked c =
+    let s = c .before .before .before .before in
+    let l = low c in
+    let m = s .pre .1 in
+    (omega (arith, l, m .sheet .count), omega (arith, l, m .marks), omega (arith, l, m .points))
 
 next-requires : tie.Need-next-requires Inv-loop μ-loop
 next-requires c κs = (low (c .before), c .before .before .before .before .before .pre .1 .sheet .count)
@@ -45,105 +55,17 @@ element-copy-out-kept c = search needs
 cast-kept : tie.Need-cast-kept Inv-loop μ-loop
 cast-kept c = search needs
 
-mul-t23 : tie.Need-mul-t23 Inv-loop μ-loop
-mul-t23 c =
-    omega (
-      arith,
-      low (c .before .before .before .before),
-      c .before .before .before .before .before .before .before .before .pre .1 .sheet .count,
-      c .before .before .before .before .before .before .before .before .pre .1 .marks,
-      c .before .before .before .before .before .before .before .before .pre .1 .points,
-    )
-
-mul-t26 : tie.Need-mul-t26 Inv-loop μ-loop
-mul-t26 c =
-    omega (
-      arith,
-      low (c .before .before .before .before),
-      c .before .before .before .before .before .before .before .before .pre .1 .sheet .count,
-      c .before .before .before .before .before .before .before .before .pre .1 .marks,
-      c .before .before .before .before .before .before .before .before .pre .1 .points,
-    )
-
-shared-slice-read-t28 : tie.Need-shared-slice-read-t28 Inv-loop μ-loop
-shared-slice-read-t28 c =
-    omega (
-      arith,
-      low (c .before .before .before .before .before),
-      c .before .before .before .before .before .before .before .before .before .pre .1 .sheet .count,
-      c .before .before .before .before .before .before .before .before .before .pre .1 .marks,
-      c .before .before .before .before .before .before .before .before .before .pre .1 .points,
-    )
-
-mul-t29 : tie.Need-mul-t29 Inv-loop μ-loop
-mul-t29 c =
-    omega (
-      arith,
-      low (c .before .before .before .before .before),
-      c .before .before .before .before .before .before .before .before .before .pre .1 .sheet .count,
-      c .before .before .before .before .before .before .before .before .before .pre .1 .marks,
-      c .before .before .before .before .before .before .before .before .before .pre .1 .points,
-    )
-
-add-t30 : tie.Need-add-t30 Inv-loop μ-loop
-add-t30 c =
-    omega (
-      arith,
-      low (c .before .before .before .before .before),
-      c .before .before .before .before .before .before .before .before .before .pre .1 .sheet .count,
-      c .before .before .before .before .before .before .before .before .before .pre .1 .marks,
-      c .before .before .before .before .before .before .before .before .before .pre .1 .points,
-    )
-
-mul-t31 : tie.Need-mul-t31 Inv-loop μ-loop
-mul-t31 c =
-    omega (
-      arith,
-      low (c .before .before .before .before .before),
-      c .before .before .before .before .before .before .before .before .before .pre .1 .sheet .count,
-      c .before .before .before .before .before .before .before .before .before .pre .1 .marks,
-      c .before .before .before .before .before .before .before .before .before .pre .1 .points,
-    )
-
-shared-slice-read-t33 : tie.Need-shared-slice-read-t33 Inv-loop μ-loop
-shared-slice-read-t33 c =
-    omega (
-      arith,
-      low (c .before .before .before .before .before .before),
-      c .before .before .before .before .before .before .before .before .before .before .pre .1 .sheet .count,
-      c .before .before .before .before .before .before .before .before .before .before .pre .1 .marks,
-      c .before .before .before .before .before .before .before .before .before .before .pre .1 .points,
-    )
+snap-at-requires : tie.Need-snap-at-requires Inv-loop μ-loop
+snap-at-requires c κs = marked (c .before .before .before .before) .2
 
 shared-slice-read-surviving-mark : tie.Need-shared-slice-read-surviving-mark Inv-loop μ-loop
-shared-slice-read-surviving-mark c =
-    omega (
-      arith,
-      low (c .before .before .before .before .before .before .before),
-      c .before .before .before .before .before .before .before .before .before .before .before .pre .1 .sheet .count,
-      c .before .before .before .before .before .before .before .before .before .before .before .pre .1 .marks,
-      c .before .before .before .before .before .before .before .before .before .before .before .pre .1 .points,
-    )
+shared-slice-read-surviving-mark c = marked (c .before .before .before .before .before .before) .1
 
 mul-surviving-mark : tie.Need-mul-surviving-mark Inv-loop μ-loop
-mul-surviving-mark c =
-    omega (
-      arith,
-      low (c .before .before .before .before .before .before .before),
-      c .before .before .before .before .before .before .before .before .before .before .before .pre .1 .sheet .count,
-      c .before .before .before .before .before .before .before .before .before .before .before .pre .1 .marks,
-      c .before .before .before .before .before .before .before .before .before .before .before .pre .1 .points,
-    )
+mul-surviving-mark c = let m = marked (c .before .before .before .before .before .before) .0 in omega (arith, m)
 
 element-copy-out-surviving-mark : tie.Need-element-copy-out-surviving-mark Inv-loop μ-loop
-element-copy-out-surviving-mark c =
-    omega (
-      arith,
-      low (c .before .before .before .before .before .before .before),
-      c .before .before .before .before .before .before .before .before .before .before .before .pre .1 .sheet .count,
-      c .before .before .before .before .before .before .before .before .before .before .before .pre .1 .marks,
-      c .before .before .before .before .before .before .before .before .before .before .before .pre .1 .points,
-    )
+element-copy-out-surviving-mark c = let m = marked (c .before .before .before .before .before .before) .0 in omega (arith, m)
 
 mul-surviving-mark-2 : tie.Need-mul-surviving-mark-2 Inv-loop μ-loop
 mul-surviving-mark-2 c = search needs
@@ -168,8 +90,8 @@ loop-less c = search needs
 
 loop-again : tie.Need-loop-again Inv-loop μ-loop
 loop-again c =
-    let v = c .before .before .before in
-    let w = v .before .before .before .before in
+    let z = c .before .before .before .before in
+    let w = z .before .before in
     let l = w .before .before .before in
     let a = l .before .before .before .before .args in
     let o = l .before .loop in (
@@ -178,7 +100,8 @@ loop-again c =
       search needs,
       laid-more _ (o .j) (o .edges) _ (o .inv .3) (search needs)
           (c .surviving-mark .ensures
-          ∙ mark-next (a .t1) (a .t2) (a .kinds .now) (a .snaps .now) (sought (a .lead)) (o .j) _ _ (w .next2 .ensures .0) (w .before .next .ensures .0)),
+          ∙ mark-next (a .t1) (a .t2) (a .kinds .now) (a .snaps .now) (sought (a .lead)) (o .j) _ _ _ (w .next2 .ensures .0) (w .before .next .ensures .0)
+          (z .snap-at .ensures)),
     )
 
 returns : tie.Need-returns Inv-loop μ-loop
@@ -201,13 +124,7 @@ marks-left-spec =
     next-requires-2
     element-copy-out-kept
     cast-kept
-    mul-t23
-    mul-t26
-    shared-slice-read-t28
-    mul-t29
-    add-t30
-    mul-t31
-    shared-slice-read-t33
+    snap-at-requires
     shared-slice-read-surviving-mark
     mul-surviving-mark
     element-copy-out-surviving-mark

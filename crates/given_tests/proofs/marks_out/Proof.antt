@@ -4,11 +4,11 @@ use native.Mathlib.Omega.{arith}
 use Prim.Native.Nat.{_*_, _-_, _≤_}
 use mathlib.Core.Path.{_≡_, sym, ap, _∙_}
 use mathlib.Core.Bool.{false}
-use lib.ListN.{length}
+use lib.ListN.{length, getD}
 use borrow.Author.Tests.{eq-eqb, ne-eqb}
 use Rattle.laws.specs.Bounded.{any}
 use Rattle.laws.proofs.Search.{any-zero, any-pass, any-hit}
-use Rattle.call.specs.Marked.{marksOut}
+use Rattle.call.specs.Marked.{marksOut, markOut}
 use Rattle.given_tests.proofs.Scans.{outAt}
 use Rattle.given_tests.proofs.marks_out.Statement.{statement}
 use Rattle.given_tests.proofs.marks_out.Tie as tie
@@ -33,40 +33,32 @@ returns-2 c = simp (eq-eqb _ _ (c .before .if1 .left), ne-eqb _ _ (c .if2 .taken
 loop-holds : tie.Need-loop-holds Inv-loop μ-loop
 loop-holds c = (search needs, search needs, search needs, search needs, any-zero _)
 
-mul-t10 : tie.Need-mul-t10 Inv-loop μ-loop
-mul-t10 c = search needs
-
-mul-t11 : tie.Need-mul-t11 Inv-loop μ-loop
-mul-t11 c = search needs
-
-shared-slice-read-t13 : tie.Need-shared-slice-read-t13 Inv-loop μ-loop
-shared-slice-read-t13 c = search needs
-
-mul-t14 : tie.Need-mul-t14 Inv-loop μ-loop
-mul-t14 c = search needs
-
-add-t15 : tie.Need-add-t15 Inv-loop μ-loop
-add-t15 c = search needs
-
-mul-t16 : tie.Need-mul-t16 Inv-loop μ-loop
-mul-t16 c = search needs
-
-shared-slice-read-t18 : tie.Need-shared-slice-read-t18 Inv-loop μ-loop
-shared-slice-read-t18 c = search needs
-
 shared-slice-read-mark-out : tie.Need-shared-slice-read-mark-out Inv-loop μ-loop
 shared-slice-read-mark-out c = search needs
+
+snap-at-requires : tie.Need-snap-at-requires Inv-loop μ-loop
+snap-at-requires c κs = search needs
 
 mark-out-requires : tie.Need-mark-out-requires Inv-loop μ-loop
 mark-out-requires c κs = search needs
 
+-- what was asked of the point read is asked of the list's
+seen : (c : tie.After-mark-out Inv-loop μ-loop)
+    → let s = c .before .before .before .before in
+    let a = s .before .before .before .before .before .args in
+    outAt (a .kinds .now) (a .snaps .now) (s .loop .i) ≡ c .mark-out .result
+seen c =
+    let s = c .before .before .before .before in
+    let a = s .before .before .before .before .before .args in
+    sym (c .mark-out .ensures ∙ ap (markOut (getD (a .kinds .now) (s .loop .i) 0)) (c .before .snap-at .ensures))
+
 returns-3 : tie.Need-returns-3 Inv-loop μ-loop
 unfolding marksOut
 returns-3 c =
-    let l = c .before .before .before .before .before .before in
-    let a = l .before .before .before .before .before .args in
-    let h = any-hit (outAt (a .kinds .now) (a .snaps .now)) (l .loop .i) (a .n) (search needs) (sym (c .before .mark-out .ensures) ∙ c .if3 .taken) in
-    simp (eq-eqb _ _ (l .loop .inv .2), eq-eqb _ _ (l .loop .inv .3), h)
+    let s = c .before .before .before .before .before in
+    let a = s .before .before .before .before .before .args in
+    let h = any-hit (outAt (a .kinds .now) (a .snaps .now)) (s .loop .i) (a .n) (search needs) (seen (c .before) ∙ c .if3 .taken) in
+    simp (eq-eqb _ _ (s .loop .inv .2), eq-eqb _ _ (s .loop .inv .3), h)
 
 add-i : tie.Need-add-i Inv-loop μ-loop
 add-i c = search needs
@@ -76,13 +68,13 @@ loop-less c = search needs
 
 loop-again : tie.Need-loop-again Inv-loop μ-loop
 loop-again c =
-    let l = c .before .before .before .before .before .before in
-    let a = l .before .before .before .before .before .args in (
+    let s = c .before .before .before .before .before in
+    let a = s .before .before .before .before .before .args in (
       search needs,
       search needs,
       search needs,
       search needs,
-      any-pass (outAt (a .kinds .now) (a .snaps .now)) (l .loop .i) (l .loop .inv .4) (sym (c .before .mark-out .ensures) ∙ c .if3 .left),
+      any-pass (outAt (a .kinds .now) (a .snaps .now)) (s .loop .i) (s .loop .inv .4) (seen (c .before) ∙ c .if3 .left),
     )
 
 returns-4 : tie.Need-returns-4 Inv-loop μ-loop
@@ -104,14 +96,8 @@ marks-out-spec =
     mul-if2
     returns-2
     loop-holds
-    mul-t10
-    mul-t11
-    shared-slice-read-t13
-    mul-t14
-    add-t15
-    mul-t16
-    shared-slice-read-t18
     shared-slice-read-mark-out
+    snap-at-requires
     mark-out-requires
     returns-3
     add-i
