@@ -22,10 +22,11 @@ use Rattle.vector.specs.Grid.{at}
 use Rattle.vector.specs.Plane.{inMm}
 use Rattle.vector.specs.Size.{OnSheet, AllOnSheet}
 use Rattle.clean.specs.Clean.{cleanPolygon}
-use Rattle.clean.specs.Places.{keptPlaces, survives, surviving}
+use Rattle.clean.specs.Places.{keptPlaces}
 use Rattle.clean.proofs.Kept.{clean-length, clean-each}
 use Rattle.clean.proofs.Places.{pick-length, kept-image, kept-rising}
-use Rattle.clean.proofs.Survivors.{surviving-many, surviving-at}
+use Rattle.survivors.specs.Survivors.{survives, surviving}
+use Rattle.survivors.proofs.Survivors.{surviving-many, surviving-at}
 use Rattle.outline.proofs.Near.{point-in, middle-in, outline-in-range}
 use Rattle.marks.specs.declared.EdgeMark.{EdgeMark}
 use Rattle.marks.specs.declared.EdgeMark.the-variants.{Straight, Snap}

@@ -14,7 +14,8 @@ use Rattle.vector.specs.declared.Point.{Point}
 use Rattle.vector.specs.Grid.{at}
 use Rattle.vector.specs.Plane.{inMm}
 use Rattle.clean.specs.Clean.{cleanPolygon}
-use Rattle.clean.specs.Places.{keptPlaces, surviving}
+use Rattle.clean.specs.Places.{keptPlaces}
+use Rattle.survivors.specs.Survivors.{surviving}
 use Rattle.outline.specs.Outline.{Segment, segments, total, nearestBoundaryPoint}
 use Rattle.marks.specs.declared.EdgeMark.{EdgeMark}
 use Rattle.marks.specs.declared.EdgeMark.the-variants.{Straight, Snap}

@@ -17,8 +17,9 @@ use Rattle.vector.specs.declared.Point.{Point}
 use Rattle.vector.specs.Grid.{origin}
 use Rattle.vector.specs.Size.{OnSheet, AllOnSheet}
 use Rattle.vector.proofs.Sheet.{origin-on}
+use Rattle.arclength.specs.Arclength.{pointAt, arc, pointAtArclength}
 use Rattle.chain.specs.Chain as Chain
-use Rattle.chain.specs.Chain.{pointAt, Stretch, noStretch}
+use Rattle.chain.specs.Chain.{Stretch, noStretch}
 use Rattle.chain.specs.Kept.{stretchIn, stretchesIn, nowhere, Simplifies}
 
 -- w is the last point kept
@@ -141,7 +142,7 @@ kept-first c a e h = record {
 module _ (c points : List GridPoint) (snaps : List Point) (count w i : ℕ) (kept : Collected c points snaps count w i) where
   -- the point i stays
   pub kept-more : i < 60 → Chain.stays c (i - 1) ≡ true → (b : GridPoint) → b ≡ pointAt c i → OnSheet b → (p : Point)
-      → p ≡ Chain.pointAtArclength c (lit 5 1 *f (Chain.arc c w +f Chain.arc c i))
+      → p ≡ pointAtArclength c (lit 5 1 *f (arc c w +f arc c i))
       → Collected c (set points (count + 1) b) (set snaps count p) (count + 1) i (i + 1)
   unfolding Chain.stretch
   kept-more h t b eb ob p ep = record {

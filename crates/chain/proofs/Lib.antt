@@ -1,5 +1,4 @@
--- What is proved of a chain: its lengths, its snap points; and the laws of the loops over it.
-pub mod Lengths
+-- What is proved of a chain's snap points; and the laws of the loop over it.
 pub mod Snaps
-pub mod Walk
+mod Turning
 mod Collect

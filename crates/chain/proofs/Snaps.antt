@@ -26,9 +26,10 @@ use Rattle.vector.specs.declared.GridPoint.{GridPoint}
 use Rattle.vector.specs.Plane.{inMm, lerp}
 use Rattle.vector.specs.Size.{InSheet}
 use Rattle.vector.proofs.Sheet.{point-in, between-in}
-use Rattle.chain.specs.Chain.{pointAt, arc, stays, lastKept, pointAtArclength, Stretch, noStretch, stretch, stretchesTo, simplifyChain}
+use Rattle.arclength.specs.Arclength.{pointAt, arc, pointAtArclength}
+use Rattle.arclength.proofs.Lengths.{arc-within}
+use Rattle.chain.specs.Chain.{stays, lastKept, Stretch, noStretch, stretch, stretchesTo, simplifyChain}
 use Rattle.chain.specs.Range.{ChainOnSheet, SnapsInRange}
-use Rattle.chain.proofs.Lengths.{arc-within}
 
 -- ---- the point at a length
 -- the parameter: how far s lies into a span that is above 0

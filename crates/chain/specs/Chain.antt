@@ -1,26 +1,16 @@
--- 01, Chain: simplify_chain and point_at_arclength.
+-- 01, Chain: simplify_chain.
 use Prim.Native.Nat.{ℕ, zero, suc, _-_}
 use mathlib.Core.Bool.{Bool, _||_, cond}
 use mathlib.Core.List.{List, [], _∷_, _++_}
-use lib.ListN.{length, getD}
+use lib.ListN.{length}
 use lib.Dec.{leb}
-use lib.Ieee.{Float, nan}
-use Rattle.laws.specs.Double.{nat, lit, clamp, _+f_, _-f_, _*f_, _/f_, _<f_, _≤f_}
-use Rattle.laws.specs.Bounded.{first}
+use lib.Ieee.{nan}
+use Rattle.laws.specs.Double.{lit, _+f_, _*f_, _<f_}
 use Rattle.vector.specs.declared.GridPoint.{GridPoint}
 use Rattle.vector.specs.declared.Point.{Point}
 use Rattle.vector.specs.Grid.{origin, sub, same}
-use Rattle.vector.specs.Plane.{inMm, lerp}
-use Rattle.root.specs.Norm.{gridDist}
 use Rattle.cosine.specs.Cosine.{cosine}
-
-abbrev pub pointAt : List GridPoint → ℕ → GridPoint
-pointAt c i = getD c i origin
-
--- the length of the chain up to its point i
-unfoldable pub arc : List GridPoint → ℕ → Float
-arc c zero = nat 0
-arc c (suc i) = arc c i +f gridDist (pointAt c i) (pointAt c (suc i))
+use Rattle.arclength.specs.Arclength.{pointAt, arc, pointAtArclength}
 
 -- "A chain point stays if it is an end, touches a zero-length step, or has cosine < 0.9063077870366499": the point i + 1
 unfoldable pub stays : List GridPoint → ℕ → Bool
@@ -33,14 +23,6 @@ stays c i =
 unfoldable pub lastKept : List GridPoint → ℕ → ℕ
 lastKept c zero = 0
 lastKept c (suc i) = cond (stays c i) (suc i) (lastKept c i)
-
--- point_at_arclength: the point at the length s; i + 1 is the first point that lies as far, or the last point
-unfoldable pub pointAtArclength : List GridPoint → Float → Point
-pointAtArclength c s =
-    let i = first (λ i. s ≤f arc c (suc i)) (length c - 2) 0 in
-    let span = arc c (suc i) -f arc c i in
-    cond (span ≤f nat 0) (inMm (pointAt c (suc i)))
-    (lerp (inMm (pointAt c i)) (inMm (pointAt c (suc i))) (clamp (nat 0) (nat 1) ((s -f arc c i) /f span)))
 
 -- a kept stretch: two neighbours of the simplified chain, and the snap point between them
 pub record Stretch : Type 0 where

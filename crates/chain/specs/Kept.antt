@@ -1,18 +1,17 @@
 -- What the arrays of simplify_chain say.
-use Prim.Native.Nat.{ℕ, zero, suc, _≤_, _<_}
+use Prim.Native.Nat.{ℕ, suc, _≤_, _<_}
 use mathlib.Core.Path.{_≡_}
 use mathlib.Core.List.{List}
 use lib.ListN.{getD}
-use lib.Ieee.{Float}
-use Rattle.laws.specs.Double.{nat, naught}
+use Rattle.laws.specs.Double.{naught}
 use Rattle.laws.specs.Table.{tab}
 use Rattle.vector.specs.declared.GridPoint.{GridPoint}
 use Rattle.vector.specs.declared.Point.{Point}
 use Rattle.vector.specs.Grid.{origin}
 use Rattle.vector.specs.Size.{AllOnSheet}
-use Rattle.root.specs.Norm.{gridDist}
+use Rattle.arclength.specs.Arclength.{pointAt}
 use Rattle.chain.specs.declared.Simplified.{Simplified}
-use Rattle.chain.specs.Chain.{pointAt, Stretch, noStretch, simplifyChain}
+use Rattle.chain.specs.Chain.{Stretch, noStretch, simplifyChain}
 
 -- stretch j runs from kept point j to the next, and has snap point j
 abbrev pub stretchIn : List GridPoint → List Point → ℕ → Stretch
@@ -24,11 +23,6 @@ stretchesIn s = tab (stretchIn (s .points) (s .snaps)) (s .count)
 -- a place that is not used holds zeros
 abbrev pub nowhere : Point
 nowhere = record { x = naught; y = naught }
-
--- the length of the step to the point i of the chain c
-unfoldable pub stepTo : List GridPoint → ℕ → Float
-stepTo c zero = nat 0
-stepTo c (suc i) = gridDist (pointAt c (suc i)) (pointAt c i)
 
 -- s is the chain c simplified
 pub record Simplifies (c : List GridPoint) (s : Simplified) : Type 0 where

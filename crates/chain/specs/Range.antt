@@ -4,7 +4,8 @@ use mathlib.Core.List.{List}
 use lib.ListN.{length, getD}
 use Rattle.vector.specs.declared.GridPoint.{GridPoint}
 use Rattle.vector.specs.Size.{OnSheet, InSheet}
-use Rattle.chain.specs.Chain.{pointAt, Stretch, noStretch}
+use Rattle.arclength.specs.Arclength.{pointAt}
+use Rattle.chain.specs.Chain.{Stretch, noStretch}
 
 -- 01, Units: a chain of 0 to 60 points, all on the sheet
 pub record ChainOnSheet (c : List GridPoint) : Type 0 where

@@ -1,25 +1,17 @@
 // The chain: the drawn boundary run is reduced to its corners, and each stretch kept has one snap point.
 //
-// It stands before the marks, which lay the kept stretches along the edges of the cleaned ring. A chain is held as a ring
-// is; its lengths are in mm.
+// It stands on arclength, the lengths along a chain, and before the marks, which lay the kept stretches along the edges of the
+// cleaned ring. A chain is held as a ring is.
 
 ghost use mathlib.Core.Path.{_≡_};
-ghost use mathlib.Core.Bool.{false, _||_, cond};
-ghost use Prim.Native.Nat.{suc, _-_, _≤_};
-ghost use lib.ListN.{take, getD};
-ghost use lib.Ieee.{nan};
-ghost use Rattle.laws.specs.Double.{nat, lit, _-f_, _/f_, _<f_, _≤f_};
-ghost use Rattle.laws.specs.Double as Double;
-ghost use Rattle.laws.specs.Bounded.{first};
-ghost use Rattle.laws.specs.Table.{tab};
+ghost use mathlib.Core.Bool.{false, _||_};
+ghost use Rattle.laws.specs.Double.{lit, _<f_};
 ghost use Rattle.vector.specs.Grid as Grid;
-ghost use Rattle.vector.specs.Plane.{inMm, lerp};
-ghost use Rattle.vector.specs.Size.{OnSheet, Step};
-ghost use Rattle.vector.specs.Rings.{mostPoints, pointsOf, OnSheetRing};
+ghost use Rattle.vector.specs.Size.{OnSheet};
+ghost use Rattle.vector.specs.Rings.{pointsOf, OnSheetRing};
 ghost use Rattle.root.specs.Norm as Norm;
 ghost use Rattle.cosine.specs.Cosine as Cosine;
-ghost use Rattle.chain.specs.Chain as Chain;
-ghost use Rattle.chain.specs.Kept.{stepTo, Simplifies};
+ghost use Rattle.chain.specs.Kept.{Simplifies};
 use vector::GridPoint;
 use vector::MOST_POINTS;
 use vector::Point;
@@ -31,66 +23,6 @@ pub struct Simplified {
     pub points: [GridPoint; MOST_POINTS],
     pub snaps: [Point; MOST_POINTS],
     pub count: usize,
-}
-
-// The length of the step to each point of a chain, and of the chain up to it.
-struct Steps {
-    step: [f64; MOST_POINTS],
-    arc: [f64; MOST_POINTS],
-}
-
-// Every step of the chain is measured once.
-fn measure(chain: Ring) -> Steps
-    requires { ⌜ OnSheetRing chain × (1 ≤ chain .count) ⌝ }
-    ensures { λ r. ⌜ (take (chain .count) (r .step) ≡ tab (stepTo (pointsOf chain)) (chain .count))
-        × (take (chain .count) (r .arc) ≡ tab (Chain.arc (pointsOf chain)) (chain .count)) ⌝ }
-{
-    let n = chain.count;
-    let mut step = [0.0; MOST_POINTS];
-    let mut arc = [0.0; MOST_POINTS];
-    for i in 1..n {
-        let d = root::grid_dist(chain.points[i], chain.points[i - 1]);
-        step[i] = d;
-        arc[i] = arc[i - 1] + d;
-    }
-    Steps {
-        step: step,
-        arc: arc,
-    }
-}
-
-// The first step of the chain that ends at the length s or beyond it, or the last step.
-fn step_at(arc: &[f64; MOST_POINTS], n: usize, s: f64) -> usize
-    requires { ⌜ (2 ≤ n) × (n ≤ mostPoints) ⌝ }
-    ensures { λ r. ⌜ (r ≡ first (λ i. s ≤f getD (now (arc .entry)) (suc i) nan) (n - 2) 0) × (r ≤ n - 2) ⌝ }
-{
-    for i in 0..n - 2 {
-        if s <= arc[i + 1] {
-            return i;
-        }
-    }
-    n - 2
-}
-
-// The point at the length s on the step from a, at the length low, to b, at the length high.
-fn between(a: GridPoint, low: f64, b: GridPoint, high: f64, s: f64) -> Point
-    ensures { λ r. ⌜ r ≡ cond (high -f low ≤f nat 0) (inMm b) (lerp (inMm a) (inMm b) (Double.clamp (nat 0) (nat 1) ((s -f low) /f (high -f low)))) ⌝ }
-{
-    let span = high - low;
-    if span <= 0.0 {
-        return Point::new(b);
-    }
-    let t = vector::clamp((s - low) / span, 0.0, 1.0);
-    Point::new(a).lerp(Point::new(b), t)
-}
-
-// The point of the chain at the length s.
-fn point_at_arclength(chain: Ring, arc: &[f64; MOST_POINTS], s: f64) -> Point
-    requires { ⌜ OnSheetRing chain × (2 ≤ chain .count) × (take (chain .count) (now arc) ≡ tab (Chain.arc (pointsOf chain)) (chain .count)) ⌝ }
-    ensures { λ r. ⌜ r ≡ Chain.pointAtArclength (pointsOf chain) s ⌝ }
-{
-    let i = step_at(arc, chain.count, s);
-    between(chain.points[i], arc[i], chain.points[i + 1], arc[i + 1], s)
 }
 
 // Whether the chain point b stays, between a and c: it is the last, touches a step of no length, or turns by more than
@@ -130,7 +62,7 @@ pub fn simplify_chain(chain: Ring) -> Simplified
             count: count,
         };
     }
-    let l = measure(chain);
+    let l = arclength::measure(chain);
     let step = l.step;
     let arc = l.arc;
     points[0] = chain.points[0];
@@ -146,7 +78,7 @@ pub fn simplify_chain(chain: Ring) -> Simplified
             i + 1 == n,
         ) {
             let half = 0.5 * (arc[previous] + arc[i]);
-            snaps[count] = point_at_arclength(chain, &arc, half);
+            snaps[count] = arclength::point_at_arclength(chain, &arc, half);
             count += 1;
             points[count] = chain.points[i];
             previous = i;

@@ -19,13 +19,15 @@ use lib.Ieee.{Float}
 use borrow.Author.Tests.{lt-ltb, leb-false, eq-eqb}
 use Rattle.laws.specs.Double.{lit, clamp}
 use Rattle.laws.specs.Units as Units
+use Rattle.laws.proofs.Booleans.{or-true}
 use Rattle.vector.specs.declared.GridPoint.{GridPoint}
 use Rattle.vector.specs.Grid as Grid
 use Rattle.vector.specs.Grid.{origin}
 use Rattle.vector.specs.Plane as Plane
 use Rattle.root.specs.Root.{in-root}
 use Rattle.root.specs.Norm.{norm, dist, gridNorm, gridDist}
-use Rattle.clean.specs.Clean.{tolerance, near, spaced, opened, pointSegmentDistance, flat, bent, straightened, pass, passes, cleanPolygon}
+use Rattle.nearness.specs.Nearness.{tolerance, near, pointSegmentDistance, isFlat}
+use Rattle.clean.specs.Clean.{spaced, opened, flat, bent, straightened, pass, passes, cleanPolygon}
 use Rattle.clean.proofs.Kept.{sub-length, sub-same, spaced-kept, opened-most, bent-kept, straightened-kept}
 use Rattle.clean.proofs.Settled.{Settled, stops, clean-settled, passes-last}
 use Rattle.clean.proofs.Apart.{Apart, settled-apart}
@@ -106,10 +108,6 @@ module _ (size : ℕ) (r : List GridPoint) where
       stopped c (inl l) = ap (λ (b : Bool). b || eqb (length (pass (tolerance size) c)) (length c)) (lt-ltb (length c) 3 l)
       stopped c (inr e) =
           ap (λ (b : Bool). ltb (length c) 3 || b) (eq-eqb (length (pass (tolerance size) c)) (length c) (ap length e)) ∙ or-true (ltb (length c) 3)
-        where
-          or-true : (b : Bool) → (b || true) ≡ true
-          or-true true = refl
-          or-true false = refl
 
       again : (c : List GridPoint) → Settled (tolerance size) c → cleanPolygon size c ≡ c
       again c s = passes-last (tolerance size) (length c) c (stopped c s)
@@ -122,7 +120,7 @@ sliver = corner 0 0 ∷ corner 1 0 ∷ corner 2 1 ∷ corner 1 1 ∷ []
     corner x y = record { x = pos x; y = pos y }
 
 pub flat-left : (cleanPolygon 1024 sliver ≡ sliver) × (flat (tolerance 1024) sliver 1 ≡ true) × (flat (tolerance 1024) sliver 3 ≡ true)
-unfolding tolerance near spaced opened pointSegmentDistance flat bent straightened pass passes cleanPolygon norm dist
+unfolding tolerance near spaced opened pointSegmentDistance isFlat flat bent straightened pass passes cleanPolygon norm dist
     gridNorm gridDist in-root Units.mm Units.mm² Grid.sub Grid.dot Grid.same Grid.at Grid.prev Plane.inMm Plane.sub
     Plane.dot Plane.lerp lit clamp Ieee.add Ieee.sub Ieee.mul Ieee.div Ieee.lt Ieee.le Ieee.ofInt Ieee.round Ieee.size
     Ieee.units

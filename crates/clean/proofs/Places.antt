@@ -15,7 +15,8 @@ use Rattle.laws.specs.Table.{tab}
 use Rattle.laws.proofs.Table.{take-tab}
 use Rattle.vector.specs.declared.GridPoint.{GridPoint}
 use Rattle.vector.specs.Grid.{origin}
-use Rattle.clean.specs.Clean.{tolerance, near, spaced, opened, flat, bent, straightened, pass, passes, cleanPolygon}
+use Rattle.nearness.specs.Nearness.{tolerance, near}
+use Rattle.clean.specs.Clean.{spaced, opened, flat, bent, straightened, pass, passes, cleanPolygon}
 use Rattle.clean.specs.Places.{pick, among, places, spacedPlaces, bentPlaces, straightenedPlaces, passPlaces, passesPlaces, keptPlaces, Rising}
 use Rattle.clean.proofs.Kept.{opened-most}
 

@@ -1,8 +1,7 @@
--- Which points of a ring stay in cleaning, by their places, and which marks of its edges survive it. Each definition of
--- places follows the one of specs/Clean that it has its name from: the points at these places are what that one leaves
--- (proofs/Places).
-use Prim.Native.Nat.{ℕ, zero, suc, _-_, _%_, _<_}
-use mathlib.Core.Bool.{Bool, false, _||_, _&&_, not, cond}
+-- Which points of a ring stay in cleaning, by their places. Each definition of places follows the one of specs/Clean that it has
+-- its name from: the points at these places are what that one leaves (proofs/Places).
+use Prim.Native.Nat.{ℕ, zero, suc, _-_, _<_}
+use mathlib.Core.Bool.{_||_, _&&_, not, cond}
 use mathlib.Core.List.{List, [], _∷_, _++_, map}
 use lib.ListN.{length, getD, take}
 use lib.Dec.{leb, ltb, eqb}
@@ -10,7 +9,8 @@ use lib.Ieee.{Float}
 use Rattle.laws.specs.Table.{tab}
 use Rattle.vector.specs.declared.GridPoint.{GridPoint}
 use Rattle.vector.specs.Grid.{origin}
-use Rattle.clean.specs.Clean.{tolerance, near, opened, flat}
+use Rattle.nearness.specs.Nearness.{tolerance, near}
+use Rattle.clean.specs.Clean.{opened, flat}
 
 -- the points of a ring at these places
 abbrev pub pick : List GridPoint → List ℕ → List GridPoint
@@ -68,16 +68,3 @@ keptPlaces size r = passesPlaces (suc (length r)) (tolerance size) r
 pub record Rising (n : ℕ) (ks : List ℕ) : Type 0 where
   pub below : (i : ℕ) → i < length ks → getD ks i 0 < n
   pub rising : (i j : ℕ) → i < j → j < length ks → getD ks i 0 < getD ks j 0
-
--- ---- marks. Mark i belongs to the edge from point i to the next point round the ring, and survives if both those points stay
-unfoldable pub isIn : ℕ → List ℕ → Bool
-isIn i [] = false
-isIn i (k ∷ ks) = eqb i k || isIn i ks
-
--- in a ring of n points of which those at ks stay
-unfoldable pub survives : ℕ → List ℕ → ℕ → Bool
-survives n ks i = isIn i ks && isIn (suc i % n) ks
-
--- the marks of the cleaned ring, edge by edge: an edge that joins two kept points over dropped ones is straight
-unfoldable pub surviving : {A : Type 0} → A → ℕ → List ℕ → List A → List A
-surviving straight n ks ms = map (λ (k : ℕ). cond (survives n ks k) (getD ms k straight) straight) ks

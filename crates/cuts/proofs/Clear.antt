@@ -21,7 +21,8 @@ use Rattle.segments.specs.Meeting.{strictlyBetween}
 use Rattle.simple.specs.Simple.{pointInPolygon}
 use Rattle.marks.specs.Part.{Part}
 use Rattle.corner.specs.declared.Limits.{Limits}
-use Rattle.diagonal.specs.Diagonal.{inRange, blocks, runsOver, cosineNext, cosinePrev, meetsRule}
+use Rattle.obstacles.specs.Obstacles.{blocks, runsOver, unobstructed}
+use Rattle.diagonal.specs.Diagonal.{inRange, cosineNext, cosinePrev, meetsRule}
 use Rattle.parts.specs.Cut.{rotate}
 use Rattle.split.specs.Split.{Cut, splitBadVertices}
 use Rattle.cuts.specs.Counts.{Sound}
@@ -30,18 +31,21 @@ use Rattle.parts.proofs.Rotation.{at-place, length-rotate, rotate-at}
 use Rattle.cuts.proofs.Choices.{chosen}
 
 -- ---- a diagonal that meets the rule
-fourth : (s w x y : Bool) → T (s && w && x && y) → T w
-fourth true true x y t = tt
-fourth true false x y t = t
-fourth false w x y t = absurd t
+last : (s w : Bool) → T (s && w) → T w
+last true w t = t
+last false w t = absurd t
+
+second : (s w x y : Bool) → T (s && w && x && y) → T w
+second true true x y t = tt
+second true false x y t = t
+second false w x y t = absurd t
 
 rule-clear : (L : Limits) (r : List GridPoint) (k : ℕ) → T (meetsRule L r k) → (i : ℕ) → i < length r → T (not (strictlyBetween (at r 0) (at r k) (at r i)))
-unfolding meetsRule runsOver
+unfolding meetsRule unobstructed runsOver
 rule-clear L r k t i h =
     any-none (runsOver r k) (length r)
-    (fourth
-    (not (same (at r 0) (at r k)) && pointInPolygon r (lerp (inMm (at r 0)) (inMm (at r k)) (lit 5 1)) && not (any (blocks r k) (length r)))
-    (not (any (runsOver r k) (length r))) (inRange L (cosineNext r k)) (inRange L (cosinePrev r k)) t)
+    (last (pointInPolygon r (lerp (inMm (at r 0)) (inMm (at r k)) (lit 5 1)) && not (any (blocks r k) (length r))) (not (any (runsOver r k) (length r)))
+    (second (not (same (at r 0) (at r k))) (unobstructed r k) (inRange L (cosineNext r k)) (inRange L (cosinePrev r k)) t))
     i h
 
 -- ---- by the places of the part, which starts elsewhere

@@ -7,17 +7,14 @@ use mathlib.Core.Path.{_≡_, refl, sym, _∙_}
 use mathlib.Core.List.{List}
 use lib.ListN.{length, getD, take}
 use lib.Ieee.{Float}
-use Rattle.laws.specs.Double.{_<f_, lit}
-use Rattle.laws.specs.Bounded.{any}
+use Rattle.laws.specs.Double.{_<f_}
 use Rattle.vector.specs.declared.GridPoint.{GridPoint}
 use Rattle.vector.specs.Grid.{origin, sub, same, at}
-use Rattle.vector.specs.Plane.{inMm, lerp}
 use Rattle.vector.proofs.Rings.{at-in, prev-first}
 use Rattle.cosine.specs.Cosine.{cosine}
-use Rattle.simple.specs.Simple.{pointInPolygon}
 use Rattle.corner.specs.declared.Limits.{Limits}
-use Rattle.diagonal.specs.Diagonal.{inRange, blocks, runsOver, cosineNext, cosinePrev, meetsRule, larger, score, better, bestTo}
-use Rattle.diagonal.specs.Answer.{unobstructed}
+use Rattle.obstacles.specs.Obstacles.{unobstructed}
+use Rattle.diagonal.specs.Diagonal.{inRange, cosineNext, cosinePrev, meetsRule, larger, score, better, bestTo}
 
 -- what the code holds of the best so far
 abbrev pub held : Bool → ℕ → Option ℕ
@@ -33,19 +30,17 @@ last-first true false y = refl
 last-first true true false = refl
 last-first true true true = refl
 
-regroup : (a p q w x y : Bool) → (a && p && q && w && x && y) ≡ (a && x && y && (p && q && w))
-regroup false p q w x y = refl
-regroup true p q w x y = last-first (p && q && w) x y
+regroup : (a s x y : Bool) → (a && s && x && y) ≡ (a && x && y && s)
+regroup false s x y = refl
+regroup true s x y = last-first s x y
 
 -- by the ends and the cosines
 abbrev pub fits : Limits → List GridPoint → ℕ → Bool
 fits L r k = not (same (at r 0) (at r k)) && inRange L (cosineNext r k) && inRange L (cosinePrev r k)
 
 rule-is : (L : Limits) (r : List GridPoint) (k : ℕ) → meetsRule L r k ≡ (fits L r k && unobstructed r k)
-unfolding meetsRule unobstructed
-rule-is L r k =
-    regroup (not (same (at r 0) (at r k))) (pointInPolygon r (lerp (inMm (at r 0)) (inMm (at r k)) (lit 5 1)))
-    (not (any (blocks r k) (length r))) (not (any (runsOver r k) (length r))) (inRange L (cosineNext r k)) (inRange L (cosinePrev r k))
+unfolding meetsRule
+rule-is L r k = regroup (not (same (at r 0) (at r k))) (unobstructed r k) (inRange L (cosineNext r k)) (inRange L (cosinePrev r k))
 
 -- ---- a turn
 module _ (r : List GridPoint) (k : ℕ) (s least : Float) (es : s ≡ score r k) where

@@ -2,24 +2,22 @@
 //
 // It stands between the corner, which says where a part is bad, and the split, which cuts it there. The points of the part
 // are counted from its worst corner, so that every diagonal goes from corner 0 to a corner k. What is cheap and decides most
-// comes first, the two cosines against the best so far; only a diagonal that would win is tried against the edges, and last
-// against the other corners.
+// comes first, the two cosines against the best so far; only for a diagonal that would win it is asked whether anything stands
+// in its way (obstacles).
 
 ghost use mathlib.Core.Path.{_≡_};
 ghost use mathlib.Core.Bool.{not, _&&_, _||_};
-ghost use Prim.Native.Nat.{_-_, _≤_, _<_};
+ghost use Prim.Native.Nat.{_-_, _≤_};
 ghost use Rattle.laws.specs.Double.{_<f_};
-ghost use Rattle.laws.specs.Bounded.{any};
 ghost use Rattle.vector.specs.Grid.{sub, same};
 ghost use Rattle.vector.specs.Size.{OnSheet, Step};
-ghost use Rattle.vector.specs.Rings.{mostPoints, pointsOf, OnSheetRing};
+ghost use Rattle.vector.specs.Rings.{pointsOf, OnSheetRing};
 ghost use Rattle.root.specs.Norm.{gridNorm};
 ghost use Rattle.cosine.specs.Cosine.{cosine};
 ghost use Rattle.diagonal.specs.Diagonal as Diagonals;
-ghost use Rattle.diagonal.specs.Answer.{answer, unobstructed};
+ghost use Rattle.diagonal.specs.Answer.{answer};
 use corner::Limits;
 use vector::GridPoint;
-use vector::Point;
 use vector::Ring;
 
 // The corner where the best diagonal ends, or that none meets the rule.
@@ -89,80 +87,6 @@ fn judge(
     }
 }
 
-// Whether edge e of n touches neither corner 0 nor corner k.
-fn clear_of(n: usize, k: usize, e: usize) -> bool
-    requires { ⌜ (e < n) × (n ≤ mostPoints) ⌝ }
-    ensures { λ r. ⌜ r ≡ Diagonals.clearOf n k e ⌝ }
-{
-    if e == 0 {
-        return false;
-    }
-    if e + 1 == n {
-        return false;
-    }
-    if e == k {
-        return false;
-    }
-    if e + 1 == k {
-        return false;
-    }
-    true
-}
-
-// Whether the diagonal to corner k crosses an edge that touches neither end. The scan ends at the first crossing.
-fn blocked(part: Ring, k: usize) -> bool
-    requires { ⌜ OnSheetRing part × (3 ≤ part .count) × (k < part .count) ⌝ }
-    ensures { λ r. ⌜ r ≡ any (Diagonals.blocks (pointsOf part) k) (part .count) ⌝ }
-{
-    let n = part.count;
-    let o = part.points[0];
-    let q = part.points[k];
-    let mut found = false;
-    'scan: for e in 0..n {
-        if clear_of(n, k, e) {
-            if segments::segments_cross(o, q, part.points[e], part.points[vector::next(e, n)]) {
-                found = true;
-                break 'scan;
-            }
-        }
-    }
-    found
-}
-
-// Whether the diagonal to corner k runs over another corner, which is strictly between its ends. The scan ends at the first.
-fn runs_over(part: Ring, k: usize) -> bool
-    requires { ⌜ OnSheetRing part × (3 ≤ part .count) × (k < part .count) ⌝ }
-    ensures { λ r. ⌜ r ≡ any (Diagonals.runsOver (pointsOf part) k) (part .count) ⌝ }
-{
-    let n = part.count;
-    let o = part.points[0];
-    let q = part.points[k];
-    let mut found = false;
-    'scan: for j in 0..n {
-        if segments::strictly_between(o, q, part.points[j]) {
-            found = true;
-            break 'scan;
-        }
-    }
-    found
-}
-
-// Whether the diagonal to corner k has its midpoint inside, crosses no edge and runs over no corner.
-fn is_unobstructed(part: Ring, k: usize) -> bool
-    requires { ⌜ OnSheetRing part × (3 ≤ part .count) × (k < part .count) ⌝ }
-    ensures { λ r. ⌜ r ≡ unobstructed (pointsOf part) k ⌝ }
-{
-    let a = Point::new(part.points[0]);
-    let b = Point::new(part.points[k]);
-    if simple::point_in_polygon(part, a.lerp(b, 0.5)) {
-        if blocked(part, k) {
-            return false;
-        }
-        return !runs_over(part, k);
-    }
-    false
-}
-
 // Whether a diagonal would win over the best so far, whose larger cosine is least: on a tie the earlier one stays.
 fn improves(j: Judged, found: bool, least: f64) -> bool
     ensures { λ r. ⌜ r ≡ (j .ok && (not found || (j .score <f least))) ⌝ }
@@ -193,7 +117,7 @@ pub fn best_diagonal(limits: Limits, part: Ring) -> Diagonal
     for k in 2..n - 1 {
         let j = judge(limits, o, part.points[k], a, na, b, nb);
         if improves(j, found, least) {
-            if is_unobstructed(part, k) {
+            if obstacles::is_unobstructed(part, k) {
                 found = true;
                 at = k;
                 least = j.score;

@@ -27,8 +27,8 @@ use Rattle.marks.specs.declared.EdgeMark.the-variants.{Straight, Snap}
 use Rattle.marks.specs.Edges.{marksIn, straightEdge}
 use Rattle.marks.proofs.Edges.{marks-more}
 use Rattle.clean.specs.declared.CleanedRing.{CleanedRing}
-use Rattle.clean.specs.Places.{survives, surviving}
-use Rattle.clean.proofs.Survivors.{surviving-many, surviving-at, survives-next}
+use Rattle.survivors.specs.Survivors.{survives, surviving}
+use Rattle.survivors.proofs.Survivors.{surviving-many, surviving-at, survives-next}
 use Rattle.outline.specs.Outline.{Segment}
 use Rattle.nodes.specs.Flat.{nodeIn}
 use Rattle.call.specs.Marked.{Marking, markOf, leadPoint, leadLine, givenMark, calledFor}

@@ -13,7 +13,8 @@ use Rattle.vector.specs.declared.Ring.{Ring}
 use Rattle.vector.specs.Grid.{origin}
 use Rattle.vector.specs.Rings.{mostPoints, OnSheetRing}
 use Rattle.clean.specs.declared.CleanedRing.{CleanedRing}
-use Rattle.clean.specs.Places.{Rising, surviving}
+use Rattle.clean.specs.Places.{Rising}
+use Rattle.survivors.specs.Survivors.{surviving}
 use Rattle.outline.specs.Outline.{Segment, segments, total}
 use Rattle.marks.specs.declared.Edge.{Edge}
 use Rattle.marks.specs.declared.EdgeMark.{EdgeMark}

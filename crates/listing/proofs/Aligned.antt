@@ -7,8 +7,10 @@ use lib.ListN.{length, getD}
 use lib.Ieee.{Float, nan}
 use Rattle.text.specs.Text.{decimal, Written}
 use Rattle.text.proofs.Writing.{shorter, join, room}
-use Rattle.listing.specs.Sheet.{shown, right, line}
-use Rattle.listing.proofs.Texts.{spaces, right-long, number-most, shown-most, line-long}
+use Rattle.decimals.specs.Shown.{shown}
+use Rattle.decimals.proofs.Texts.{shown-most}
+use Rattle.listing.specs.Sheet.{right, line}
+use Rattle.listing.proofs.Texts.{spaces, right-long, number-most, line-long}
 
 -- the spaces, k being the text's length, and the text
 module _ (l : List ℕ) (at w k : ℕ) (t : List ℕ) (e : k ≡ length t) (h : length t ≤ w) (r : at + w ≤ length l) where

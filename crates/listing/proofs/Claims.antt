@@ -1,4 +1,4 @@
--- Card 9's claims, over the bytes that a call leaves: each shown coordinate is nearest and no other number is, each line has 64
+-- Card 9's claims, over the bytes that a call leaves: each shown coordinate is nearest, each line has 64
 -- columns and a line feed, the lines stand in node order, and the bytes after them are as found. An accepted call leaves that.
 use Prim.Native.Nat.{ℕ, zero, suc, _+_, _-_, _*_, _/_, _%_, _≤_, _<_}
 use mathlib.Core.Path.{_≡_, refl, sym, ap, _∙_, subst}
@@ -11,32 +11,22 @@ use lib.Dec.{T, ltb, eqb}
 use lib.ListN.{length, getD, take, drop, length-append, length-drop}
 use lib.Seq.{take-at, drop-at, getD-at, getD-append-add}
 use borrow.Author.Tests.{ltb-false, ne-eqb}
-use lib.Ieee.{Float, nan, fin, up, down}
-use lib.Ieee.Fits.{down-pos}
-use lib.Ieee.Scale.{finite}
+use lib.Ieee.{Float, nan}
 use Rattle.laws.specs.Within.{Within}
 use Rattle.text.specs.Text.{decimal, put}
 use Rattle.nodes.specs.Flat.{Usable}
-use Rattle.listing.specs.Rounded.{tenThousandths, minus, negative}
-use Rattle.listing.specs.Nearest.{NearestShown}
+use Rattle.decimals.specs.Rounded.{tenThousandths, minus, negative}
+use Rattle.decimals.specs.Nearest.{NearestShown}
+use Rattle.decimals.specs.Shown.{decimals, shown}
+use Rattle.decimals.proofs.Value.{shown-le}
+use Rattle.decimals.proofs.NearestDecimal.{shown-nearest}
+use Rattle.decimals.proofs.Texts.{sign, point, decimals-is, shown-most}
 use Rattle.listing.specs.Read.{isDigit, readFrom, RightAligned}
-use Rattle.listing.specs.Sheet.{decimals, shown, right, line, lines, answer, left, nodesOut}
+use Rattle.listing.specs.Sheet.{right, line, lines, answer, left, nodesOut}
 use Rattle.listing.specs.Claim.{ShownAs, LineOf, SheetIs}
-use Rattle.listing.proofs.Rounding.{half-nearest, nearest-unique}
-use Rattle.listing.proofs.Value.{shown-le}
-use Rattle.listing.proofs.Texts.{spaces, sign, point, decimals-is, number-most, shown-most, right-long, line-long, lines-long}
+use Rattle.listing.proofs.Texts.{spaces, number-most, right-long, line-long, lines-long}
 use Rattle.listing.proofs.Tests.{usable}
 use Rattle.listing.proofs.Reading.{is-digit, read-decimal, read-right, has-right, aligned, read-decimals, has-decimals, no-space}
-
--- ---- the number shown is nearest, and no other is
-pub shown-nearest : (x : Float) → T (finite x) → NearestShown x (tenThousandths x)
-unfolding tenThousandths
-shown-nearest (fin s m e) f = half-nearest (m * up e * 10000) (down e) (down-pos e)
-
-pub no-other : (x : Float) (N : ℕ) → NearestShown x N → N ≡ tenThousandths x
-unfolding tenThousandths
-no-other (fin s m e) N a =
-    nearest-unique (m * up e * 10000) (down e) N (tenThousandths (fin s m e)) (down-pos e) a (half-nearest (m * up e * 10000) (down e) (down-pos e))
 
 -- ---- where the point and the four decimals stand
 abbrev tail : ℕ → List ℕ

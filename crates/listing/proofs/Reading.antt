@@ -12,9 +12,11 @@ use lib.Seq.{take-at, drop-at}
 use borrow.Author.Tests.{le-leb, ne-eqb}
 use Rattle.text.specs.Text.{decimal}
 use Rattle.text.proofs.Decimal.{one-digit, more-digits}
+use Rattle.decimals.specs.Shown.{decimals}
+use Rattle.decimals.proofs.Texts.{sign, point, digit, decimals-is}
 use Rattle.listing.specs.Read.{isDigit, readFrom, has, RightAligned}
-use Rattle.listing.specs.Sheet.{decimals, right}
-use Rattle.listing.proofs.Texts.{spaces, sign, point, digit, decimals-is}
+use Rattle.listing.specs.Sheet.{right}
+use Rattle.listing.proofs.Texts.{spaces}
 
 -- ---- one text after another
 pub read-append : (n : ℕ) (s t : List ℕ) → readFrom n (s ++ t) ≡ readFrom (readFrom n s) t

@@ -1,16 +1,16 @@
--- Texts of the sheet: how many digits a number has, spaces, and how long a coordinate, a line and the sheet are.
+-- Texts of the sheet: how many digits a number has, spaces, and how long a line and the sheet are.
 use Prim.Native.Nat.{ℕ, zero, suc, _+_, _-_, _*_, _/_, _%_, _^_, _≤_, _<_}
 use mathlib.Core.Path.{_≡_, refl, sym, ap, _∙_}
-use mathlib.Core.Bool.{Bool, true, false, cond}
 use mathlib.Core.List.{List, [], _∷_, _++_}
 use native.Mathlib.Numerals.{add-one}
 use native.Mathlib.Omega.{arith}
 use lib.ListN.{length, getD, replicate, length-append, length-replicate, replicate-append-replicate}
 use lib.Ieee.{Float, nan}
-use Rattle.text.specs.Text.{bytes, decimal, marks, part, filledTo, filled}
-use Rattle.text.proofs.Decimal.{one-digit, more-digits, at-most-20, at-most}
-use Rattle.listing.specs.Rounded.{tenThousandths, minus}
-use Rattle.listing.specs.Sheet.{decimals, shown, right, line, lines}
+use Rattle.text.specs.Text.{decimal}
+use Rattle.text.proofs.Decimal.{one-digit, more-digits, at-most}
+use Rattle.decimals.specs.Shown.{shown}
+use Rattle.decimals.proofs.Texts.{shown-most}
+use Rattle.listing.specs.Sheet.{right, line, lines}
 
 -- ---- digits
 pub one-long : (n : ℕ) → n < 10 → length (decimal n) ≡ 1
@@ -25,49 +25,6 @@ spaces n = replicate n 32
 
 pub more-spaces : (i : ℕ) → spaces (suc i) ≡ spaces i ++ (32 ∷ [])
 more-spaces i = ap spaces (sym (add-one i)) ∙ sym (replicate-append-replicate {A = ℕ} i 1 32)
-
--- ---- a decimal, part by part: the minus, the whole mm, the point and four digits
-abbrev pub sign : Bool → List ℕ
-sign m = cond m (45 ∷ []) []
-
-abbrev pub point : List ℕ
-point = 46 ∷ []
-
-abbrev pub digit : ℕ → List ℕ
-digit n = (48 + n) ∷ []
-
-filled-is : (m : Bool) (a b c d e : ℕ)
-    → filled (cond m (bytes "-#.####") (bytes "#.####")) (a ∷ b ∷ c ∷ d ∷ e ∷ [])
-    ≡ sign m ++ decimal a ++ point ++ decimal b ++ decimal c ++ decimal d ++ decimal e
-unfolding filled filledTo marks part bytes
-filled-is true a b c d e = refl
-filled-is false a b c d e = refl
-
-pub decimals-is : (m : Bool) (n : ℕ)
-    → decimals m n ≡ sign m ++ decimal (n / 10000) ++ point ++ digit (n / 1000 % 10) ++ digit (n / 100 % 10) ++ digit (n / 10 % 10) ++ digit (n % 10)
-unfolding decimals
-decimals-is m n =
-    filled-is m (n / 10000) (n / 1000 % 10) (n / 100 % 10) (n / 10 % 10) (n % 10)
-    ∙ (λ i. sign m ++ decimal (n / 10000) ++ point ++ is (n / 1000 % 10) (omega arith) i ++ is (n / 100 % 10) (omega arith) i
-    ++ is (n / 10 % 10) (omega arith) i ++ is (n % 10) (omega arith) i)
-  where
-    is : (d : ℕ) → d < 10 → decimal d ≡ digit d
-    is d h = sym (one-digit d (48 + d) h refl)
-
-long : (s t : List ℕ) (a b c d : ℕ) → length (s ++ t ++ point ++ digit a ++ digit b ++ digit c ++ digit d) ≡ length s + length t + 5
-long s t a b c d = simp length-append (omega arith)
-
-pub decimals-long : (m : Bool) (n : ℕ) → length (decimals m n) ≡ cond m 1 0 + length (decimal (n / 10000)) + 5
-decimals-long true n = ap length (decimals-is true n) ∙ long (45 ∷ []) (decimal (n / 10000)) (n / 1000 % 10) (n / 100 % 10) (n / 10 % 10) (n % 10)
-decimals-long false n = ap length (decimals-is false n) ∙ long [] (decimal (n / 10000)) (n / 1000 % 10) (n / 100 % 10) (n / 10 % 10) (n % 10)
-
-pub decimals-most : (m : Bool) (n : ℕ) → length (decimals m n) ≤ 26
-decimals-most true n = omega (arith, decimals-long true n, at-most-20 (n / 10000))
-decimals-most false n = omega (arith, decimals-long false n, at-most-20 (n / 10000))
-
-pub shown-most : (x : Float) → length (shown x) ≤ 28
-unfolding shown
-shown-most x = omega (arith, decimals-most (minus x) (tenThousandths x))
 
 pub number-most : (i : ℕ) → i < 1000000 → length (decimal i) ≤ 8
 number-most i h = omega (arith, at-most 5 i h)

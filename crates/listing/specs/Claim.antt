@@ -1,4 +1,4 @@
--- Card 9 in its own words, of the bytes that a call leaves: without the definitions of specs/Rounded and specs/Sheet that make
+-- Card 9 in its own words, of the bytes that a call leaves: without the definitions of specs/Sheet, and of decimals, that make
 -- them. proofs/Claims proves it.
 use Prim.Native.Nat.{ℕ, _+_, _*_, _<_}
 use mathlib.Core.Path.{_≡_}
@@ -7,8 +7,8 @@ use mathlib.Core.List.{List}
 use lib.ListN.{length, getD, take, drop}
 use lib.Dec.{T, ltb}
 use lib.Ieee.{Float, nan}
-use Rattle.listing.specs.Rounded.{negative}
-use Rattle.listing.specs.Nearest.{NearestShown}
+use Rattle.decimals.specs.Rounded.{negative}
+use Rattle.decimals.specs.Nearest.{NearestShown}
 use Rattle.listing.specs.Read.{isDigit, readFrom, has, RightAligned}
 
 -- The 28 columns t show x in mm with four decimals, right-aligned. The digits, read back as one number N, are within half of 0.0001 mm of

@@ -1,5 +1,5 @@
 -- Card 9, the sheet: its lines as bytes, the refusals 3 and 17, what the call returns and what it leaves. Definitions only.
-use Prim.Native.Nat.{ℕ, zero, suc, _+_, _-_, _*_, _/_, _%_}
+use Prim.Native.Nat.{ℕ, zero, suc, _+_, _-_, _*_, _/_}
 use mathlib.Core.Bool.{Bool, not, _||_, cond}
 use mathlib.Core.List.{List, [], _∷_, _++_}
 use lib.ListN.{length, getD, replicate}
@@ -7,15 +7,8 @@ use lib.Dec.{ltb, eqb}
 use lib.Ieee.{Float, nan}
 use Rattle.nodes.specs.Nodes.{mostPlaces}
 use Rattle.nodes.specs.Flat.{allHeld}
-use Rattle.text.specs.Text.{bytes, decimal, filled, put}
-use Rattle.listing.specs.Rounded.{tenThousandths, minus}
-
--- "with four decimals": n ten-thousandths, m with a minus
-unfoldable pub decimals : Bool → ℕ → List ℕ
-decimals m n = filled (cond m (bytes "-#.####") (bytes "#.####")) (n / 10000 ∷ n / 1000 % 10 ∷ n / 100 % 10 ∷ n / 10 % 10 ∷ n % 10 ∷ [])
-
-unfoldable pub shown : Float → List ℕ
-shown x = decimals (minus x) (tenThousandths x)
+use Rattle.text.specs.Text.{decimal, put}
+use Rattle.decimals.specs.Shown.{shown}
 
 -- "right-aligned" in w columns
 unfoldable pub right : ℕ → List ℕ → List ℕ

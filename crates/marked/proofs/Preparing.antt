@@ -14,8 +14,9 @@ use Rattle.vector.specs.Rings.{pointsOf, OnSheetRing}
 use Rattle.vector.proofs.Rings as rings
 use Rattle.clean.specs.declared.CleanedRing.{CleanedRing}
 use Rattle.clean.specs.Clean.{cleanPolygon}
-use Rattle.clean.specs.Places.{keptPlaces, surviving, Rising}
+use Rattle.clean.specs.Places.{keptPlaces, Rising}
 use Rattle.clean.specs.Rings.{asCleaned, Cleaned}
+use Rattle.survivors.specs.Survivors.{surviving}
 use Rattle.clean.proofs.Places.{pick-length, kept-image, kept-rising}
 use Rattle.marks.specs.declared.Edge.{Edge}
 use Rattle.marks.specs.declared.EdgeMark.the-variants.{Straight}

@@ -1,5 +1,5 @@
 -- THEOREM `crossing-alone`. The answer is Crossing exactly where the doubles cross, as before; so, for every ring, `same-rings`: its own
--- check accepts it exactly if no two of its edges are told to cross. Touching edges are accepted, and the same rings are refused with 6.
+-- check accepts it exactly if no two of its edges meet with that answer. Touching edges are accepted, and the same rings are refused with 6.
 use Prim.Native.Nat.{ℕ, suc, _%_}
 use mathlib.Core.Path.{_≡_, refl, sym}
 use mathlib.Core.Bool.{Bool, true, false, _&&_, not, cond}
@@ -13,7 +13,7 @@ use Rattle.segments.specs.declared.Crossing.the-variants as meets
 use Rattle.segments.specs.Segments.{segmentsCross}
 use Rattle.segments.specs.Meeting.{touching, segmentsMeet}
 use Rattle.simple.specs.Simple.{edgesCross, polygonSimple}
-use Rattle.simple.specs.Told.{isCrossing, toldToCross, noneToldToCross}
+use Rattle.simple.specs.CrossingsAlone.{isCrossing, meetCrossing, noneMeetCrossing}
 
 pub crossing-alone : (a b c d : GridPoint) → isCrossing (segmentsMeet a b c d) ≡ segmentsCross a b c d
 unfolding segmentsMeet
@@ -25,14 +25,14 @@ crossing-alone a b c d = go (segmentsCross a b c d) (touching a b c d)
     go false false = refl
 
 -- ---- the ring's own check
-pub same-rings : (r : List GridPoint) → polygonSimple r ≡ noneToldToCross r
-unfolding polygonSimple edgesCross noneToldToCross toldToCross
-same-rings r = λ k. leb 3 n && not (any (λ i. any (λ j. ltb (suc i) j && not (eqb (suc j % n) i) && told i j k) n) n)
+pub same-rings : (r : List GridPoint) → polygonSimple r ≡ noneMeetCrossing r
+unfolding polygonSimple edgesCross noneMeetCrossing meetCrossing
+same-rings r = λ k. leb 3 n && not (any (λ i. any (λ j. ltb (suc i) j && not (eqb (suc j % n) i) && same i j k) n) n)
   where
     n : ℕ
     n = length r
 
-    told : (i j : ℕ)
+    same : (i j : ℕ)
         → segmentsCross (Grid.at r i) (Grid.at r (suc i)) (Grid.at r j) (Grid.at r (suc j)) ≡ isCrossing
         (segmentsMeet (Grid.at r i) (Grid.at r (suc i)) (Grid.at r j) (Grid.at r (suc j)))
-    told i j = sym (crossing-alone (Grid.at r i) (Grid.at r (suc i)) (Grid.at r j) (Grid.at r (suc j)))
+    same i j = sym (crossing-alone (Grid.at r i) (Grid.at r (suc i)) (Grid.at r j) (Grid.at r (suc j)))

@@ -1,3 +1,3 @@
--- When a ring is simple, also by what is told of its edges, and when a point is inside one.
+-- When a ring is simple, also by how its edges meet, and when a point is inside one.
 pub mod Simple
-pub mod Told
+pub mod CrossingsAlone

@@ -12,8 +12,8 @@ use borrow.Author.Tests.{eq-eqb, ne-eqb, lt-ltb, le-ltb}
 use Rattle.text.specs.Text.{decimal, Written}
 use Rattle.text.proofs.Writing.{turn-room, turn-written}
 use Rattle.text.proofs.Decimal.{at-most-20}
-use Rattle.listing.specs.Sheet.{decimals}
-use Rattle.listing.proofs.Texts.{decimals-most}
+use Rattle.decimals.specs.Shown.{decimals}
+use Rattle.decimals.proofs.Texts.{decimals-most}
 use Rattle.svg.specs.Place.{origin}
 use Rattle.svg.specs.Form.{exact, plain, part, takes, marks, formedTo, formed}
 

@@ -15,9 +15,9 @@ use Rattle.nodes.proofs.Ranged.{held-is, held-within}
 use Rattle.laws.specs.Within.{Within}
 use Rattle.nodes.specs.Flat.{held}
 use Rattle.blocks.specs.Writing.{bits}
-use Rattle.listing.specs.Rounded.{halfEven, tenThousandths, negative, minus}
-use Rattle.listing.specs.Sheet.{decimals, shown}
-use Rattle.listing.proofs.Rounding.{half-le}
+use Rattle.decimals.specs.Rounded.{halfEven, tenThousandths, negative, minus}
+use Rattle.decimals.specs.Shown.{decimals, shown}
+use Rattle.decimals.proofs.Rounding.{half-le}
 use Rattle.svg.specs.Place.{origin, placeOf, rounded, unitPlace, pointPlace}
 use Rattle.svg.specs.Form.{exact}
 use Rattle.svg.proofs.Forms.{exact-below, exact-above}

@@ -5,7 +5,7 @@ use mathlib.Core.List.{List, [], _∷_, _++_}
 use lib.ListN.{length, getD}
 use lib.Dec.{ltb, eqb}
 use Rattle.text.specs.Text.{decimal}
-use Rattle.listing.specs.Sheet.{decimals}
+use Rattle.decimals.specs.Shown.{decimals}
 use Rattle.svg.specs.Place.{origin}
 
 -- '@' is a place, in mm with the sheet's four decimals; '~' a place without decimals where it is whole; '#' a number

@@ -8,7 +8,7 @@ use lib.IntN.{ℤ, pos}
 use lib.Ieee.{Float}
 use Rattle.nodes.specs.Flat.{held}
 use Rattle.blocks.specs.Writing.{bits}
-use Rattle.listing.specs.Rounded.{halfEven, tenThousandths, minus}
+use Rattle.decimals.specs.Rounded.{halfEven, tenThousandths, minus}
 
 -- the place of 0 mm
 abbrev pub origin : ℕ

@@ -1,4 +1,4 @@
-// Svg: the text of an element, a form with numbers and places put in. It stands above text and listing, and below scene and
+// Svg: the text of an element, a form with numbers and places put in. It stands above text and decimals, and below scene and
 // frame.
 //
 // A place is a coordinate as a whole number of ten-thousandths of a mm, ORIGIN that of 0 mm: those of a listed node are what
@@ -23,8 +23,8 @@ pub fn place_of(x: f64) -> u64
     if !nodes::is_held(x) {
         return ORIGIN;
     }
-    let n = listing::ten_thousandths(x);
-    if listing::minus(x, n) {
+    let n = decimals::ten_thousandths(x);
+    if decimals::minus(x, n) {
         return ORIGIN - n;
     }
     ORIGIN + n
@@ -47,7 +47,7 @@ fn rounded(m: u64) -> u64
     if 8388608 < m {
         return 10240000;
     }
-    listing::half_even(m * 625, 9)
+    decimals::half_even(m * 625, 9)
 }
 
 fn unit_place(n: u32) -> u64
@@ -85,9 +85,9 @@ fn put_exact(out: &mut [u8], at: usize, n: u64) -> usize
     ensures { λ r. ⌜ Written (now (out .entry)) at (Form.exact n) r (now (out .exit)) ⌝ }
 {
     if n < ORIGIN {
-        return listing::put_decimals(out, at, true, ORIGIN - n);
+        return decimals::put_decimals(out, at, true, ORIGIN - n);
     }
-    listing::put_decimals(out, at, false, n - ORIGIN)
+    decimals::put_decimals(out, at, false, n - ORIGIN)
 }
 
 // A place in mm, without decimals where it is whole.

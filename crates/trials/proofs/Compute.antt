@@ -8,13 +8,16 @@ use Rattle.vector.specs.Plane as Plane
 use Rattle.root.specs.Root as Root
 use Rattle.root.specs.Norm as Norm
 use Rattle.cosine.specs.Cosine as Cosine
+use Rattle.arclength.specs.Arclength as Arclength
 use Rattle.chain.specs.Chain as Chain
+use Rattle.nearness.specs.Nearness as Nearness
 use Rattle.clean.specs.Clean as Clean
 use Rattle.segments.specs.Segments as Segments
 use Rattle.segments.specs.Meeting as Meeting
 use Rattle.simple.specs.Simple as Simple
 use Rattle.marks.specs.Marks as Marks
 use Rattle.corner.specs.Corner as Corner
+use Rattle.obstacles.specs.Obstacles as Obstacles
 use Rattle.diagonal.specs.Diagonal as Diagonal
 use Rattle.parts.specs.Cut as Cut
 use Rattle.split.specs.Split as Split
@@ -55,12 +58,12 @@ unfolding Root.wholeRoot Root.nearestRoot Root.dropped Root.roundRoot Root.rootO
 in-root = tt
 
 unfoldable pub in-chain : Unit {0}
-unfolding Cosine.cosine Chain.arc Chain.stays Chain.lastKept Chain.pointAtArclength Chain.stretch Chain.stretchesTo Chain.simplifyChain
+unfolding Cosine.cosine Arclength.arc Arclength.pointAtArclength Chain.stays Chain.lastKept Chain.stretch Chain.stretchesTo Chain.simplifyChain
 in-chain = tt
 
 unfoldable pub in-clean : Unit {0}
-unfolding Clean.tolerance Clean.near Clean.spaced Clean.opened Clean.pointSegmentDistance Clean.flat Clean.bent Clean.straightened Clean.pass
-    Clean.passes Clean.cleanPolygon
+unfolding Nearness.tolerance Nearness.near Nearness.pointSegmentDistance Nearness.isFlat Clean.spaced Clean.opened Clean.flat Clean.bent
+    Clean.straightened Clean.pass Clean.passes Clean.cleanPolygon
 in-clean = tt
 
 unfoldable pub in-simple : Unit {0}
@@ -77,8 +80,8 @@ unfolding Corner.quotient Corner.byQuadrant Corner.measure Corner.bad Corner.mea
 in-corner = tt
 
 unfoldable pub in-diagonal : Unit {0}
-unfolding Diagonal.inRange Diagonal.clearOf Diagonal.blocks Diagonal.runsOver Diagonal.cosineNext Diagonal.cosinePrev Diagonal.meetsRule
-    Diagonal.larger Diagonal.score Diagonal.better Diagonal.bestTo
+unfolding Obstacles.clearOf Obstacles.blocks Obstacles.runsOver Obstacles.unobstructed Diagonal.inRange Diagonal.cosineNext Diagonal.cosinePrev
+    Diagonal.meetsRule Diagonal.larger Diagonal.score Diagonal.better Diagonal.bestTo
 in-diagonal = tt
 
 unfoldable pub in-split : Unit {0}

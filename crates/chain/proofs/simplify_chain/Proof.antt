@@ -14,16 +14,18 @@ use Rattle.laws.proofs.Table.{read-tab}
 use Rattle.vector.specs.Grid.{origin}
 use Rattle.vector.specs.Rings.{pointsOf, OnSheetRing}
 use Rattle.vector.proofs.Rings as rings
+use Rattle.arclength.specs.Arclength.{stepTo, pointAtArclength}
+use Rattle.arclength.specs.Arclength as Arclength
+use Rattle.arclength.proofs.Walk as walk
 use Rattle.chain.specs.Chain as Chain
-use Rattle.chain.specs.Kept.{stepTo}
-use Rattle.chain.proofs.Walk as walk
+use Rattle.chain.proofs.Turning as turning
 use Rattle.chain.proofs.Collect.{Collected, none, kept-first, kept-more, kept-same, kept-whole}
 use Rattle.chain.proofs.simplify_chain.Statement.{statement}
 use Rattle.chain.proofs.simplify_chain.Tie as tie
 
 abbrev Inv-loop : tie.InvT-loop
 Inv-loop chain n points₀ snaps₀ count₀ step arc previous₀ i₀ points snaps count previous i =
-    (1 ≤ i) × (i ≤ n) × (n ≡ chain .count) × OnSheetRing chain × (take n arc ≡ tab (Chain.arc (pointsOf chain)) n)
+    (1 ≤ i) × (i ≤ n) × (n ≡ chain .count) × OnSheetRing chain × (take n arc ≡ tab (Arclength.arc (pointsOf chain)) n)
     × Collected (pointsOf chain) points snaps count previous i
     × (take n step ≡ tab (stepTo (pointsOf chain)) n)
 
@@ -39,7 +41,7 @@ staying c =
     let l = c .before .before .before .before .before .before in
     let s = l .before .before .before .before .before .before in
     let h = rings.room (s .args .t1) (s .pre) in
-    walk.stays-in (s .args .t1 .points) (s .args .t1 .count) h (l .loop .i) (omega arith)
+    turning.stays-in (s .args .t1 .points) (s .args .t1 .count) h (l .loop .i) (omega arith)
     (omega arith) _ (c .before .before .before .before .next .ensures .0) _ (c .stays .ensures)
 
 -- what is collected after the turn, by whether the point stayed
@@ -58,12 +60,12 @@ joined c =
     let arc = l .before .before .before .before .measure .result .arc in
     ⊎-elim
     (λ w.
-    let u = read-tab arc (Chain.arc r) n (o .previous) nan (o .inv .4) (omega arith) in
-    let v = read-tab arc (Chain.arc r) n (o .i) nan (o .inv .4) (omega arith) in
+    let u = read-tab arc (Arclength.arc r) n (o .previous) nan (o .inv .4) (omega arith) in
+    let v = read-tab arc (Arclength.arc r) n (o .i) nan (o .inv .4) (omega arith) in
     rw (w .4, w .5, w .6, w .7)
     (kept-more r (o .points) (o .snaps) (o .count) (o .previous) (o .i) (o .inv .5) (omega arith) (sym (staying (c .before)) ∙ w .0 .taken)
     _ (sym (getD-take n ps (o .i) origin (omega arith))) (o .inv .3 .points (o .i))
-    _ (w .2 .ensures ∙ (λ j. Chain.pointAtArclength r (lit 5 1 *f (u j +f v j))))))
+    _ (w .2 .ensures ∙ (λ j. pointAtArclength r (lit 5 1 *f (u j +f v j))))))
     (λ w. rw (w .1, w .2, w .3, w .4) (kept-same r (o .points) (o .snaps) (o .count) (o .previous) (o .i) (o .inv .5) (sym (staying (c .before)) ∙ w .0 .left)))
     (c .if2 .came)
 

@@ -3,8 +3,8 @@ use Prim.Native.Nat.{_+_}
 use mathlib.Core.Path.{_≡_}
 use mathlib.Core.Bool.{true, false}
 use lib.ListN.{length}
-use Rattle.listing.specs.Sheet.{decimals}
-use Rattle.listing.proofs.Texts.{decimals-long}
+use Rattle.decimals.specs.Shown.{decimals}
+use Rattle.decimals.proofs.Texts.{decimals-long}
 use native.Mathlib.Omega.{arith}
 use borrow.Author.Needs.{needs}
 use Rattle.listing.proofs.columns.Statement.{statement}

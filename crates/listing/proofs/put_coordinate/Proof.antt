@@ -6,9 +6,10 @@ use mathlib.Core.List.{List}
 use lib.ListN.{length}
 use lib.Ieee.{Float}
 use Rattle.text.specs.Text.{Written}
-use Rattle.listing.specs.Rounded.{tenThousandths, minus}
-use Rattle.listing.specs.Sheet.{decimals, shown, right}
-use Rattle.listing.proofs.Texts.{decimals-most}
+use Rattle.decimals.specs.Rounded.{tenThousandths, minus}
+use Rattle.decimals.specs.Shown.{decimals, shown}
+use Rattle.decimals.proofs.Texts.{decimals-most}
+use Rattle.listing.specs.Sheet.{right}
 use Rattle.listing.proofs.Aligned.{right-room, right-written}
 use native.Mathlib.Omega.{arith}
 use borrow.Author.Needs.{needs}

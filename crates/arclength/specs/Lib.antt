@@ -1,0 +1,2 @@
+-- The lengths along a chain.
+pub mod Arclength

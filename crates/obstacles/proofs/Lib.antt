@@ -1,0 +1,2 @@
+-- Laws for the code of this crate.
+pub mod Blocking

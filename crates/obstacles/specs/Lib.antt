@@ -1,0 +1,2 @@
+-- What stands in the way of a diagonal.
+pub mod Obstacles

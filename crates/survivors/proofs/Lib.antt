@@ -1,0 +1,2 @@
+-- That a mark that survives stays on its edge.
+pub mod Survivors

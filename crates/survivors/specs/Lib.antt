@@ -1,0 +1,2 @@
+-- Which marks of a ring's edges survive cleaning.
+pub mod Survivors
