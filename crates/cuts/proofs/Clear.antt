@@ -21,8 +21,9 @@ use Rattle.segments.specs.Meeting.{strictlyBetween}
 use Rattle.simple.specs.Simple.{pointInPolygon}
 use Rattle.marks.specs.Part.{Part}
 use Rattle.corner.specs.declared.Limits.{Limits}
+use Rattle.judge.specs.Judge.{inRange}
 use Rattle.obstacles.specs.Obstacles.{blocks, runsOver, unobstructed}
-use Rattle.diagonal.specs.Diagonal.{inRange, cosineNext, cosinePrev, meetsRule}
+use Rattle.diagonal.specs.Diagonal.{cosineNext, cosinePrev, meetsRule}
 use Rattle.parts.specs.Cut.{rotate}
 use Rattle.split.specs.Split.{Cut, splitBadVertices}
 use Rattle.cuts.specs.Counts.{Sound}

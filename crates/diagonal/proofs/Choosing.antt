@@ -13,8 +13,9 @@ use Rattle.vector.specs.Grid.{origin, sub, same, at}
 use Rattle.vector.proofs.Rings.{at-in, prev-first}
 use Rattle.cosine.specs.Cosine.{cosine}
 use Rattle.corner.specs.declared.Limits.{Limits}
+use Rattle.judge.specs.Judge.{inRange, larger}
 use Rattle.obstacles.specs.Obstacles.{unobstructed}
-use Rattle.diagonal.specs.Diagonal.{inRange, cosineNext, cosinePrev, meetsRule, larger, score, better, bestTo}
+use Rattle.diagonal.specs.Diagonal.{cosineNext, cosinePrev, meetsRule, score, better, bestTo}
 
 -- what the code holds of the best so far
 abbrev pub held : Bool → ℕ → Option ℕ

@@ -4,16 +4,13 @@ use mathlib.Core.Bool.{Bool, _&&_, not, cond}
 use mathlib.Core.Option.{Option, none, some}
 use mathlib.Core.List.{List}
 use lib.Ieee.{Float}
-use Rattle.laws.specs.Double.{_<f_, _≤f_}
+use Rattle.laws.specs.Double.{_<f_}
 use Rattle.vector.specs.declared.GridPoint.{GridPoint}
 use Rattle.vector.specs.Grid.{sub, same, at, prev}
 use Rattle.cosine.specs.Cosine.{cosine}
 use Rattle.corner.specs.declared.Limits.{Limits}
+use Rattle.judge.specs.Judge.{inRange, larger}
 use Rattle.obstacles.specs.Obstacles.{unobstructed}
-
--- "both <= 0.9781476007338057 (12 degrees) and >= -0.9396926207859084 (160)"
-unfoldable pub inRange : Limits → Float → Bool
-inRange L c = (c ≤f L .greatest) && (L .least ≤f c)
 
 -- "its cosines to next and to prev"
 unfoldable pub cosineNext : List GridPoint → ℕ → Float
@@ -32,10 +29,7 @@ meetsRule L r k =
     && inRange L (cosineNext r k)
     && inRange L (cosinePrev r k)
 
--- "the smallest larger cosine wins": the larger of the two
-unfoldable pub larger : Float → Float → Float
-larger x y = cond (x <f y) y x
-
+-- "the smallest larger cosine wins"
 unfoldable pub score : List GridPoint → ℕ → Float
 score r k = larger (cosineNext r k) (cosinePrev r k)
 

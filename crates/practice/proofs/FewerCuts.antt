@@ -16,7 +16,8 @@ use Rattle.vector.specs.declared.GridPoint.{GridPoint}
 use Rattle.marks.specs.Part.{Part}
 use Rattle.corner.specs.declared.Limits.{Limits}
 use Rattle.corner.specs.Corner.{bad, measureAt, worst}
-use Rattle.diagonal.specs.Diagonal.{inRange, meetsRule, better, bestTo}
+use Rattle.judge.specs.Judge.{inRange}
+use Rattle.diagonal.specs.Diagonal.{meetsRule, better, bestTo}
 use Rattle.parts.specs.Cut.{rotate}
 use Rattle.split.specs.Split.{Stack, splitPolygonAt, cutAt, pop, pops, start, splitBadVertices}
 use Rattle.cuts.proofs.Machine.{emptied}

@@ -17,6 +17,7 @@ use Rattle.segments.specs.Meeting as Meeting
 use Rattle.simple.specs.Simple as Simple
 use Rattle.marks.specs.Marks as Marks
 use Rattle.corner.specs.Corner as Corner
+use Rattle.judge.specs.Judge as Judge
 use Rattle.obstacles.specs.Obstacles as Obstacles
 use Rattle.diagonal.specs.Diagonal as Diagonal
 use Rattle.parts.specs.Cut as Cut
@@ -80,8 +81,8 @@ unfolding Corner.quotient Corner.byQuadrant Corner.measure Corner.bad Corner.mea
 in-corner = tt
 
 unfoldable pub in-diagonal : Unit {0}
-unfolding Obstacles.clearOf Obstacles.blocks Obstacles.runsOver Obstacles.unobstructed Diagonal.inRange Diagonal.cosineNext Diagonal.cosinePrev
-    Diagonal.meetsRule Diagonal.larger Diagonal.score Diagonal.better Diagonal.bestTo
+unfolding Obstacles.clearOf Obstacles.blocks Obstacles.runsOver Obstacles.unobstructed Judge.inRange Diagonal.cosineNext Diagonal.cosinePrev
+    Diagonal.meetsRule Judge.larger Diagonal.score Diagonal.better Diagonal.bestTo
 in-diagonal = tt
 
 unfoldable pub in-split : Unit {0}
