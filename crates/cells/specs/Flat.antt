@@ -25,7 +25,11 @@ use Rattle.cells.specs.Stages.{markAt}
 use Rattle.cells.specs.Claims.{ValidPiece}
 use Rattle.cells.specs.Asks.{Ask, attemptAsks, subdivideAsks}
 
--- ---- corner i of a piece, in mm
+-- ---- a piece: its points and the marks of its edges
+abbrev pub pieceOf : Ring → List Edge → MarkedRing
+pieceOf r es = record { ring = r; edges = es }
+
+-- corner i of a piece, in mm
 abbrev pub cornerAt : Ring → ℕ → Point
 cornerAt r i = inMm (getD (pointsOf r) i origin)
 

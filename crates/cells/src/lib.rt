@@ -15,10 +15,9 @@ ghost use Rattle.cells.specs.Asks.{asksFor};
 ghost use Rattle.cells.specs.Rims.{rimsBy};
 ghost use Rattle.quads.specs.Flat.{ListedTo, overCells};
 ghost use Rattle.cells.specs.Flat.{CanAdd, Adds, cornerAt, middleAt, farAt, CanTry, CanSubdividePiece, attemptIn, subdivideIn, triedOf};
-ghost use Rattle.cells.specs.Flat.{cleared, setAt, sideAt, attemptAsksIn, subdivideAsksIn};
+ghost use Rattle.cells.specs.Flat.{cleared, setAt, sideAt, pieceOf, attemptAsksIn, subdivideAsksIn};
 use marks::Edge;
 use marks::EdgeMark;
-use marks::MarkedRing;
 use nodes::Nearby;
 use nodes::NodeNumber;
 use vector::MOST_POINTS;
@@ -163,27 +162,26 @@ fn attempt(
     used: usize,
     rims: &mut [u8],
     cells: &mut [NodeNumber],
-    piece: MarkedRing,
+    ring: Ring,
+    edges: [Edge; MOST_POINTS],
     sides: [bool; MOST_POINTS],
     share: f64,
     near: Nearby,
     numbers: &[NodeNumber],
     xs: &[f64],
 ) -> Tried
-    requires { ⌜ CanTry share (now nodes) used piece × (piece .ring .count * 4 ≤ length (now cells)) × ValidNearby (now nodes) used near (now numbers) (now xs)
-        × (length (attemptIn share (now nodes) used piece .nodes) ≤ length (now rims)) ⌝ }
-    ensures { λ r. ⌜ (r ≡ triedOf (attemptIn share (now (nodes .entry)) used piece))
-        × (now (nodes .exit) ≡ over (now (nodes .entry)) (attemptIn share (now (nodes .entry)) used piece .nodes))
-        × (now (cells .exit) ≡ overCells (now (cells .entry)) (attemptIn share (now (nodes .entry)) used piece .cells))
-        × (now (rims .exit) ≡ rimsBy used (length (attemptIn share (now (nodes .entry)) used piece .nodes))
-        (attemptAsksIn share (now (nodes .entry)) used piece sides) (now (rims .entry))) ⌝ }
+    requires { ⌜ CanTry share (now nodes) used (pieceOf ring edges) × (ring .count * 4 ≤ length (now cells)) × ValidNearby (now nodes) used near
+        (now numbers) (now xs) × (length (attemptIn share (now nodes) used (pieceOf ring edges) .nodes) ≤ length (now rims)) ⌝ }
+    ensures { λ r. ⌜ (r ≡ triedOf (attemptIn share (now (nodes .entry)) used (pieceOf ring edges)))
+        × (now (nodes .exit) ≡ over (now (nodes .entry)) (attemptIn share (now (nodes .entry)) used (pieceOf ring edges) .nodes))
+        × (now (cells .exit) ≡ overCells (now (cells .entry)) (attemptIn share (now (nodes .entry)) used (pieceOf ring edges) .cells))
+        × (now (rims .exit) ≡ rimsBy used (length (attemptIn share (now (nodes .entry)) used (pieceOf ring edges) .nodes))
+        (attemptAsksIn share (now (nodes .entry)) used (pieceOf ring edges) sides) (now (rims .entry))) ⌝ }
 {
-    let n = piece.ring.count;
-    let ring = piece.ring;
-    let marks = piece.edges;
+    let n = ring.count;
     let c = add_corners(nodes, used, ring, near, numbers, xs);
     let vs = c.list;
-    let m = add_middles(nodes, c.used, vs, marks, n, share, near, numbers, xs);
+    let m = add_middles(nodes, c.used, vs, edges, n, share, near, numbers, xs);
     let ms = m.list;
     let p = quads::mean(nodes, vs, n);
     let z = numbering::add_node(nodes, m.used, p, near, numbers, xs);
@@ -203,35 +201,37 @@ pub fn subdivide(
     used: usize,
     rims: &mut [u8],
     cells: &mut [NodeNumber],
-    piece: MarkedRing,
+    ring: Ring,
+    edges: [Edge; MOST_POINTS],
     sides: [bool; MOST_POINTS],
     share: f64,
     near: Nearby,
     numbers: &[NodeNumber],
     xs: &[f64],
 ) -> Tried
-    requires { ⌜ CanSubdividePiece share (now nodes) used piece × (piece .ring .count * 4 ≤ length (now cells)) × ValidNearby (now nodes) used near
+    requires { ⌜ CanSubdividePiece share (now nodes) used (pieceOf ring edges) × (ring .count * 4 ≤ length (now cells)) × ValidNearby (now nodes) used near
         (now numbers) (now xs)
-        × (length (subdivideIn share (now nodes) used piece .nodes) ≤ length (now rims)) ⌝ }
-    ensures { λ r. ⌜ (r ≡ triedOf (subdivideIn share (now (nodes .entry)) used piece))
-        × (now (nodes .exit) ≡ over (now (nodes .entry)) (subdivideIn share (now (nodes .entry)) used piece .nodes))
-        × (now (cells .exit) ≡ overCells (now (cells .entry)) (subdivideIn share (now (nodes .entry)) used piece .cells))
-        × (now (rims .exit) ≡ rimsBy used (length (subdivideIn share (now (nodes .entry)) used piece .nodes))
-        (subdivideAsksIn share (now (nodes .entry)) used piece sides) (now (rims .entry))) ⌝ }
+        × (length (subdivideIn share (now nodes) used (pieceOf ring edges) .nodes) ≤ length (now rims)) ⌝ }
+    ensures { λ r. ⌜ (r ≡ triedOf (subdivideIn share (now (nodes .entry)) used (pieceOf ring edges)))
+        × (now (nodes .exit) ≡ over (now (nodes .entry)) (subdivideIn share (now (nodes .entry)) used (pieceOf ring edges) .nodes))
+        × (now (cells .exit) ≡ overCells (now (cells .entry)) (subdivideIn share (now (nodes .entry)) used (pieceOf ring edges) .cells))
+        × (now (rims .exit) ≡ rimsBy used (length (subdivideIn share (now (nodes .entry)) used (pieceOf ring edges) .nodes))
+        (subdivideAsksIn share (now (nodes .entry)) used (pieceOf ring edges) sides) (now (rims .entry))) ⌝ }
 {
     let t = attempt(
         nodes,
         used,
         rims,
         cells,
-        piece,
+        ring,
+        edges,
         sides,
         share,
         near,
         numbers,
         xs,
     );
-    if t.fails == piece.ring.count {
+    if t.fails == ring.count {
         return t;
     }
     if t.far {
@@ -240,17 +240,13 @@ pub fn subdivide(
     let e = Edge {
         mark: EdgeMark::Straight,
     };
-    let ring = piece.ring;
-    let plain = MarkedRing {
-        ring: ring,
-        edges: [e; MOST_POINTS],
-    };
     attempt(
         nodes,
         t.used,
         rims,
         cells,
-        plain,
+        ring,
+        [e; MOST_POINTS],
         sides,
         share,
         near,

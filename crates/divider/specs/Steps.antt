@@ -1,10 +1,14 @@
 -- The steps of a call: the ring that it prepares, as an array holds it, and what the core asks for. Definitions only.
 use Prim.Native.Nat.{ℕ, _+_, _*_, _-_, _/_, _≤_}
 use mathlib.Core.Path.{_≡_}
+use mathlib.Core.Bool.{cond}
 use mathlib.Core.List.{List}
-use lib.IntN.{ℤ}
+use lib.Dec.{eqb}
+use lib.IntN.{ℤ, natAbs}
 use lib.ListN.{length}
 use lib.Ieee.{Float}
+use Rattle.vector.specs.declared.GridPoint.{GridPoint}
+use Rattle.vector.specs.Grid.{polygonArea}
 use Rattle.vector.specs.Size.{AllOnSheet}
 use Rattle.vector.specs.Rings.{mostPoints}
 use Rattle.chain.specs.Chain.{simplifyChain}
@@ -19,11 +23,13 @@ use Rattle.pieces.specs.declared.Subdivision.the-variants as subdivision
 use Rattle.table.specs.declared.Answer as table
 use Rattle.table.specs.declared.Answer.the-variants as answer
 use Rattle.call.specs.Call.{Lists, cellReserve}
-use Rattle.call.specs.Divide.{CallAnswer, refusedOr, core, startOf}
+use Rattle.table.specs.Refusals.{firstOf}
+use Rattle.call.specs.Divide.{CallAnswer, ringTests, refusedOr, core, startOf}
 use Rattle.call.specs.Demand.{Prepared}
 use Rattle.call.specs.Marked.{allPoints}
 use Rattle.call.specs.Lent.{allCells, LentRecords, callOfRecords, testsBy}
 use Rattle.divider.specs.declared.CellRoom.{CellRoom}
+use Rattle.divider.specs.declared.RingTest.{RingTest}
 
 -- the points of a ring or a chain that was lent are not too many, and are on the sheet
 pub record OnPaper (l : List ℤ) : Type 0 where
@@ -38,6 +44,10 @@ pub record Prepares (ring chain : List ℤ) (size : ℕ) (m : MarkedRing) : Type
 -- the lists that doubles and numbers hold, u and k of their places used, t the rim marks
 abbrev pub listsIn : List Float → ℕ → List ℕ → List ℕ → ℕ → Lists
 listsIn l u t q k = record { nodes = nodesIn l (length l / 2); nodeCount = u; rims = t; cells = allCells q; cellCount = k }
+
+-- what the tests of a cleaned ring find: the first that refuses it, or 0 and the ring's doubled area
+abbrev pub testOf : List GridPoint → RingTest
+testOf r = let k = firstOf (ringTests r) in record { code = k; area = cond (eqb k 0) (natAbs (polygonArea r)) 0 }
 
 -- the answer of pieces of which one failed. It is not asked of pieces that are done: these have the number alone
 abbrev pub failedAnswer : Subdivision → ℕ → table.Answer

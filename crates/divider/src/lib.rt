@@ -8,17 +8,18 @@
 ghost use mathlib.Core.Path.{_≡_};
 ghost use mathlib.Core.List.{List};
 ghost use Prim.Native.Nat.{_≤_};
+ghost use lib.IntN.{natAbs};
 ghost use lib.ListN.{length};
+ghost use Rattle.vector.specs.Grid.{polygonArea};
 ghost use Rattle.vector.specs.Rings.{pointsOf, OnSheetRing};
 ghost use Rattle.marks.specs.Edges.{partIn};
 ghost use Rattle.corner.specs.Limits.{delivered};
 ghost use Rattle.split.specs.Split.{splitBadVertices};
 ghost use Rattle.quads.specs.declared.Cell.{Cell};
 ghost use Rattle.table.specs.Answers as Answers;
-ghost use Rattle.table.specs.Refusals.{firstOf};
-ghost use Rattle.call.specs.Divide.{ringTests, Whole, outcomeOf, answered, core};
+ghost use Rattle.call.specs.Divide.{Whole, outcomeOf, answered, core};
 ghost use Rattle.divider.specs.Promise.{Leaves, Promise};
-ghost use Rattle.divider.specs.Steps.{OnPaper, Prepares, listsIn, failedAnswer, CanDivideRing, divideInto, HasRoom};
+ghost use Rattle.divider.specs.Steps.{OnPaper, Prepares, listsIn, testOf, failedAnswer, CanDivideRing, divideInto, HasRoom};
 use corner::Limits;
 use marks::MarkedRing;
 use nodes::NodeNumber;
@@ -26,21 +27,31 @@ use pieces::Subdivision;
 use table::Answer;
 use vector::Ring;
 
-// Refusals 5 to 7 of a cleaned ring, or 0.
-fn ring_refusal(ring: Ring) -> u32
+// What the tests of a cleaned ring found: the number of a refusal, or 0 and the ring's doubled area.
+struct RingTest {
+    code: u32,
+    area: u64,
+}
+
+// Refusals 5 to 7 of a cleaned ring.
+fn ring_refusal(ring: Ring) -> RingTest
     requires { ⌜ OnSheetRing ring ⌝ }
-    ensures { λ r. ⌜ r ≡ firstOf (ringTests (pointsOf ring)) ⌝ }
+    ensures { λ r. ⌜ r ≡ testOf (pointsOf ring) ⌝ }
 {
     if ring.count < 3 {
-        return 5;
+        return RingTest { code: 5, area: 0 };
     }
     if !simple::polygon_simple(ring) {
-        return 6;
+        return RingTest { code: 6, area: 0 };
     }
-    if 0 < vector::polygon_area(ring) {
-        return 0;
+    let area = vector::polygon_area(ring);
+    if 0 < area {
+        return RingTest {
+            code: 0,
+            area: vector::magnitude(area),
+        };
     }
-    7
+    RingTest { code: 7, area: 0 }
 }
 
 // The answer of a ring with a piece that failed: 8.
@@ -62,10 +73,12 @@ fn failed(laid: Subdivision, cells: usize) -> Answer
     }
 }
 
-// The pieces of a ring of `own` points that passed every test, and their cells over the places from cell_count on.
+// The pieces of a ring of `own` points that passed every test, and their cells over the places from cell_count on. Its
+// doubled area is the one that the tests found.
 fn lay_out(
     limits: Limits,
     ring: MarkedRing,
+    area: u64,
     own: usize,
     nodes: &mut [f64],
     node_count: usize,
@@ -73,7 +86,8 @@ fn lay_out(
     cells: &mut [NodeNumber],
     cell_count: usize,
 ) -> Answer
-    requires { ⌜ CanDivideRing limits own ring (now nodes) «node_count» (now rims) (now cells) «cell_count» × Whole (partIn ring .points) ⌝ }
+    requires { ⌜ CanDivideRing limits own ring (now nodes) «node_count» (now rims) (now cells) «cell_count» × Whole (partIn ring .points)
+        × (area ≡ natAbs (polygonArea (partIn ring .points))) ⌝ }
     ensures { λ r. ⌜ Leaves (answered limits own (partIn ring) (listsIn (now (nodes .entry)) «node_count» (now (rims .entry))
         (now (cells .entry)) «cell_count») (splitBadVertices limits (partIn ring))
         (outcomeOf limits (partIn ring) (listsIn (now (nodes .entry)) «node_count» (now (rims .entry)) (now (cells .entry)) «cell_count»)))
@@ -109,7 +123,7 @@ fn lay_out(
         cuts: s.cuts,
         pieces: count,
         turned: s.turned,
-        area: vector::magnitude(vector::polygon_area(cleaned)),
+        area: area,
         nodes: listed,
         cells: cell_count + added,
     }
@@ -132,10 +146,10 @@ pub fn divide_core(
         (Answers.values r) (now (nodes .entry)) (now (nodes .exit)) (now (rims .exit)) (now (cells .entry)) (now (cells .exit)) ⌝ }
 {
     let cleaned = ring.ring;
-    let code = ring_refusal(cleaned);
-    if code != 0 {
+    let test = ring_refusal(cleaned);
+    if test.code != 0 {
         return Answer::Refused {
-            code: code,
+            code: test.code,
             nodes: node_count,
             cells: cell_count,
         };
@@ -143,6 +157,7 @@ pub fn divide_core(
     lay_out(
         limits,
         ring,
+        test.area,
         own,
         nodes,
         node_count,

@@ -100,11 +100,9 @@ pub fn subdivide_all(
     let mut u = used;
     let mut at = first;
     for i in 0..pieces.count {
-        let piece = MarkedRing {
-            ring: parts::piece_points(points, pieces, i),
-            edges: parts::piece_marks(edges, pieces, i),
-        };
-        let n = piece.ring.count;
+        let corners = parts::piece_points(points, pieces, i);
+        let marks = parts::piece_marks(edges, pieces, i);
+        let n = corners.count;
         let sides = piece_sides(pieces, i);
         let start = at * 4;
         let t = cells::subdivide(
@@ -112,7 +110,8 @@ pub fn subdivide_all(
             u,
             rims,
             &mut cells[start..],
-            piece,
+            corners,
+            marks,
             sides,
             share,
             near,

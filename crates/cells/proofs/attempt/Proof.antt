@@ -9,12 +9,12 @@ use Rattle.cells.proofs.attempt.Tie as tie
 
 add-corners-requires : tie.Need-add-corners-requires
 add-corners-requires c κs =
-    let s = c .before .before .before .before .before .before .before .before in (one.add-corners (s .pre .0), s .pre .0 .sheet, s .pre .2)
+    let s = c .before .before .before .before .before .before in (one.add-corners (s .pre .0), s .pre .0 .sheet, s .pre .2)
 
 add-middles-requires : tie.Need-add-middles-requires
 add-middles-requires c κs =
     let k = c .before .before .before .before in
-    let s = k .before .before .before .before .before .before .before .before .before in
+    let s = k .before .before .before .before .before .before .before in
     let f = s .pre .0 in
     (one.add-middles f (k .add-corners .ensures), listed (k .add-corners .ensures), held (k .add-corners .ensures) (s .pre .2))
 
@@ -22,7 +22,7 @@ mean-requires : tie.Need-mean-requires
 mean-requires c κs =
     let m = c .before .before .before .before in
     let k = m .before .before .before .before .before in
-    let s = k .before .before .before .before .before .before .before .before .before in
+    let s = k .before .before .before .before .before .before .before in
     let f = s .pre .0 in
     (f .some, f .sheet .count, one.corner-room f (k .add-corners .ensures) (m .add-middles .ensures .0))
 
@@ -31,7 +31,7 @@ add-node-requires c κs =
     let q = c .before in
     let m = q .before .before .before .before .before in
     let k = m .before .before .before .before .before in
-    let s = k .before .before .before .before .before .before .before .before .before in
+    let s = k .before .before .before .before .before .before .before in
     let f = s .pre .0 in
     let a = k .add-corners .ensures in
     let b = m .add-middles .ensures .0 in
@@ -43,7 +43,7 @@ put-cells-requires c κs =
     let q = z .before .before in
     let m = q .before .before .before .before .before in
     let k = m .before .before .before .before .before in
-    let s = k .before .before .before .before .before .before .before .before .before in
+    let s = k .before .before .before .before .before .before .before in
     (s .pre .0 .sheet .count, s .pre .1, m .add-middles .ensures .0 .long, k .add-corners .ensures .long)
 
 mark-rims-requires : tie.Need-mark-rims-requires
@@ -52,7 +52,7 @@ mark-rims-requires c κs =
     let q = z .before .before in
     let m = q .before .before .before .before .before in
     let k = m .before .before .before .before .before in
-    let s = k .before .before .before .before .before .before .before .before .before in
+    let s = k .before .before .before .before .before .before .before in
     let f = s .pre .0 in
     let a = k .add-corners .ensures in
     let b = m .add-middles .ensures .0 in
@@ -73,7 +73,7 @@ first-failing-requires c κs =
     let q = z .before .before in
     let m = q .before .before .before .before .before in
     let k = m .before .before .before .before .before in
-    let s = k .before .before .before .before .before .before .before .before .before in
+    let s = k .before .before .before .before .before .before .before in
     let f = s .pre .0 in
     let a = k .add-corners .ensures in
     let b = m .add-middles .ensures .0 in
@@ -107,7 +107,7 @@ returns c =
     let q = z .before .before in
     let m = q .before .before .before .before .before in
     let k = m .before .before .before .before .before in
-    let s = k .before .before .before .before .before .before .before .before .before in
+    let s = k .before .before .before .before .before .before .before in
     let e = z .add-node .ensures in
     one.answer (s .pre .0) (k .add-corners .ensures) (m .add-middles .ensures .0) (q .mean .ensures) (e .0) (e .1) (s .args .cells .now) (s .args .sides)
     (s .args .rims .now) (m .add-middles .ensures .1) (c .first-failing .ensures)

@@ -42,7 +42,7 @@ returns-2 c =
 
 attempt-requires-2 : tie.Need-attempt-requires-2
 attempt-requires-2 c κs =
-    let i = c .before .before .before .before in
+    let i = c .before .before .before in
     let x = i .before .before .before .before .before .before .before .before .before .before in
     let s = x .before .before .before .before .before .before .before .before .before in (
       two.try-second (s .pre .0) (s .args .cells .now) (s .args .sides) (s .args .rims .now) (x .attempt .ensures) (i .before .if1 .left) (i .if2 .left),
@@ -64,7 +64,7 @@ same-length-9 c = search needs
 returns-3 : tie.Need-returns-3
 returns-3 c =
     let y = c .before .before .before .before .before .before in
-    let i = y .before .before .before .before .before in
+    let i = y .before .before .before .before in
     let x = i .before .before .before .before .before .before .before .before .before .before in
     let s = x .before .before .before .before .before .before .before .before .before in
     two.if-again (s .pre .0) (s .args .cells .now) (s .args .sides) (s .args .rims .now) (x .attempt .ensures) (i .before .if1 .left) (i .if2 .left)

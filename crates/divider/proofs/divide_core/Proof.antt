@@ -2,6 +2,8 @@
 use mathlib.Core.Path.{_≡_}
 use borrow.Author.Needs.{needs}
 use Rattle.marks.specs.Edges.{partIn}
+use Rattle.vector.specs.Rings.{pointsOf}
+use Rattle.divider.proofs.RingTests.{code-is, area-is}
 use Rattle.divider.proofs.Calling.{core-refused, core-whole, core-laid}
 use Rattle.divider.proofs.divide_core.Statement.{statement}
 use Rattle.divider.proofs.divide_core.Tie as tie
@@ -11,19 +13,20 @@ ring-refusal-requires c κs = c .before .before .before .before .pre .held .ring
 
 returns : tie.Need-returns
 returns c =
-    let a = c .before .before .before .before .before .before .args in
-    let n = c .before .ring-refusal in
-    core-refused (a .limits) (a .own) (partIn (a .ring)) (a .nodes .now) (a .node-count) (a .rims .now) (a .cells .now) (a .cell-count) (n .result)
-    (n .ensures) (c .if1 .taken)
+    let a = c .before .before .before .before .before .before .before .args in
+    let n = c .before .before .ring-refusal in
+    core-refused (a .limits) (a .own) (partIn (a .ring)) (a .nodes .now) (a .node-count) (a .rims .now) (a .cells .now) (a .cell-count) (n .result .code)
+    (code-is (pointsOf (a .ring .ring)) (n .ensures)) (c .if1 .taken)
 
 lay-out-requires : tie.Need-lay-out-requires
 lay-out-requires c κs =
-    let s = c .before .before .before .before .before .before .before .before .before in
+    let s = c .before .before .before .before .before .before .before .before .before .before in
     let a = s .args in
-    let n = c .before .before .before .before .ring-refusal in (
+    let n = c .before .before .before .before .before .ring-refusal in (
       s .pre,
-      core-whole (a .limits) (a .own) (partIn (a .ring)) (a .nodes .now) (a .node-count) (a .rims .now) (a .cells .now) (a .cell-count) (n .result) (n .ensures)
-          (c .before .before .before .if1 .left),
+      core-whole (a .limits) (a .own) (partIn (a .ring)) (a .nodes .now) (a .node-count) (a .rims .now) (a .cells .now) (a .cell-count) (n .result .code)
+          (code-is (pointsOf (a .ring .ring)) (n .ensures)) (c .before .before .before .if1 .left),
+      area-is (pointsOf (a .ring .ring)) (n .ensures) (c .before .before .before .if1 .left),
     )
 
 same-length : tie.Need-same-length
@@ -37,9 +40,10 @@ same-length-3 c = search needs
 
 returns-2 : tie.Need-returns-2
 returns-2 c =
-    let a = c .before .before .before .before .before .before .before .before .before .before .before .before .before .before .before .before .args in
-    let n = c .before .before .before .before .before .before .before .before .before .before .before .ring-refusal in
-    core-laid (a .limits) (a .own) (partIn (a .ring)) (a .nodes .now) (a .node-count) (a .rims .now) (a .cells .now) (a .cell-count) (n .result) (n .ensures)
+    let a = c .before .before .before .before .before .before .before .before .before .before .before .before .before .before .before .before .before .args in
+    let n = c .before .before .before .before .before .before .before .before .before .before .before .before .ring-refusal in
+    core-laid (a .limits) (a .own) (partIn (a .ring)) (a .nodes .now) (a .node-count) (a .rims .now) (a .cells .now) (a .cell-count) (n .result .code)
+    (code-is (pointsOf (a .ring .ring)) (n .ensures))
     (c .before .before .before .before .before .before .before .before .before .before .if1 .left) _ _ _ _
     (c .before .before .before .before .before .before .lay-out .ensures)
 

@@ -1,10 +1,8 @@
 -- `lay_out`: the answer of the pieces, done or failed, is the definition's.
-use Prim.Native.Nat.{_^_}
 use native.Mathlib.Omega.{arith}
 use mathlib.Core.Path.{_≡_, sym, ap, _∙_}
 use lib.Seq.{length-take-le}
 use borrow.Author.Needs.{needs}
-use Rattle.laws.proofs.Signed.{small64}
 use Rattle.vector.proofs.Rings.{room}
 use Rattle.marks.specs.declared.MarkedRing.{MarkedRing}
 use Rattle.parts.specs.Pieces.{marksOf}
@@ -20,7 +18,6 @@ use Rattle.divider.specs.Promise.{Leaves}
 use Rattle.marks.specs.Edges.{partIn}
 use Rattle.divider.specs.Steps.{listsIn, failedAnswer}
 use Rattle.divider.proofs.Leaving.{moved}
-use Rattle.divider.proofs.RingTests.{area-size}
 use Rattle.divider.proofs.Laying.{marks-length, every-length, three, shown, count-is, outcome-is, can-subdivide, mark-room-in, rims-are}
 use Rattle.divider.proofs.LaidOut.{cell-room, laid-done, laid-failed}
 use Rattle.divider.proofs.lay_out.Statement.{statement}
@@ -104,31 +101,22 @@ mark-count-requires c κs =
     c .before .before .before .before .before .before .before .before .before .before .before .before .before .before .before .before .before .before .before
     .before .pre .0 .held
 
-polygon-area-requires : tie.Need-polygon-area-requires
-polygon-area-requires c κs =
-    c .before .before .before .before .before .before .before .before .before .before .before .before .before .before .before .before .before .before .before
-    .before .before .pre .0 .held .ring
-
-magnitude-requires : tie.Need-magnitude-requires
-magnitude-requires c κs = small64 (c .polygon-area .result) (2 ^ 55) (omega arith) (omega (arith, c .polygon-area .ensures .1))
-
-add-t27 : tie.Need-add-t27
-add-t27 c =
+add-t26 : tie.Need-add-t26
+add-t26 c =
     let s =
-    c .before .before .before .before .before .before .before .before .before .before .before .before .before .before .before .before .before .before .before
-    .before .before .before .before in
+    c .before .before .before .before .before .before .before .before .before .before .before .before .before .before .before .before .before .before .before .before .before in
     let a = s .args in
     let t =
-    c .before .before .before .before .before .before .before .before .before .before .before .before .before .before .before .before .before
+    c .before .before .before .before .before .before .before .before .before .before .before .before .before .before .before
     .split-bad-vertices in
     let w = t .ensures .0 (marksOf (a .ring .edges)) (marks-length (a .ring .edges) (s .pre .0 .held .marks)) in
-    let d = c .before .before .before .before .before .before .before .before .before .before .before .before .subdivide-all in
+    let d = c .before .before .before .before .before .before .before .before .before .before .subdivide-all in
     let x = listsIn (a .nodes .now) (a .node-count) (a .rims .now) (a .cells .now) (a .cell-count) in
     let o = outcome-is (a .limits) (a .own) (a .ring) (a .nodes .now) (a .node-count) (a .rims .now) (a .cells .now) (a .cell-count) (sought s) (t .result) w in
     let y =
-    if-done (outcomeOf (a .limits) (partIn (a .ring)) x) (sym (ap row (c .before .before .before .before .laid .given .1)) ∙ d .ensures .0 ∙ ap rowOf o) in
+    if-done (outcomeOf (a .limits) (partIn (a .ring)) x) (sym (ap row (c .before .before .laid .given .1)) ∙ d .ensures .0 ∙ ap rowOf o) in
     let h = cell-room (a .limits) (a .own) (a .ring) (a .nodes .now) (a .node-count) (a .rims .now) (a .cells .now) (a .cell-count) (sought s) _ _ y in
-    omega (arith, s .good .1 .1 .1 .1 .1 .1 .0)
+    omega (arith, s .good .1 .1 .1 .1 .1 .1 .1 .0)
 
 same-length-4 : tie.Need-same-length-4
 same-length-4 c = search needs
@@ -142,36 +130,34 @@ same-length-6 c = search needs
 returns-2 : tie.Need-returns-2
 returns-2 c =
     let s =
-    c .before .before .before .before .before .before .before .before .before .before .before .before .before .before .before .before .before .before .before
-    .before .before .before .before in
+    c .before .before .before .before .before .before .before .before .before .before .before .before .before .before .before .before .before .before .before .before .before in
     let a = s .args in
     let r =
-    c .before .before .before .before .before .before .before .before .before .before .before .before .before .before .before .before .before .before
+    c .before .before .before .before .before .before .before .before .before .before .before .before .before .before .before .before
     .cell-reserve in
     let t =
-    c .before .before .before .before .before .before .before .before .before .before .before .before .before .before .before .before .before
+    c .before .before .before .before .before .before .before .before .before .before .before .before .before .before .before
     .split-bad-vertices in
     let w = t .ensures .0 (marksOf (a .ring .edges)) (marks-length (a .ring .edges) (s .pre .0 .held .marks)) in
-    let d = c .before .before .before .before .before .before .before .before .before .before .before .before .subdivide-all in
+    let d = c .before .before .before .before .before .before .before .before .before .before .subdivide-all in
     let x = listsIn (a .nodes .now) (a .node-count) (a .rims .now) (a .cells .now) (a .cell-count) in
     let o = outcome-is (a .limits) (a .own) (a .ring) (a .nodes .now) (a .node-count) (a .rims .now) (a .cells .now) (a .cell-count) (sought s) (t .result) w in
     let g =
     rims-are (a .limits) (a .own) (a .ring) (a .nodes .now) (a .node-count) (a .rims .now) (a .cells .now) (a .cell-count) (sought s) (t .result) w
     (s .pre .0 .held .marks) (t .ensures .0 everyMark every-length) in
     let y =
-    if-done (outcomeOf (a .limits) (partIn (a .ring)) x) (sym (ap row (c .before .before .before .before .laid .given .1)) ∙ d .ensures .0 ∙ ap rowOf o) in
+    if-done (outcomeOf (a .limits) (partIn (a .ring)) x) (sym (ap row (c .before .before .laid .given .1)) ∙ d .ensures .0 ∙ ap rowOf o) in
     let z = shown (a .limits) (a .own) (a .ring) (a .nodes .now) (a .node-count) (a .rims .now) (a .cells .now) (a .cell-count) (sought s) (t .result) w in
     moved (d .ensures .1 ∙ ap (λ (o : Outcome). over (a .nodes .now) (nodesOf o)) o) (d .ensures .3 ∙ g)
     (d .ensures .2 ∙ ap (λ (o : Outcome). overFrom (a .cells .now) (a .cell-count) (cellsLeft (r .result) o)) o)
     (laid-done (a .limits) (a .own) (a .ring) (a .nodes .now) (a .node-count) (a .rims .now) (a .cells .now) (a .cell-count) (sought s) (r .result) _ _ _ _ _
     _ _ _ y
     (sym (length-take-le (a .ring .ring .count) (a .ring .ring .points) (room (a .ring .ring) (s .pre .0 .held .ring))))
-    (c .before .before .mark-count .ensures .0)
+    (c .mark-count .ensures .0)
     (z .cuts)
     (count-is (a .limits) (a .own) (a .ring) (a .nodes .now) (a .node-count) (a .rims .now) (a .cells .now) (a .cell-count) (sought s) (t .result) w)
     (z .turned)
-    (area-size (c .magnitude .result) (c .before .polygon-area .result) _ (c .magnitude .ensures) (c .before .polygon-area .ensures .0)
-    (c .before .polygon-area .ensures .1)))
+    (s .pre .2))
 
 pub lay-out-spec : {M : Type 1} → statement M
 lay-out-spec =
@@ -188,9 +174,7 @@ lay-out-spec =
     same-length-3
     returns
     mark-count-requires
-    polygon-area-requires
-    magnitude-requires
-    add-t27
+    add-t26
     same-length-4
     same-length-5
     same-length-6

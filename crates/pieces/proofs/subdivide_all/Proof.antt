@@ -213,8 +213,8 @@ loop-again c =
     let o = x .before .before .before .before in
     (search needs, search needs, course.go-on (begin o .pre .0) _ (o .loop .inv .2) (read x) (y .subdivide .ensures) (c .if1 .left))
 
-sub-t56 : tie.Need-sub-t56 Inv-loop μ-loop
-sub-t56 c = search needs
+sub-t55 : tie.Need-sub-t55 Inv-loop μ-loop
+sub-t55 c = search needs
 
 same-length-4 : tie.Need-same-length-4 Inv-loop μ-loop
 same-length-4 c = let o = c .before in course.long-nodes (begin o .pre .0) _ (o .loop .inv .2) (o .loop .inv .0)
@@ -268,7 +268,7 @@ subdivide-all-spec =
     add-i
     loop-less
     loop-again
-    sub-t56
+    sub-t55
     same-length-4
     same-length-5
     same-length-6
