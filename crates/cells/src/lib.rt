@@ -24,15 +24,8 @@ use vector::MOST_POINTS;
 use vector::Point;
 use vector::Ring;
 
-// The numbers that the points of a piece have got, and how many nodes are then used.
-struct Numbers {
-    pub list: [NodeNumber; MOST_POINTS],
-    pub used: usize,
-}
-
-// The same of edge middles, and whether a snap was too far.
-struct MiddleNumbers {
-    pub list: [NodeNumber; MOST_POINTS],
+// What adding edge middles came to: the used nodes, and whether a snap was too far.
+struct MiddlesAdded {
     pub used: usize,
     pub far: bool,
 }
@@ -45,6 +38,7 @@ pub struct Tried {
     pub far: bool,
 }
 
+// Adds the corners of a piece, and puts their numbers into a list. So many nodes are then used.
 fn add_corners(
     nodes: &mut [f64],
     used: usize,
@@ -52,12 +46,13 @@ fn add_corners(
     near: Nearby,
     numbers: &[NodeNumber],
     xs: &[f64],
-) -> Numbers
-    requires { ⌜ CanAdd (now nodes) used (cornerAt ring) (ring .count) × OnSheetRing ring × ValidNearby (now nodes) used near (now numbers) (now xs) ⌝ }
-    ensures { λ r. ⌜ Adds (now (nodes .entry)) used (cornerAt ring) (ring .count) (now (nodes .exit)) (r .used) (r .list) ⌝ }
+    list: &mut [NodeNumber],
+) -> usize
+    requires { ⌜ CanAdd (now nodes) used (cornerAt ring) (ring .count) × OnSheetRing ring × ValidNearby (now nodes) used near (now numbers) (now xs)
+        × (length (now list) ≡ mostPoints) ⌝ }
+    ensures { λ r. ⌜ Adds (now (nodes .entry)) used (cornerAt ring) (ring .count) (now (nodes .exit)) r (now (list .exit)) ⌝ }
 {
     let n = ring.count;
-    let mut list = [0; MOST_POINTS];
     let mut at = used;
     for i in 0..n {
         let p = ring.points[i];
@@ -65,13 +60,10 @@ fn add_corners(
         list[i] = r.number;
         at = r.used;
     }
-    Numbers {
-        list: list,
-        used: at,
-    }
+    at
 }
 
-// The middles are those of the listed ends, whose numbers are vs.
+// The same of the middles. They are those of the listed ends, whose numbers are vs.
 fn add_middles(
     nodes: &mut [f64],
     used: usize,
@@ -82,13 +74,13 @@ fn add_middles(
     near: Nearby,
     numbers: &[NodeNumber],
     xs: &[f64],
-) -> MiddleNumbers
+    list: &mut [NodeNumber],
+) -> MiddlesAdded
     requires { ⌜ CanAdd (now nodes) used (middleAt share (now nodes) used vs marks n) n × ListedTo used vs n × ValidNearby (now nodes) used near
-        (now numbers) (now xs) ⌝ }
-    ensures { λ r. ⌜ Adds (now (nodes .entry)) used (middleAt share (now (nodes .entry)) used vs marks n) n (now (nodes .exit)) (r .used) (r .list)
+        (now numbers) (now xs) × (length (now list) ≡ mostPoints) ⌝ }
+    ensures { λ r. ⌜ Adds (now (nodes .entry)) used (middleAt share (now (nodes .entry)) used vs marks n) n (now (nodes .exit)) (r .used) (now (list .exit))
         × (r .far ≡ any (farAt share (now (nodes .entry)) used vs marks n) n) ⌝ }
 {
-    let mut list = [0; MOST_POINTS];
     let mut at = used;
     let mut far = false;
     for i in 0..n {
@@ -104,11 +96,7 @@ fn add_middles(
         at = r.used;
         far = far | m.far;
     }
-    MiddleNumbers {
-        list: list,
-        used: at,
-        far: far,
-    }
+    MiddlesAdded { used: at, far: far }
 }
 
 // The rim marks from place u to place v cleared.
@@ -179,10 +167,10 @@ fn attempt(
         (attemptAsksIn share (now (nodes .entry)) used (pieceOf ring edges) sides) (now (rims .entry))) ⌝ }
 {
     let n = ring.count;
-    let c = add_corners(nodes, used, ring, near, numbers, xs);
-    let vs = c.list;
-    let m = add_middles(nodes, c.used, vs, edges, n, share, near, numbers, xs);
-    let ms = m.list;
+    let mut vs = [0; MOST_POINTS];
+    let u = add_corners(nodes, used, ring, near, numbers, xs, &mut vs);
+    let mut ms = [0; MOST_POINTS];
+    let m = add_middles(nodes, u, vs, edges, n, share, near, numbers, xs, &mut ms);
     let p = quads::mean(nodes, vs, n);
     let z = numbering::add_node(nodes, m.used, p, near, numbers, xs);
     quads::put_cells(cells, z.number, ms, vs, n);

@@ -13,13 +13,13 @@ use Rattle.cells.proofs.add_corners.Statement.{statement}
 use Rattle.cells.proofs.add_corners.Tie as tie
 
 abbrev Inv-loop : tie.InvT-loop
-Inv-loop nodes₀ used near numbers xs ring n list₀ at₀ i₀ nodes list at i = (i ≤ n) × (n ≡ ring .count) × Adds nodes₀ used (cornerAt ring) i nodes at list
+Inv-loop nodes₀ used near numbers xs list₀ ring n at₀ i₀ nodes list at i = (i ≤ n) × (n ≡ ring .count) × Adds nodes₀ used (cornerAt ring) i nodes at list
 
 abbrev μ-loop : tie.MeasureT-loop
-μ-loop nodes₀ used near numbers xs ring n list₀ at₀ i₀ nodes list at i = n - i
+μ-loop nodes₀ used near numbers xs list₀ ring n at₀ i₀ nodes list at i = n - i
 
 loop-holds : tie.Need-loop-holds Inv-loop μ-loop
-loop-holds c = (search needs, search needs, adding.start _ (c .before .before .before .pre .0 .usable .room) refl)
+loop-holds c = (search needs, search needs, adding.start _ (c .before .before .before .before .pre .0 .usable .room) (c .before .before .before .before .pre .3))
 
 mul-p : tie.Need-mul-p Inv-loop μ-loop
 mul-p c = search needs
@@ -33,7 +33,7 @@ new-requires c κs = search needs
 add-node-requires : tie.Need-add-node-requires Inv-loop μ-loop
 add-node-requires c κs =
     let o = c .before .before .before .before in
-    let s = o .before .before .before .before in
+    let s = o .before .before .before .before .before in
     let l = o .loop in
     let t = c .before .before .before .loop-test .taken in
     let e = c .new .ensures ∙ ap inMm (sym (getD-take (s .args .t3 .count) (s .args .t3 .points) (l .i) origin t)) in (
@@ -46,8 +46,8 @@ add-node-requires c κs =
 mul-list : tie.Need-mul-list Inv-loop μ-loop
 mul-list c = search needs
 
-array-write-list : tie.Need-array-write-list Inv-loop μ-loop
-array-write-list c = search needs
+slice-write-list : tie.Need-slice-write-list Inv-loop μ-loop
+slice-write-list c = search needs
 
 add-i : tie.Need-add-i Inv-loop μ-loop
 add-i c = search needs
@@ -58,7 +58,7 @@ loop-less c = search needs
 loop-again : tie.Need-loop-again Inv-loop μ-loop
 loop-again c =
     let o = c .before .before .before .before .before .before .before in
-    let s = o .before .before .before .before in
+    let s = o .before .before .before .before .before in
     let l = o .loop in
     let t = c .before .before .before .before .before .before .loop-test .taken in
     let a = c .before .before .add-node in
@@ -70,11 +70,14 @@ loop-again c =
     )
 
 same-length : tie.Need-same-length Inv-loop μ-loop
-same-length c = let o = c .before in adding.same-size (o .before .before .before .before .pre .0) (o .loop .inv .2) (o .loop .inv .0)
+same-length c = let o = c .before in adding.same-size (o .before .before .before .before .before .pre .0) (o .loop .inv .2) (o .loop .inv .0)
+
+same-length-2 : tie.Need-same-length-2 Inv-loop μ-loop
+same-length-2 c = let o = c .before in o .loop .inv .2 .long ∙ sym (o .before .before .before .before .before .pre .3)
 
 returns : tie.Need-returns Inv-loop μ-loop
 returns c =
-    let a = c .before .before .before .before .before .args in
+    let a = c .before .before .before .before .before .before .args in
     let l = c .before .loop in
     let e : l .i ≡ a .t3 .count = omega arith in
     subst (λ (k : ℕ). Adds (a .nodes .now) (a .used) (cornerAt (a .t3)) k (l .nodes) (l .at) (l .list)) e (l .inv .2)
@@ -91,9 +94,10 @@ add-corners-spec =
     new-requires
     add-node-requires
     mul-list
-    array-write-list
+    slice-write-list
     add-i
     loop-less
     loop-again
     same-length
+    same-length-2
     returns)

@@ -21,17 +21,17 @@ use Rattle.cells.proofs.add_middles.Statement.{statement}
 use Rattle.cells.proofs.add_middles.Tie as tie
 
 abbrev Inv-loop : tie.InvT-loop
-Inv-loop nodes₀ used n share near numbers xs vs marks list₀ at₀ far₀ i₀ nodes list at far i =
+Inv-loop nodes₀ used n share near numbers xs list₀ vs marks at₀ far₀ i₀ nodes list at far i =
     (i ≤ n) × Adds nodes₀ used (middleAt share nodes₀ used vs marks n) i nodes at list × (far ≡ any (farAt share nodes₀ used vs marks n) i)
 
 abbrev μ-loop : tie.MeasureT-loop
-μ-loop nodes₀ used n share near numbers xs vs marks list₀ at₀ far₀ i₀ nodes list at far i = n - i
+μ-loop nodes₀ used n share near numbers xs list₀ vs marks at₀ far₀ i₀ nodes list at far i = n - i
 
 -- the middle of edge i is that of the definition
 abbrev Mid : tie.After-edge-middle Inv-loop μ-loop → Type 0
 Mid c =
     let x = c .before .before .before .before .before .before in
-    let a = x .before .before .before .before .before .before .args in
+    let a = x .before .before .before .before .before .before .before .args in
     let i = x .before .before .loop .i in
     c .edge-middle .result ≡ middleOf (a .share) (getD (marksIn (a .t4) (a .n)) i Straight) (endAt (a .nodes .now) (a .used) (a .t3) (a .n) i)
     (endAt (a .nodes .now) (a .used) (a .t3) (a .n) (suc i))
@@ -39,7 +39,7 @@ Mid c =
 mid : (c : tie.After-edge-middle Inv-loop μ-loop) → Mid c
 mid c =
     let x = c .before .before .before .before .before .before in
-    let s = x .before .before .before .before .before .before in
+    let s = x .before .before .before .before .before .before .before in
     let a = s .args in
     let l = x .before .before .loop in
     let t = x .before .loop-test .taken in
@@ -52,7 +52,7 @@ mid c =
 
 loop-holds : tie.Need-loop-holds Inv-loop μ-loop
 unfolding any
-loop-holds c = (search needs, adding.start _ (c .before .before .before .pre .0 .usable .room) refl, refl)
+loop-holds c = (search needs, adding.start _ (c .before .before .before .before .pre .0 .usable .room) (c .before .before .before .before .pre .3), refl)
 
 next-requires : tie.Need-next-requires Inv-loop μ-loop
 next-requires c κs = search needs
@@ -66,7 +66,7 @@ array-read-node-at c = search needs
 node-at-requires : tie.Need-node-at-requires Inv-loop μ-loop
 node-at-requires c κs =
     let x = c .before .before in
-    let s = x .before .before .before .before .before in
+    let s = x .before .before .before .before .before .before in
     let l = x .before .loop in
     omega (arith, adding.same-size (s .pre .0) (l .inv .1) (l .inv .0), s .pre .1 (l .i) (x .loop-test .taken), s .pre .0 .usable .room)
 
@@ -79,7 +79,7 @@ array-read-node-at-2 c = search needs
 node-at-requires-2 : tie.Need-node-at-requires-2 Inv-loop μ-loop
 node-at-requires-2 c κs =
     let x = c .before .before .before in
-    let s = x .before .before .before .before .before .before in
+    let s = x .before .before .before .before .before .before .before in
     let l = x .before .before .loop in
     omega (arith, adding.same-size (s .pre .0) (l .inv .1) (l .inv .0), s .pre .1 _ (x .next .ensures .1), s .pre .0 .usable .room)
 
@@ -95,7 +95,7 @@ edge-middle-requires c κs = search needs
 add-node-requires : tie.Need-add-node-requires Inv-loop μ-loop
 add-node-requires c κs =
     let x = c .before .before .before .before .before .before .before .before in
-    let s = x .before .before .before .before .before .before in
+    let s = x .before .before .before .before .before .before .before in
     let l = x .before .before .loop in
     let t = x .before .loop-test .taken in
     let r = s .pre .0 in
@@ -106,13 +106,13 @@ add-node-requires c κs =
 few : (c : tie.After-add-node Inv-loop μ-loop) → c .before .before .before .before .before .before .before .before .before .before .before .loop .i < 60
 few c =
     let x = c .before .before .before .before .before .before .before .before .before in
-    omega (arith, x .before .loop-test .taken, x .before .before .before .before .before .before .pre .0 .few)
+    omega (arith, x .before .loop-test .taken, x .before .before .before .before .before .before .before .pre .0 .few)
 
 mul-list : tie.Need-mul-list Inv-loop μ-loop
 mul-list c = omega (arith, few (c .before .before))
 
-array-write-list : tie.Need-array-write-list Inv-loop μ-loop
-array-write-list c = few (c .before .before)
+slice-write-list : tie.Need-slice-write-list Inv-loop μ-loop
+slice-write-list c = omega (arith, few (c .before .before), c .before .before .before .before .before .before .before .before .before .before .before .before .before .loop .inv .1 .long)
 
 add-i : tie.Need-add-i Inv-loop μ-loop
 add-i c = omega (arith, few (c .before .before .before))
@@ -125,7 +125,7 @@ loop-again c =
     let y = c .before .before .before in
     let m = mid (y .before .before .before) in
     let x = y .before .before .before .before .before .before .before .before .before in
-    let s = x .before .before .before .before .before .before in
+    let s = x .before .before .before .before .before .before .before in
     let l = x .before .before .loop in (
       search needs,
       adding.next (l .inv .1) (few y) (ap (λ (m : Middle). m .at) m) (y .add-node .ensures .0) (y .add-node .ensures .1),
@@ -133,11 +133,14 @@ loop-again c =
     )
 
 same-length : tie.Need-same-length Inv-loop μ-loop
-same-length c = let o = c .before in adding.same-size (o .before .before .before .before .pre .0) (o .loop .inv .1) (o .loop .inv .0)
+same-length c = let o = c .before in adding.same-size (o .before .before .before .before .before .pre .0) (o .loop .inv .1) (o .loop .inv .0)
+
+same-length-2 : tie.Need-same-length-2 Inv-loop μ-loop
+same-length-2 c = let o = c .before in o .loop .inv .1 .long ∙ sym (o .before .before .before .before .before .pre .3)
 
 returns : tie.Need-returns Inv-loop μ-loop
 returns c =
-    let a = c .before .before .before .before .before .args in
+    let a = c .before .before .before .before .before .before .args in
     let l = c .before .loop in
     let e : l .i ≡ a .n = omega arith in (
       subst (λ (k : ℕ). Adds (a .nodes .now) (a .used) (middleAt (a .share) (a .nodes .now) (a .used) (a .t3) (a .t4) (a .n)) k (l .nodes) (l .at) (l .list))
@@ -164,9 +167,10 @@ add-middles-spec =
     edge-middle-requires
     add-node-requires
     mul-list
-    array-write-list
+    slice-write-list
     add-i
     loop-less
     loop-again
     same-length
+    same-length-2
     returns)

@@ -1,5 +1,5 @@
 -- `attempt`: corners, middles, centre, cells and rim marks one after the other, each with what the one before left.
-use mathlib.Core.Path.{_∙_}
+use mathlib.Core.Path.{refl, _∙_}
 use Rattle.cells.proofs.Adding.{listed, held}
 use Rattle.cells.proofs.OneAttempt as one
 use borrow.Author.Needs.{needs}
@@ -7,22 +7,28 @@ use native.Mathlib.Omega.{arith}
 use Rattle.cells.proofs.attempt.Statement.{statement}
 use Rattle.cells.proofs.attempt.Tie as tie
 
+slice-aggregate-add-corners : tie.Need-slice-aggregate-add-corners
+slice-aggregate-add-corners c = search needs
+
 add-corners-requires : tie.Need-add-corners-requires
 add-corners-requires c κs =
-    let s = c .before .before .before .before .before .before in (one.add-corners (s .pre .0), s .pre .0 .sheet, s .pre .2)
+    let s = c .before .before .before .before .before .before .before in (one.add-corners (s .pre .0), s .pre .0 .sheet, s .pre .2, refl)
+
+slice-aggregate-add-middles : tie.Need-slice-aggregate-add-middles
+slice-aggregate-add-middles c = search needs
 
 add-middles-requires : tie.Need-add-middles-requires
 add-middles-requires c κs =
-    let k = c .before .before .before .before in
-    let s = k .before .before .before .before .before .before .before in
+    let k = c .before .before .before .before .before in
+    let s = k .before .before .before .before .before .before .before .before in
     let f = s .pre .0 in
-    (one.add-middles f (k .add-corners .ensures), listed (k .add-corners .ensures), held (k .add-corners .ensures) (s .pre .2))
+    (one.add-middles f (k .add-corners .ensures), listed (k .add-corners .ensures), held (k .add-corners .ensures) (s .pre .2), refl)
 
 mean-requires : tie.Need-mean-requires
 mean-requires c κs =
     let m = c .before .before .before .before in
-    let k = m .before .before .before .before .before in
-    let s = k .before .before .before .before .before .before .before in
+    let k = m .before .before .before .before .before .before in
+    let s = k .before .before .before .before .before .before .before .before in
     let f = s .pre .0 in
     (f .some, f .sheet .count, one.corner-room f (k .add-corners .ensures) (m .add-middles .ensures .0))
 
@@ -30,8 +36,8 @@ add-node-requires : tie.Need-add-node-requires
 add-node-requires c κs =
     let q = c .before in
     let m = q .before .before .before .before .before in
-    let k = m .before .before .before .before .before in
-    let s = k .before .before .before .before .before .before .before in
+    let k = m .before .before .before .before .before .before in
+    let s = k .before .before .before .before .before .before .before .before in
     let f = s .pre .0 in
     let a = k .add-corners .ensures in
     let b = m .add-middles .ensures .0 in
@@ -42,8 +48,8 @@ put-cells-requires c κs =
     let z = c .before .before .before in
     let q = z .before .before in
     let m = q .before .before .before .before .before in
-    let k = m .before .before .before .before .before in
-    let s = k .before .before .before .before .before .before .before in
+    let k = m .before .before .before .before .before .before in
+    let s = k .before .before .before .before .before .before .before .before in
     (s .pre .0 .sheet .count, s .pre .1, m .add-middles .ensures .0 .long, k .add-corners .ensures .long)
 
 mark-rims-requires : tie.Need-mark-rims-requires
@@ -51,8 +57,8 @@ mark-rims-requires c κs =
     let z = c .before .before .before .before .before .before .before in
     let q = z .before .before in
     let m = q .before .before .before .before .before in
-    let k = m .before .before .before .before .before in
-    let s = k .before .before .before .before .before .before .before in
+    let k = m .before .before .before .before .before .before in
+    let s = k .before .before .before .before .before .before .before .before in
     let f = s .pre .0 in
     let a = k .add-corners .ensures in
     let b = m .add-middles .ensures .0 in
@@ -72,8 +78,8 @@ first-failing-requires c κs =
     let z = c .before .before .before .before .before .before .before .before .before .before .before in
     let q = z .before .before in
     let m = q .before .before .before .before .before in
-    let k = m .before .before .before .before .before in
-    let s = k .before .before .before .before .before .before .before in
+    let k = m .before .before .before .before .before .before in
+    let s = k .before .before .before .before .before .before .before .before in
     let f = s .pre .0 in
     let a = k .add-corners .ensures in
     let b = m .add-middles .ensures .0 in
@@ -92,7 +98,7 @@ same-length : tie.Need-same-length
 same-length c =
     let z = c .before .before .before .before .before .before .before .before .before .before .before .before in
     let m = z .before .before .before .before .before .before .before in
-    let k = m .before .before .before .before .before in
+    let k = m .before .before .before .before .before .before in
     z .add-node .kept .0 ∙ m .add-middles .kept .0 ∙ k .add-corners .kept .0
 
 same-length-2 : tie.Need-same-length-2
@@ -106,8 +112,8 @@ returns c =
     let z = c .before .before .before .before .before .before .before .before .before .before .before .before in
     let q = z .before .before in
     let m = q .before .before .before .before .before in
-    let k = m .before .before .before .before .before in
-    let s = k .before .before .before .before .before .before .before in
+    let k = m .before .before .before .before .before .before in
+    let s = k .before .before .before .before .before .before .before .before in
     let e = z .add-node .ensures in
     one.answer (s .pre .0) (k .add-corners .ensures) (m .add-middles .ensures .0) (q .mean .ensures) (e .0) (e .1) (s .args .cells .now) (s .args .sides)
     (s .args .rims .now) (m .add-middles .ensures .1) (c .first-failing .ensures)
@@ -118,7 +124,9 @@ pub attempt-spec : {M : Type 1} → statement M
 attempt-spec =
     tie.close
     (tie.spec
+    slice-aggregate-add-corners
     add-corners-requires
+    slice-aggregate-add-middles
     add-middles-requires
     mean-requires
     add-node-requires
