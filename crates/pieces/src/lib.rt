@@ -4,8 +4,6 @@
 // cells go into the part of the caller's list that starts where those of the piece before ended. After a failure the
 // places that were reserved for the ring's cells are zero. specs/Flat says what is asked, answered and left.
 
-mod extent;
-
 ghost use mathlib.Core.Path.{_≡_};
 ghost use mathlib.Core.List.{List};
 ghost use Prim.Native.Nat.{ℕ, _*_, _≤_, _<_};

@@ -4,8 +4,8 @@ use lib.IntN.{pos}
 use lib.Dec.{T, lit≤}
 use lib.Ieee.{fin, ofBits, neg}
 use Rattle.laws.proofs.Between.{between-within}
-use Rattle.pieces.proofs.extent.side.Statement.{statement}
-use Rattle.pieces.proofs.extent.side.Tie as tie
+use Rattle.extent.proofs.side.Statement.{statement}
+use Rattle.extent.proofs.side.Tie as tie
 
 returns : tie.Need-returns
 unfolding ofBits neg

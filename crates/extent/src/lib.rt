@@ -1,8 +1,9 @@
 // Extent: the box of a ring, in which nodes are collected for it.
 //
-// The box decides no answer, only where a node is looked for: of a point outside it the whole list is searched. So nothing
-// is promised of it but that it is one. The corners and the snap points of the pieces make it; middles and means lie
-// between them, up to rounding, for which it is a unit wider.
+// It stands between the split and the pieces, which ask it where to collect nodes before the first piece is laid out.
+// The box decides no answer, only where a node is looked for: of a point outside it the whole list is searched. So
+// nothing is promised of it but that it is one. The corners and the snap points of the pieces make it; middles and
+// means lie between them, up to rounding, for which it is a unit wider.
 
 ghost use Rattle.laws.specs.Within.{Within};
 ghost use Rattle.nodes.specs.Nearby.{Framed};

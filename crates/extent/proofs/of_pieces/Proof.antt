@@ -1,8 +1,8 @@
 use Prim.Native.Nat.{_-_, _≤_}
 use borrow.Author.Needs.{needs}
 use native.Mathlib.Omega.{arith}
-use Rattle.pieces.proofs.extent.of_pieces.Statement.{statement}
-use Rattle.pieces.proofs.extent.of_pieces.Tie as tie
+use Rattle.extent.proofs.of_pieces.Statement.{statement}
+use Rattle.extent.proofs.of_pieces.Tie as tie
 
 abbrev Inv-loop : tie.InvT-loop
 Inv-loop ring marks pieces count n e₀ i₀ e i = (i ≤ n) × (n ≤ 124)
