@@ -104,7 +104,8 @@ mark-count-requires c κs =
 add-t26 : tie.Need-add-t26
 add-t26 c =
     let s =
-    c .before .before .before .before .before .before .before .before .before .before .before .before .before .before .before .before .before .before .before .before .before in
+    c .before .before .before .before .before .before .before .before .before .before .before .before .before .before .before .before .before .before .before
+    .before .before in
     let a = s .args in
     let t =
     c .before .before .before .before .before .before .before .before .before .before .before .before .before .before .before
@@ -130,7 +131,8 @@ same-length-6 c = search needs
 returns-2 : tie.Need-returns-2
 returns-2 c =
     let s =
-    c .before .before .before .before .before .before .before .before .before .before .before .before .before .before .before .before .before .before .before .before .before in
+    c .before .before .before .before .before .before .before .before .before .before .before .before .before .before .before .before .before .before .before
+    .before .before in
     let a = s .args in
     let r =
     c .before .before .before .before .before .before .before .before .before .before .before .before .before .before .before .before
