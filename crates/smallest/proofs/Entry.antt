@@ -24,9 +24,10 @@ use Rattle.call.specs.Divide.{core, startOf}
 use Rattle.call.specs.Lent.{Lent, callOf, divideLent, odd, allCells, testsBy, pointIn}
 use Rattle.call.proofs.Tests.{passed}
 use Rattle.call.proofs.Course.{by-tests, refused-code}
-use Rattle.smallest.specs.Choice.{chosen, numberOf, trialOf, trialLent}
+use Rattle.lone_ring.specs.Number.{points, trialLent, numberOf}
+use Rattle.smallest.specs.Choice.{chosen, trialOf}
 use Rattle.smallest.specs.Search.{IsLeast}
-use Rattle.smallest.specs.Smallest.{refused, points, choiceOf, found, smallestOf, smallestRefused, Shown}
+use Rattle.smallest.specs.Smallest.{refused, choiceOf, found, smallestOf, smallestRefused, Shown}
 use Rattle.smallest.proofs.Searching.{is-least, ends}
 use Rattle.smallest.proofs.Digits.{chosen-length, chosen-all}
 

@@ -1,5 +1,4 @@
--- What is claimed of the smallest ring still refused (Entry.shown, Anywhere.anywhere), and the laws of choices and of the search before it.
+-- What is claimed of the smallest ring still refused (Entry.shown), and the laws of choices and of the search before it.
 pub mod Digits
 pub mod Searching
 pub mod Entry
-pub mod Anywhere

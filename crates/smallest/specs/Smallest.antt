@@ -1,5 +1,5 @@
 -- 02, Card 13: what the entry returns for every ring, chain and sheet size, and what holds of it.
-use Prim.Native.Nat.{ℕ, _*_, _-_, _/_, _^_, _≤_, _<_}
+use Prim.Native.Nat.{ℕ, _*_, _-_, _^_, _≤_, _<_}
 use mathlib.Core.Path.{_≡_}
 use mathlib.Core.Bool.{_||_, cond}
 use mathlib.Core.List.{List}
@@ -8,14 +8,12 @@ use lib.Dec.{ltb, eqb}
 use lib.Count.{ones}
 use lib.IntN.{ℤ}
 use Rattle.smallest.specs.declared.Smallest.{Smallest}
-use Rattle.smallest.specs.Choice.{chosen, numberOf, trialOf}
+use Rattle.lone_ring.specs.Number.{points, numberOf}
+use Rattle.smallest.specs.Choice.{chosen, trialOf}
 use Rattle.smallest.specs.Search.{leastOf, IsLeast}
 
 abbrev pub refused : ℕ → Smallest
 refused n = record { code = n; refusal = 0; choice = 0; points = 0 }
-
-abbrev pub points : List ℤ → ℕ
-points l = length l / 2
 
 -- the smallest choice of 3 points or more that gets the number w; 2 ^ r if none does
 abbrev pub choiceOf : List ℤ → List ℤ → ℕ → ℕ → ℕ → ℕ

@@ -1,9 +1,9 @@
 // Smallest: of a ring that is refused with 5 to 8, the fewest of its points that are still refused so.
 //
-// It stands on the divider: every choice of points is a run of the examination entry, over trial lists of its own. A choice is a
-// number in which point i counts 2 to the power i. Choices are tried by rising count, then by rising number, and the first that
-// gets the ring's number is the answer, so that a fault of three points costs no more than the choices of three.
-// specs/Smallest has what is answered and what holds of it, specs/Empty why the trial lists decide nothing.
+// It stands on lone_ring, and so on the divider: every choice of points is a run of the examination entry, over trial lists of
+// its own. A choice is a number in which point i counts 2 to the power i. Choices are tried by rising count, then by rising
+// number, and the first that gets the ring's number is the answer, so that a fault of three points costs no more than the
+// choices of three. specs/Smallest has what is answered and what holds of it.
 
 ghost use mathlib.Core.Path.{_≡_};
 ghost use Prim.Native.Nat.{_+_, _-_, _*_, _/_, _^_, _≤_, _<_};
@@ -12,8 +12,6 @@ ghost use lib.Count.{ones};
 ghost use Rattle.smallest.specs.Choice as Choice;
 ghost use Rattle.smallest.specs.Search as Search;
 ghost use Rattle.smallest.specs.Smallest as Rule;
-use nodes::NodeNumber;
-use table::Row;
 
 // 0 with the number that both rings get, the choice and how many points it has; or 1, 2, 18, 19 and zeros.
 #[repr(C)]
@@ -50,18 +48,6 @@ fn choose(ring: &[i32], r: usize, choice: u32) -> ChosenPoints
     }
 }
 
-// The number that a ring gets on an empty node list. The lists have the full reserve of 12 points, and each trial gets new ones.
-fn number(ring: &[i32], chain: &[i32], size: u32) -> u64
-    ensures { λ w. ⌜ w ≡ Choice.numberOf (now (ring .entry)) (now (chain .entry)) size ⌝ }
-{
-    let mut nodes = [0.0f64; 110];
-    let mut rims = [0u8; 55];
-    let mut cells: [NodeNumber; 120] = [0; 120];
-    let a = divider::divide(ring, chain, size, &mut nodes, 0, &mut rims, &mut cells, 0);
-    let v = Row::new(a);
-    v.code
-}
-
 // The number of a choice among the first r points.
 fn trial(ring: &[i32], r: usize, chain: &[i32], size: u32, choice: u32) -> u64
     requires { ⌜ (r ≤ 12) × (r * 2 ≤ length (now ring)) ⌝ }
@@ -70,7 +56,7 @@ fn trial(ring: &[i32], r: usize, chain: &[i32], size: u32, choice: u32) -> u64
     let p = choose(ring, r, choice);
     let points = p.points;
     let n = p.count;
-    number(&points[..n], chain, size)
+    lone_ring::number(&points[..n], chain, size)
 }
 
 // Whether a choice has k points and gets the number.
@@ -147,7 +133,7 @@ fn refused(code: u64) -> Smallest
 pub fn smallest_refused(ring: &[i32], chain: &[i32], size: u32) -> Smallest
     ensures { λ s. ⌜ s ≡ Rule.smallestRefused (now (ring .entry)) (now (chain .entry)) size ⌝ }
 {
-    let own = number(ring, chain, size);
+    let own = lone_ring::number(ring, chain, size);
     if own == 1 {
         return refused(1);
     }

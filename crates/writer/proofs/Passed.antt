@@ -5,7 +5,7 @@ use mathlib.Core.Bool.{Bool, true, false, not, cond, _||_}
 use mathlib.Core.List.{List, _++_, append-assoc}
 use native.Mathlib.Omega.{arith}
 use native.Mathlib.Decide.{decLe}
-use lib.ListN.{length, getD, take, drop, length-append, length-drop}
+use lib.ListN.{length, getD, take, drop, length-append, length-drop, List·getD-eq-default}
 use lib.Seq.{take-all, drop-drop}
 use lib.Dec.{ltb, eqb}
 use lib.IntN.{ℤ, pos, negsuc}
@@ -19,7 +19,7 @@ use Rattle.call.specs.Call.{beyond, outside, anyOutside, countsOut, unitsOut}
 use Rattle.call.specs.Lent.{pointIn, pointsIn, odd}
 use Rattle.lent_points.proofs.Reading.{outsideAt, any-outside-is}
 use Rattle.blocks.specs.Writing.{blockBytes, Writable}
-use Rattle.blocks.proofs.Words.{past, length-block, part-back}
+use Rattle.block_writer.proofs.Words.{length-block, part-back}
 use Rattle.writer.specs.Write.{counts, units, destinationOut, refusal, pairBytes, written}
 
 none-of : (p q r : Bool) → _≡_ {A = ℕ} (cond p 1 (cond q 2 (cond r 12 0))) 0 → (p ≡ false) × (q ≡ false) × (r ≡ false)
@@ -59,7 +59,7 @@ module _ (l : List ℤ) (h : length l % 2 ≡ 0) (e : anyOutside (pointsIn l (le
       (near x (u .0), near y (u .1))
 
   at-place : (k : ℕ) → Dec (length l ≤ k) → Dec (k % 2 ≤ 0) → mag (getD l k (pos 0)) < 2147483648
-  at-place k (yes p) q = rw (past l k (pos 0) p) (omega arith)
+  at-place k (yes p) q = rw (List·getD-eq-default l (pos 0) {n = k} p) (omega arith)
   at-place k (no p) (yes q) =
       let d : k / 2 * 2 ≡ k = omega arith in
       let t = point-near (k / 2) (omega (arith, h, p)) .0 in

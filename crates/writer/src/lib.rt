@@ -46,7 +46,7 @@ pub fn blocks_write(ring: &[i32], chain: &[i32], size: u32, number: u32, out: &m
     if code > 0 {
         return code;
     }
-    blocks::write_block(out, ring, size, number);
-    blocks::write_block(&mut out[512..], chain, 0, number + 1);
+    block_writer::write_block(out, ring, size, number);
+    block_writer::write_block(&mut out[512..], chain, 0, number + 1);
     0
 }

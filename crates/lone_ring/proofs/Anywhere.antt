@@ -26,9 +26,8 @@ use Rattle.call.specs.Divide.{CallAnswer, refused, refusedOr, ringTests, answer
 use Rattle.call.specs.Lent.{Lent, callOf, divideLent, odd, allCells, testsBy, pointIn, cellIn}
 use Rattle.call.proofs.Course.{by-tests-both, refused-code}
 use Rattle.sets.specs.Sets.{limitsOut}
-use Rattle.smallest.specs.Choice.{numberOf, trialLent}
-use Rattle.smallest.specs.Smallest.{points}
-use Rattle.smallest.specs.Empty.{Empty, Anywhere}
+use Rattle.lone_ring.specs.Number.{points, trialLent, numberOf}
+use Rattle.lone_ring.specs.Empty.{Empty, Anywhere}
 
 abbrev SameCode : CallAnswer → CallAnswer → Type 0
 SameCode a b = a .row .code ≡ b .row .code

@@ -1,10 +1,10 @@
 use lib.Ieee.{ofBits}
 use Rattle.table.specs.declared.Row.{Row}
 use mathlib.Core.Path.{ap, _∙_}
-use Rattle.smallest.specs.Choice.{numberOf}
+use Rattle.lone_ring.specs.Number.{numberOf}
 use borrow.Author.Needs.{needs}
-use Rattle.smallest.proofs.number.Statement.{statement}
-use Rattle.smallest.proofs.number.Tie as tie
+use Rattle.lone_ring.proofs.number.Statement.{statement}
+use Rattle.lone_ring.proofs.number.Tie as tie
 
 slice-aggregate-divide : tie.Need-slice-aggregate-divide
 slice-aggregate-divide c = search needs

@@ -6,8 +6,7 @@ use lib.ListN.{length}
 use Rattle.corner.specs.Limits.{delivered}
 use Rattle.call.specs.Call.{nodeReserve, cellReserve, mostPlaces}
 use Rattle.call.specs.Lent.{Lent, divideLent}
-use Rattle.smallest.specs.Choice.{numberOf}
-use Rattle.smallest.specs.Smallest.{points}
+use Rattle.lone_ring.specs.Number.{points, numberOf}
 
 -- what the caller lends has an empty node list, as many rim marks as it has places, and the full reserve of the ring
 pub record Empty (l : Lent) : Type 0 where
