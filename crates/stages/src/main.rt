@@ -1,82 +1,85 @@
 // Stages: a program that prints what each module on the way of a ring gives, for the ring and chain blocks of a job file on
-// standard input: kept chain points and snap points, the cleaned ring, whether it is simple, its marks, area and worst corner,
-// and the pieces of its split. The Rust beside us prints the same lines (`oracle stages`), so that each module is compared by
-// itself. A ring stops at its pieces here; cells are the divider's.
+// standard input, up to the first that is refused: kept chain points and snap points, the cleaned ring, whether it is simple,
+// its marks, area and worst corner, and the pieces of its split. The Rust beside us prints the same lines (`oracle stages`), so
+// that each module is compared by itself. A ring stops at its pieces here; cells are the divider's.
 
 mod text;
 
-ghost use Prim.Native.Nat.{_^_, _≤_};
-ghost use lib.IntN.{natAbs};
+ghost use mathlib.Core.Path.{_≡_};
+ghost use Prim.Native.Nat.{_/_, _≤_, _<_};
+ghost use lib.ListN.{length};
+ghost use Rattle.blocks.specs.Blocks as Blocks;
 ghost use Rattle.vector.specs.Size.{AllOnSheet};
 ghost use Rattle.vector.specs.Rings.{mostPoints, OnSheetRing};
 ghost use Rattle.parts.specs.Layout.{ValidParts};
+use blocks::Block;
 use chain::Simplified;
 use corner::Limits;
 use libc::STDIN_FILENO;
 use marks::MarkedRing;
 use parts::PartList;
-use vector::GridPoint;
-use vector::MOST_POINTS;
 use vector::Ring;
 
-fn wide(b: u8) -> u64
-    ensures { λ r. ⌜ r ≤ 255 ⌝ }
-{
-    b as u64
+// What a block gives: the points of its ring or chain, the sheet size, 0 of a chain, and whether it was accepted.
+struct Came {
+    accepted: bool,
+    ring: Ring,
+    size: u32,
 }
 
-fn four(a: u8, b: u8, c: u8, d: u8) -> u64
-    ensures { λ r. ⌜ r ≤ 4294967295 ⌝ }
-{
-    wide(a) + wide(b) * 256 + wide(c) * 65536 + wide(d) * 16777216
-}
-
-// A signed coordinate of four bytes; 0 where it is beyond the limits of a ring.
-fn coordinate(u: u64) -> i32
-    requires { ⌜ u ≤ 4294967295 ⌝ }
-    ensures { λ r. ⌜ natAbs r ≤ 2 ^ 23 ⌝ }
-{
-    if u <= 8388608 {
-        return u as i32;
-    }
-    if u >= 4286578688 {
-        return -((4294967296 - u) as i32);
-    }
-    0
-}
-
-// How many points of a block are used, held to what a ring may have.
-fn count(block: [u8; 512]) -> usize
-    ensures { λ r. ⌜ r ≤ mostPoints ⌝ }
-{
-    let n = block[1] as usize;
-    if MOST_POINTS < n {
-        return MOST_POINTS;
-    }
-    n
-}
-
-// The ring or the chain of a block: the points of all its places, and how many are used.
-fn points(block: [u8; 512]) -> Ring
+// The points of a block as the divider takes them; none where one is beyond the limits of a ring, which is not compared.
+fn ring_of(points: &[i32]) -> Ring
+    requires { ⌜ length (now points) / 2 ≤ mostPoints ⌝ }
     ensures { λ r. ⌜ OnSheetRing r ⌝ }
 {
-    let mut out = [GridPoint::ORIGIN; MOST_POINTS];
-    for i in 0..MOST_POINTS {
-        let at = i * 8 + 4;
-        out[i] = GridPoint {
-            x: coordinate(four(block[at], block[at + 1], block[at + 2], block[at + 3])),
-            y: coordinate(four(block[at + 4], block[at + 5], block[at + 6], block[at + 7])),
-        };
+    if entry::any_outside(points) {
+        return entry::points(points, 0);
     }
-    Ring {
-        points: out,
-        count: count(block),
+    entry::points(points, points.len() / 2)
+}
+
+// How many points a block has.
+fn count_of(block: Block) -> usize
+    ensures { λ r. ⌜ r ≡ Blocks.points block ⌝ }
+{
+    match block {
+        Block::Ring { count, size } => count,
+        Block::Chain { count } => count,
+        Block::Refused { code, block } => 0,
     }
 }
 
-// The sheet size of a ring block.
-fn size(block: [u8; 512]) -> u32 {
-    (wide(block[484]) + wide(block[485]) * 256) as u32
+// Its sheet size.
+fn size_of(block: Block) -> u32 {
+    let Block::Ring { count, size } = block else {
+        return 0;
+    };
+    size
+}
+
+// Whether it was accepted.
+fn accepted(block: Block) -> bool {
+    let Block::Refused { code, block } = block else {
+        return true;
+    };
+    false
+}
+
+// Reads block `number`.
+fn read(number: u32) -> Came
+    ensures { λ r. ⌜ OnSheetRing (r .ring) ⌝ }
+{
+    let mut bytes = [0u8; 512];
+    let n = io::read_full(STDIN_FILENO, &mut bytes);
+    let reading = blocks::read_block(&bytes[..n], number);
+    let block = reading.block;
+    let points = reading.points;
+    let end = count_of(block) * 2;
+    Came {
+        accepted: accepted(block),
+        ring: ring_of(&points[..end]),
+        size: size_of(block),
+    }
 }
 
 fn print_chain(s: Simplified, n: usize)
@@ -168,13 +171,14 @@ fn print_marked(ring: Ring, simple: bool, s: Simplified)
     }
 }
 
-fn print_ring(ring: [u8; 512], chain: [u8; 512], number: u64) {
-    text::number(b"ring ", number);
+fn print_ring(ring: Ring, size: u32, run: Ring, number: u32)
+    requires { ⌜ OnSheetRing ring × OnSheetRing run ⌝ }
+{
+    text::number(b"ring ", number as u64);
     text::end();
-    let run = points(chain);
     let s = chain::simplify_chain(run);
     print_chain(s, run.count);
-    let r = clean::clean_polygon(points(ring), size(ring));
+    let r = clean::clean_polygon(ring, size);
     let cleaned = r.ring;
     text::points(cleaned);
     let simple = simple::polygon_simple(cleaned);
@@ -188,21 +192,23 @@ fn print_ring(ring: [u8; 512], chain: [u8; 512], number: u64) {
 }
 
 // One ring with its chain; says whether there was one.
-fn pair(number: u64) -> bool {
-    let mut ring = [0u8; 512];
-    let mut chain = [0u8; 512];
-    if io::read_full(STDIN_FILENO, &mut ring) < 512 {
+fn pair(number: u32) -> bool
+    requires { ⌜ number < 32768 ⌝ }
+{
+    let head = read(number * 2);
+    if !head.accepted {
         return false;
     }
-    if io::read_full(STDIN_FILENO, &mut chain) < 512 {
+    let tail = read(number * 2 + 1);
+    if !tail.accepted {
         return false;
     }
-    print_ring(ring, chain, number);
+    print_ring(head.ring, head.size, tail.ring, number);
     true
 }
 
 fn main() {
-    let mut number: u64 = 0;
+    let mut number: u32 = 0;
     while number < 32768 && pair(number) {
         number += 1;
     }
