@@ -10,6 +10,6 @@ use libc::STDOUT_FILENO;
 fn main() {
     let sent = run::run(STDIN_FILENO, STDOUT_FILENO);
     if sent.failed {
-        run::write_all(STDERR_FILENO, b"divide: standard output failed\n");
+        stream::write_all(STDERR_FILENO, b"divide: standard output failed\n");
     }
 }

@@ -213,6 +213,3 @@ module _ {a : State} {text : List ℕ} {ring chain : List ℤ} {out : List ℕ} 
         let u = ap (λ (x : Run). length (x .blocks)) (good-last k) in
         let y : sent' ≡ length (finished bs .blocks) = omega (arith, z, counted, w, v, u) in
         record { input = bs; said = d ∙ (λ j. ending (x j) (y j)) }
-
-pub not-both : {A : Type 0} (b : Bool) → b ≡ true → b ≡ false → A
-not-both b e f = absurd (let z : _≡_ {A = ℕ} 0 1 = cc in omega arith)

@@ -1,25 +1,23 @@
 -- What a read came to, by the sign of what it gave, and the words of a number: of one in the table (`for-number`), and of any other (`other-words`).
 use Prim.Native.Nat.{ℕ}
-use mathlib.Core.Path.{_≡_, refl}
-use mathlib.Core.Bool.{true, false}
+use mathlib.Core.Path.{_≡_, refl, sym, _∙_}
+use mathlib.Core.Bool.{true, false, true≢false}
 use mathlib.Core.List.{List}
 use native.Mathlib.Omega.{arith}
 use lib.IntN.{ℤ, pos, negsuc}
 use lib.Signed.{ltZ}
-use lib.Dec.{ltb}
 use borrow.Author.Tests.{ne-eqb, le-ltb}
 use Rattle.io.specs.Counts.{clamped}
 use Rattle.text.specs.Text.{bytes}
 use Rattle.draw.specs.Said.{cameTo, said}
-use Rattle.draw.proofs.Reaching.{not-both}
 
 pub read-failed : (z : ℤ) (most : ℕ) → ltZ z (pos 0) ≡ true → 2 ≡ cameTo z most
-read-failed (pos k) most e = not-both (ltb k 0) e (le-ltb k 0 (omega arith))
+read-failed (pos k) most e = absurd (true≢false (sym e ∙ le-ltb k 0 (omega arith)))
 read-failed (negsuc k) most e = refl
 
 pub read-some : (z : ℤ) (most : ℕ) → ltZ z (pos 0) ≡ false → clamped z most ≡ cameTo z most
 read-some (pos k) most e = refl
-read-some (negsuc k) most e = not-both (ltZ (negsuc k) (pos 0)) refl e
+read-some (negsuc k) most e = absurd (true≢false e)
 
 pub for-number : (n k : ℕ) (w : List ℕ) → n ≡ k → w ≡ said k → w ≡ said n
 for-number n k w e h = rw e h

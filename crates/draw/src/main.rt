@@ -100,14 +100,15 @@ fn send(s: State, out: &[u8], sent: u64) -> Sent
             failed: false,
         };
     }
-    if io::write_all(STDOUT_FILENO, out) {
+    let mut bytes = sent;
+    if stream::write_counted(STDOUT_FILENO, out, &mut bytes) {
         return Sent {
-            bytes: sent + out.len() as u64,
+            bytes,
             failed: false,
         };
     }
     Sent {
-        bytes: sent,
+        bytes,
         failed: true,
     }
 }

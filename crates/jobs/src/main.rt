@@ -12,8 +12,8 @@ fn job(path: &[u8]) {
         os::fail(path);
         return;
     }
-    run::write_all(STDOUT_FILENO, path);
-    run::write_all(STDOUT_FILENO, b"\n");
+    stream::write_all(STDOUT_FILENO, path);
+    stream::write_all(STDOUT_FILENO, b"\n");
     run::run(fd, STDOUT_FILENO);
     libc::close(fd);
 }
@@ -27,9 +27,9 @@ fn unwritten(path: &[u8]) {
     }
     let sent = run::run(fd, fd);
     libc::close(fd);
-    run::write_all(STDOUT_FILENO, path);
+    stream::write_all(STDOUT_FILENO, path);
     if sent.failed {
-        run::write_all(STDOUT_FILENO, b", read only: writing failed\n");
+        stream::write_all(STDOUT_FILENO, b", read only: writing failed\n");
     }
 }
 

@@ -4,7 +4,7 @@
 // The box of the drawing stands in front, so the whole job is read first, 256 rings at most. Then the blocks are stepped over
 // as in run. specs/Picture says what comes out as one definition, `pictured`: each text that is handed over is what it has
 // next after the bytes written so far, and a run that ends has written as many as it has. What is left to the operating
-// system's calls is said in run.
+// system's calls is said in stream.
 
 ghost use mathlib.Core.Path.{_≡_};
 ghost use mathlib.Core.Bool.{false};
@@ -117,7 +117,7 @@ fn send(job: &[u8], text: &[u8], sent: u64) -> Sent
     requires { ⌜ Owed (now job) sent (now text) × (length (now text) ≤ mostRing) ⌝ }
     ensures { λ r. ⌜ (r .failed ≡ false → r .bytes ≡ sent + length (now (text .entry))) ⌝ }
 {
-    if run::write_all(STDOUT_FILENO, text) {
+    if stream::write_all(STDOUT_FILENO, text) {
         return Sent {
             bytes: sent + text.len() as u64,
             failed: false,
@@ -228,11 +228,11 @@ fn main() {
     let mut bytes = [0u8; 262145];
     let n = read_job(&mut bytes);
     if MOST_JOB < n {
-        run::write_all(STDERR_FILENO, b"picture: more than 256 rings\n");
+        stream::write_all(STDERR_FILENO, b"picture: more than 256 rings\n");
         return;
     }
     let sent = picture(&bytes[..n]);
     if sent.failed {
-        run::write_all(STDERR_FILENO, b"picture: standard output failed\n");
+        stream::write_all(STDERR_FILENO, b"picture: standard output failed\n");
     }
 }

@@ -147,7 +147,17 @@ module _ (s : State) (ps : List ℤ) (l : List Float) (rs : List ℕ) (sent : �
     -- the text of what the step tells is owed
     pub owes : Owed sent (toldText (x .told) p)
     owes =
-        record { state = s; points = ps; nodes = l; rims = rs; block = b; wrote = r; going = e; text = same-text s ps l rs (r .reached) e b f h x qs m w p t }
+        record {
+          state = s;
+          points = ps;
+          nodes = l;
+          rims = rs;
+          block = b;
+          wrote = r;
+          going = e;
+          few = omega (arith, r .bound, few-blocks s ps l rs (r .reached) e);
+          text = same-text s ps l rs (r .reached) e b f h x qs m w p t;
+        }
 
     -- and once it is sent, it was written
     pub wrote : (n : ℕ) → Sends sent (toldText (x .told) p) n → Wrote (x .state) qs m w n

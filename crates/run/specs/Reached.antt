@@ -40,6 +40,8 @@ pub record Owed (sent : ℕ) (t : List ℕ) : Type 0 where
   pub block : List ℕ
   pub wrote : Wrote state points nodes rims sent
   pub going : state .ended ≡ false
+  -- there are at most 65,536 blocks
+  pub few : sent ≤ mostText * 65536
   pub text : t ≡ textOf (stepOf state points nodes rims block)
 
 -- the text t, of at most 6,400 bytes, was written after `sent` bytes, which makes n

@@ -1,14 +1,13 @@
 // Run: a job from one descriptor to another: reads a block, steps, writes the text of what the step told, until the run has
 // ended. It stands above job, and below the programs.
 //
-// What an operating system call read or wrote has no contract. All else has: the loop's invariant is that the state, the node
-// list with its rim marks and the count of bytes written were reached by the bytes read so far, and a run that ends has
-// written `printed` of them. Left to the code's few lines is that the bytes stepped over are those that `libc::read` gave,
-// and that `send` hands the text to `write_all` once.
+// The loop's invariant is that the state, the node list with its rim marks and the count of bytes written were reached by the
+// bytes read so far, and a run that ends has written `printed` of them. What is left to the calls of the operating system is
+// said in stream.
 
 ghost use mathlib.Core.Path.{_≡_};
-ghost use mathlib.Core.Bool.{false, not};
-ghost use Prim.Native.Nat.{_+_, _≤_, _<_};
+ghost use mathlib.Core.Bool.{true, false, not};
+ghost use Prim.Native.Nat.{_+_, _≤_};
 ghost use lib.ListN.{length};
 ghost use Rattle.report.specs.Report.{mostText};
 ghost use Rattle.told.specs.Text.{toldText, CanTell};
@@ -18,77 +17,24 @@ use nodes::NodeNumber;
 use report::MOST_TEXT;
 use told::Told;
 
-// How many bytes were written in all; and whether writing has failed, in which case some of the last text may be written too.
+// How many bytes were written in all; and whether writing has failed, in which case they may end within a text.
 pub struct Sent {
     pub bytes: u64,
     pub failed: bool,
 }
 
-// How much of a block there is after a failed read: part of one, so one byte at least.
-fn part_of(done: usize) -> usize
-    requires { ⌜ done < 512 ⌝ }
-    ensures { λ r. ⌜ (0 < r) × (r < 512) ⌝ }
-{
-    if done == 0 {
-        return 1;
-    }
-    done
-}
-
-// Reads until the block is full or the input ends, and answers how many bytes there are.
-pub fn read_block(input: i32, bytes: &mut [u8]) -> usize
-    requires { ⌜ length (now bytes) ≡ 512 ⌝ }
-    ensures { λ r. ⌜ r ≤ 512 ⌝ }
-{
-    let mut done: usize = 0;
-    while done < 512 {
-        let got = libc::read(input, &mut bytes[done..]);
-        if got < 0 {
-            return part_of(done);
-        }
-        let more = io::count(got, &bytes[done..]);
-        if more == 0 {
-            return done;
-        }
-        done += more;
-    }
-    done
-}
-
-// Writes all of a text, or stops at the first write that fails or takes nothing. The kit's own would keep 4,096 bytes more.
-pub fn write_all(output: i32, text: &[u8]) -> bool {
-    let mut done: usize = 0;
-    while done < text.len() {
-        let more = io::count(libc::write(output, &text[done..]), &text[done..]);
-        if more == 0 {
-            return false;
-        }
-        done += more;
-    }
-    true
-}
-
 // Writes the text that is owed after `sent` bytes.
-fn send(output: i32, text: &[u8], sent: u64) -> Sent
-    requires { ⌜ Owed sent (now text) × (length (now text) ≤ mostText) ⌝ }
-    ensures { λ r. ⌜ (r .failed ≡ false → r .bytes ≡ sent + length (now (text .entry))) ⌝ }
+fn send(output: i32, text: &[u8], sent: &mut u64) -> bool
+    requires { ⌜ Owed (now sent) (now text) × (length (now text) ≤ mostText) ⌝ }
+    ensures { λ r. ⌜ (r ≡ true → now (sent .exit) ≡ now (sent .entry) + length (now (text .entry))) ⌝ }
 {
-    if write_all(output, text) {
-        return Sent {
-            bytes: sent + text.len() as u64,
-            failed: false,
-        };
-    }
-    Sent {
-        bytes: sent,
-        failed: true,
-    }
+    stream::write_counted(output, text, sent)
 }
 
 // Writes the text of what a step told, after `sent` bytes.
-fn write_told(output: i32, told: Told, cells: &[NodeNumber], sent: u64) -> Sent
-    requires { ⌜ Owed sent (toldText told (now cells)) × CanTell told (now cells) ⌝ }
-    ensures { λ r. ⌜ (r .failed ≡ false → Sends sent (toldText told (now (cells .entry))) (r .bytes)) ⌝ }
+fn write_told(output: i32, told: Told, cells: &[NodeNumber], sent: &mut u64) -> bool
+    requires { ⌜ Owed (now sent) (toldText told (now cells)) × CanTell told (now cells) ⌝ }
+    ensures { λ r. ⌜ (r ≡ true → Sends (now (sent .entry)) (toldText told (now (cells .entry))) (now (sent .exit))) ⌝ }
 {
     let mut text = [0u8; MOST_TEXT];
     let n = told::print(told, cells, &mut text);
@@ -97,15 +43,12 @@ fn write_told(output: i32, told: Told, cells: &[NodeNumber], sent: u64) -> Sent
 
 // The same, and nothing where nothing was told. The text has its place in `write_told`, so that none of it is on the stack
 // while a ring is divided: a function with one call would be merged into the loop, with its places, and so it has two.
-fn tell(output: i32, told: Told, cells: &[NodeNumber], sent: u64) -> Sent
-    requires { ⌜ Owed sent (toldText told (now cells)) × CanTell told (now cells) ⌝ }
-    ensures { λ r. ⌜ (r .failed ≡ false → Sends sent (toldText told (now (cells .entry))) (r .bytes)) ⌝ }
+fn tell(output: i32, told: Told, cells: &[NodeNumber], sent: &mut u64) -> bool
+    requires { ⌜ Owed (now sent) (toldText told (now cells)) × CanTell told (now cells) ⌝ }
+    ensures { λ r. ⌜ (r ≡ true → Sends (now (sent .entry)) (toldText told (now (cells .entry))) (now (sent .exit))) ⌝ }
 {
     match told {
-        Told::Nothing => Sent {
-            bytes: sent,
-            failed: false,
-        },
+        Told::Nothing => true,
         Told::Ring { .. } => write_told(output, told, cells, sent),
         Told::Block { .. } => write_told(output, told, cells, sent),
     }
@@ -130,7 +73,7 @@ pub fn run(input: i32, output: i32) -> Sent
     let mut s = State::new();
     let mut sent: u64 = 0;
     while goes_on(s) {
-        let got = read_block(input, &mut bytes);
+        let got = stream::read_block(input, &mut bytes);
         let stepped = job::step(
             s,
             &bytes[..got],
@@ -140,11 +83,13 @@ pub fn run(input: i32, output: i32) -> Sent
             &mut cells,
         );
         let told = stepped.told;
-        let out = tell(output, told, &cells, sent);
-        if out.failed {
-            return out;
+        let written = tell(output, told, &cells, &mut sent);
+        if !written {
+            return Sent {
+                bytes: sent,
+                failed: true,
+            };
         }
-        sent = out.bytes;
         s = stepped.state;
     }
     Sent {

@@ -15,7 +15,7 @@ use Rattle.listing.proofs.Texts.{line-long, lines-long}
 use Rattle.job.specs.Run.{Course, wholeRun}
 use Rattle.job.proofs.Printed.{settles}
 use Rattle.run.specs.Reached.{EndedWith}
-use Rattle.sheet.specs.Sheeted.{sheeted, Owed, Finished}
+use Rattle.sheet.specs.Sheeted.{sheeted, Finished}
 
 -- the line fills a list of 65 bytes
 pub whole-line : (l : List Float) (i : ℕ) → i < 1000000 → (out : List ℕ) (r : ℕ) (m : List ℕ) → Written out 0 (line l i) r m → length m ≡ 65 → m ≡ line l i
@@ -31,18 +31,9 @@ pub more-lines : (l : List Float) (i sent n : ℕ) (t : List ℕ) → sent ≡ l
 unfolding lines
 more-lines l i sent n t e d h = rw (add-one i) (omega (arith, h, e, ap length d, length-append (lines l i) (line l i)))
 
--- after fewer bytes than 65 million there is room in the count for a line
-pub few-bytes : (sent : ℕ) (t : List ℕ) → Owed sent t → sent + length t ≤ 65000065
-few-bytes sent t o =
-    omega (
-      arith,
-      o .wrote,
-      o .few,
-      o .below,
-      ap length (o .text),
-      line-long (o .nodes) (o .number) (omega (arith, o .few, o .below)),
-      lines-long (o .nodes) (o .number) (omega (arith, o .few, o .below)),
-    )
+-- there is room in the count for a line
+pub few-bytes : (l : List Float) (i sent : ℕ) (t : List ℕ) → i < 1000000 → sent ≡ length (lines l i) → t ≡ line l i → sent + length t ≤ 65000065
+few-bytes l i sent t h e d = omega (arith, e, ap length d, line-long l i h, lines-long l i (omega arith))
 
 pub finished : (used : ℕ) (l : List Float) (sent : ℕ) → EndedWith used l → sent ≡ length (lines l used) → Finished sent
 unfolding sheeted

@@ -3,11 +3,11 @@
 //
 // The blocks are stepped over as in run, and what the steps tell is dropped. `sheeted`, in specs/Sheeted, says what comes out
 // for every input: the loop's invariant is that as many bytes were written as the lines so far have, and the line that is
-// handed over is the next node's. What is left to the operating system's calls is said in run. The lines are written one at
+// handed over is the next node's. What is left to the operating system's calls is said in stream. The lines are written one at
 // a time: a whole sheet would not fit the controller.
 
 ghost use mathlib.Core.Path.{_≡_};
-ghost use mathlib.Core.Bool.{false};
+ghost use mathlib.Core.Bool.{true, false};
 ghost use Prim.Native.Nat.{_+_};
 ghost use lib.ListN.{length};
 ghost use Rattle.listing.specs.Sheet as Sheet;
@@ -20,20 +20,11 @@ use libc::STDOUT_FILENO;
 use run::Sent;
 
 // Writes the line that is owed after `sent` bytes.
-fn send(line: &[u8], sent: u64) -> Sent
-    requires { ⌜ Owed sent (now line) ⌝ }
-    ensures { λ r. ⌜ (r .failed ≡ false → r .bytes ≡ sent + length (now (line .entry))) ⌝ }
+fn send(line: &[u8], sent: &mut u64) -> bool
+    requires { ⌜ Owed (now sent) (now line) ⌝ }
+    ensures { λ r. ⌜ (r ≡ true → now (sent .exit) ≡ now (sent .entry) + length (now (line .entry))) ⌝ }
 {
-    if run::write_all(STDOUT_FILENO, line) {
-        return Sent {
-            bytes: sent + line.len() as u64,
-            failed: false,
-        };
-    }
-    Sent {
-        bytes: sent,
-        failed: true,
-    }
+    stream::write_counted(STDOUT_FILENO, line, sent)
 }
 
 // Writes the lines of the first `used` nodes. That a run's nodes are in range is not proved here but tested once.
@@ -51,11 +42,13 @@ fn print_sheet(nodes: &[f64], used: usize) -> Sent
     for i in 0..used {
         let mut line = [0u8; 65];
         listing::put_line(&mut line, 0, nodes, i);
-        let out = send(&line, sent);
-        if out.failed {
-            return out;
+        let written = send(&line, &mut sent);
+        if !written {
+            return Sent {
+                bytes: sent,
+                failed: true,
+            };
         }
-        sent = out.bytes;
     }
     Sent {
         bytes: sent,
@@ -74,7 +67,7 @@ fn list_job() -> Sent
     let mut bytes = [0u8; 512];
     let mut s = State::new();
     while run::goes_on(s) {
-        let got = run::read_block(STDIN_FILENO, &mut bytes);
+        let got = stream::read_block(STDIN_FILENO, &mut bytes);
         let stepped = job::step(
             s,
             &bytes[..got],
@@ -92,6 +85,6 @@ fn list_job() -> Sent
 fn main() {
     let sent = list_job();
     if sent.failed {
-        run::write_all(STDERR_FILENO, b"sheet: standard output failed\n");
+        stream::write_all(STDERR_FILENO, b"sheet: standard output failed\n");
     }
 }

@@ -1,9 +1,10 @@
 -- `draw`. The loop's invariant: the state and the lists are those of the bytes read so far, and their blocks are written.
-use Rattle.draw.proofs.Reaching.{begun-so, turned, sendable, ends-wrong, nearer, falls, not-both}
+use Rattle.draw.proofs.Reaching.{begun-so, turned, sendable, ends-wrong, nearer, falls}
 use Rattle.draw.specs.Reached.{Reached}
 use borrow.Author.Tests.{eqb-true, eqb-false}
 use lib.ListN.{length}
 use mathlib.Core.Path.{_≡_, refl, sym, _∙_}
+use mathlib.Core.Bool.{true≢false}
 use borrow.Author.Needs.{needs}
 use native.Mathlib.Omega.{arith}
 use Rattle.draw.proofs.draw.Statement.{statement}
@@ -34,7 +35,7 @@ cut-short-requires : tie.Need-cut-short-requires Inv-loop μ-loop
 cut-short-requires c κs = search needs
 
 returns : tie.Need-returns Inv-loop μ-loop
-returns c = λ e. not-both (c .cut-short .result .failed) (c .cut-short .ensures) e
+returns c = λ e. absurd (true≢false (sym (c .cut-short .ensures) ∙ e))
 
 slice-aggregate-finish : tie.Need-slice-aggregate-finish Inv-loop μ-loop
 slice-aggregate-finish c = sym (c .before .before .before .before .before .before .before .before .loop .inv .0 .kept .text-long)
@@ -97,7 +98,7 @@ cut-short-requires-2 : tie.Need-cut-short-requires-2 Inv-loop μ-loop
 cut-short-requires-2 c κs = search needs
 
 returns-3 : tie.Need-returns-3 Inv-loop μ-loop
-returns-3 c = λ e. not-both (c .cut-short2 .result .failed) (c .cut-short2 .ensures) e
+returns-3 c = λ e. absurd (true≢false (sym (c .cut-short2 .ensures) ∙ e))
 
 loop-less : tie.Need-loop-less Inv-loop μ-loop
 loop-less c =

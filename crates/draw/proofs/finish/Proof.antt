@@ -1,7 +1,8 @@
 -- `finish`: laws in proofs/Reaching.
-use Rattle.draw.proofs.Reaching.{turned, sendable, ends-last, sendable-last, ends-so, not-both}
+use Rattle.draw.proofs.Reaching.{turned, sendable, ends-last, sendable-last, ends-so}
 use borrow.Author.Tests.{eqb-true, eqb-false, not-true, not-false}
 use mathlib.Core.Path.{refl, sym, _∙_}
+use mathlib.Core.Bool.{true≢false}
 use native.Mathlib.Omega.{arith}
 use borrow.Author.Needs.{needs}
 use Rattle.draw.proofs.finish.Statement.{statement}
@@ -32,7 +33,7 @@ same-length-4 : tie.Need-same-length-4
 same-length-4 c = search needs
 
 returns : tie.Need-returns
-returns c = λ e. not-both (c .cut-short .result .failed) (c .cut-short .ensures) e
+returns c = λ e. absurd (true≢false (sym (c .cut-short .ensures) ∙ e))
 
 goes-on-requires : tie.Need-goes-on-requires
 goes-on-requires c κs = search needs
@@ -124,7 +125,7 @@ same-length-12 : tie.Need-same-length-12
 same-length-12 c = search needs
 
 returns-3 : tie.Need-returns-3
-returns-3 c = λ e. not-both (c .cut-short2 .result .failed) (c .cut-short2 .ensures) e
+returns-3 c = λ e. absurd (true≢false (sym (c .cut-short2 .ensures) ∙ e))
 
 end-of-requires-2 : tie.Need-end-of-requires-2
 end-of-requires-2 c κs = search needs

@@ -1,7 +1,7 @@
 -- `run`. The loop's invariant: the state, the ring that waits, the nodes, their rim marks and the count of bytes written were reached by the bytes read so far.
 use Prim.Native.Nat.{ℕ, _+_, _-_, _≤_}
 use mathlib.Core.Path.{_≡_, refl, sym, subst, _∙_}
-use mathlib.Core.Bool.{cond}
+use mathlib.Core.Bool.{true, cond}
 use lib.ListN.{length, take, length-take}
 use borrow.Author.Tests.{not-true, not-false}
 use Rattle.report.specs.Report.{mostText}
@@ -68,56 +68,56 @@ slice-aggregate-tell c =
 
 tell-requires : tie.Need-tell-requires Inv-loop μ-loop
 tell-requires c κs =
-    let l = c .before .before .before .before .before .before .before .before .before .before .before .before .before .before .before .before .loop in
-    let q = c .before .before .before .before .before .before .before .before .before .before .before .before .read-block in
-    let g = c .before .before .before .before .before .before .before .before .before .before .before .before .before .before .before .goes-on in
+    let l = c .before .before .before .before .before .before .before .before .before .before .before .before .before .before .before .before .before .loop in
+    let q = c .before .before .before .before .before .before .before .before .before .before .before .before .before .read-block in
+    let g = c .before .before .before .before .before .before .before .before .before .before .before .before .before .before .before .before .goes-on in
     let e =
     not-true (l .s .ended)
-    (sym (g .ensures) ∙ c .before .before .before .before .before .before .before .before .before .before .before .before .before .before .if1 .taken) in
-    let p = c .before .before .before .before .before .step in
+    (sym (g .ensures) ∙ c .before .before .before .before .before .before .before .before .before .before .before .before .before .before .before .if1 .taken) in
+    let p = c .before .before .before .before .before .before .step in
     let b = take (q .result) (q .last .1 .0) in
     let h : length b ≤ 512 = omega (arith, length-take (q .result) (q .last .1 .0), q .ensures) in
     (owes (l .s) (l .ring) (l .nodes) (l .rims) (l .sent) (l .inv .0) e b (p .ensures .1) h (p .result) _ _ _ _ (p .ensures .0), p .ensures .0 .tells)
 
 returns : tie.Need-returns Inv-loop μ-loop
-returns c = λ e. not-both (c .before .tell .result .failed) (c .if2 .taken) e
+returns c = λ e. not-both true refl e
 
 loop-less : tie.Need-loop-less Inv-loop μ-loop
 loop-less c =
     let l =
-    c .before .before .before .before .before .before .before .before .before .before .before .before .before .before .before .before .before .before .before
+    c .before .before .before .before .before .before .before .before .before .before .before .before .before .before .before .before .before .before .before .before
     .loop in
-    let q = c .before .before .before .before .before .before .before .before .before .before .before .before .before .before .before .read-block in
+    let q = c .before .before .before .before .before .before .before .before .before .before .before .before .before .before .before .before .read-block in
     let g =
-    c .before .before .before .before .before .before .before .before .before .before .before .before .before .before .before .before .before .before
+    c .before .before .before .before .before .before .before .before .before .before .before .before .before .before .before .before .before .before .before
     .goes-on in
     let e =
     not-true (l .s .ended)
     (sym (g .ensures)
-    ∙ c .before .before .before .before .before .before .before .before .before .before .before .before .before .before .before .before .before .if1 .taken) in
-    let p = c .before .before .before .before .before .before .before .before .step in
+    ∙ c .before .before .before .before .before .before .before .before .before .before .before .before .before .before .before .before .before .before .if1 .taken) in
+    let p = c .before .before .before .before .before .before .before .before .before .step in
     let b = take (q .result) (q .last .1 .0) in
     falls (l .s) (l .ring) (l .nodes) (l .rims) (l .inv .0 .reached) e b (p .ensures .1) (p .result .state) (p .ensures .0 .state)
 
 loop-again : tie.Need-loop-again Inv-loop μ-loop
 loop-again c =
     let l =
-    c .before .before .before .before .before .before .before .before .before .before .before .before .before .before .before .before .before .before .before
+    c .before .before .before .before .before .before .before .before .before .before .before .before .before .before .before .before .before .before .before .before
     .loop in
-    let q = c .before .before .before .before .before .before .before .before .before .before .before .before .before .before .before .read-block in
+    let q = c .before .before .before .before .before .before .before .before .before .before .before .before .before .before .before .before .read-block in
     let g =
-    c .before .before .before .before .before .before .before .before .before .before .before .before .before .before .before .before .before .before
+    c .before .before .before .before .before .before .before .before .before .before .before .before .before .before .before .before .before .before .before
     .goes-on in
     let e =
     not-true (l .s .ended)
     (sym (g .ensures)
-    ∙ c .before .before .before .before .before .before .before .before .before .before .before .before .before .before .before .before .before .if1 .taken) in
-    let p = c .before .before .before .before .before .before .before .before .step in
+    ∙ c .before .before .before .before .before .before .before .before .before .before .before .before .before .before .before .before .before .before .if1 .taken) in
+    let p = c .before .before .before .before .before .before .before .before .before .step in
     let b = take (q .result) (q .last .1 .0) in
     let h : length b ≤ 512 = omega (arith, length-take (q .result) (q .last .1 .0), q .ensures) in
     let o = c .before .before .tell in (
-      wrote (l .s) (l .ring) (l .nodes) (l .rims) (l .sent) (l .inv .0) e b (p .ensures .1) h (p .result) _ _ _ _ (p .ensures .0) (o .result .bytes)
-          (o .ensures (c .before .if2 .left)),
+      wrote (l .s) (l .ring) (l .nodes) (l .rims) (l .sent) (l .inv .0) e b (p .ensures .1) h (p .result) _ _ _ _ (p .ensures .0) _
+          (o .ensures (not-false (o .result) (c .before .if2 .left))),
       p .kept .1 .1 .0 ∙ l .inv .1,
       p .kept .1 .1 .1 .0 ∙ l .inv .2,
       p .kept .1 .1 .1 .1 .0 ∙ l .inv .3,

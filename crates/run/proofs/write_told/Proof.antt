@@ -26,14 +26,14 @@ slice-aggregate-send c = let p = c .before .before .print in part-length (p .res
 
 send-requires : tie.Need-send-requires
 send-requires c κs =
-    let s = c .before .before .before .before .before in
-    let p = c .before .before .print in
+    let s = c .before .before .before .before .before .before in
+    let p = c .before .before .before .print in
     let e = in-front _ _ _ _ (p .ensures) in
-    (subst (λ (t : List ℕ). Owed (s .args .sent) t) (sym e) (s .pre .0), omega (arith, p .ensures .bytes, p .ensures .room, ap length e))
+    (subst (λ (t : List ℕ). Owed (s .args .sent .now) t) (sym e) (s .pre .0), omega (arith, p .ensures .bytes, p .ensures .room, ap length e))
 
 returns : tie.Need-returns
 returns c =
-    let p = c .before .before .before .print in
+    let p = c .before .before .before .before .print in
     let e = in-front _ _ _ _ (p .ensures) in
     λ h. record { count = omega (arith, ap length e, c .send .ensures h); short = omega (arith, p .ensures .bytes, p .ensures .room) }
 

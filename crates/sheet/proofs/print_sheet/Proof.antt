@@ -3,12 +3,13 @@ use Prim.Native.Nat.{ℕ, _-_, _≤_}
 use mathlib.Core.Path.{_≡_, refl, sym, ap, _∙_}
 use mathlib.Core.Bool.{true}
 use lib.ListN.{length}
+use borrow.Author.Tests.{not-false}
 use Rattle.nodes.specs.Flat.{Usable}
 use Rattle.listing.specs.Sheet.{lines}
 use Rattle.listing.proofs.Tests.{usable}
 use Rattle.job.proofs.Runs.{not-both}
 use Rattle.run.specs.Reached.{EndedWith}
-use Rattle.sheet.proofs.Lines.{whole-line, none-written, more-lines}
+use Rattle.sheet.proofs.Lines.{whole-line, none-written, more-lines, few-bytes}
 use borrow.Author.Needs.{needs}
 use native.Mathlib.Omega.{arith}
 use Rattle.sheet.proofs.print_sheet.Statement.{statement}
@@ -50,16 +51,26 @@ slice-aggregate-send c = sym (c .before .before .put-line .kept .0)
 
 send-requires : tie.Need-send-requires Inv-loop μ-loop
 send-requires c κs =
-    let a = c .before .before .before .before .before .before .before .before .before .args in
-    let l = c .before .before .before .before .before .loop in
+    let a = c .before .before .before .before .before .before .before .before .before .before .args in
+    let l = c .before .before .before .before .before .before .loop in
     let u = l .inv .1 in
-    let h = c .before .before .before .before .loop-test .taken in
-    let p = c .before .before .put-line in
+    let h = c .before .before .before .before .before .loop-test .taken in
+    let p = c .before .before .before .put-line in
     let t = whole-line (a .nodes .now) (l .i) (omega (arith, u .few, h)) _ _ _ (p .ensures) (p .kept .0) in
-    record { nodes = a .nodes .now; used = a .used; number = l .i; ended = l .inv .3; below = h; few = u .few; wrote = l .inv .2; text = t }
+    record {
+      nodes = a .nodes .now;
+      used = a .used;
+      number = l .i;
+      ended = l .inv .3;
+      below = h;
+      few = u .few;
+      wrote = l .inv .2;
+      text = t;
+      fits = few-bytes (a .nodes .now) (l .i) (l .sent) _ (omega (arith, u .few, h)) (l .inv .2) t;
+    }
 
 returns-2 : tie.Need-returns-2 Inv-loop μ-loop
-returns-2 c = λ e. not-both (c .before .send .result .failed) (c .if2 .taken) e
+returns-2 c = λ e. not-both true refl e
 
 add-i : tie.Need-add-i Inv-loop μ-loop
 add-i c = search needs
@@ -69,15 +80,15 @@ loop-less c = search needs
 
 loop-again : tie.Need-loop-again Inv-loop μ-loop
 loop-again c =
-    let a = c .before .before .before .before .before .before .before .before .before .before .before .args in
-    let l = c .before .before .before .before .before .before .before .loop in
+    let a = c .before .before .before .before .before .before .before .before .before .before .before .before .args in
+    let l = c .before .before .before .before .before .before .before .before .loop in
     let u = l .inv .1 in
-    let h = c .before .before .before .before .before .before .loop-test .taken in
-    let p = c .before .before .before .before .put-line in
+    let h = c .before .before .before .before .before .before .before .loop-test .taken in
+    let p = c .before .before .before .before .before .put-line in
     let t = whole-line (a .nodes .now) (l .i) (omega (arith, u .few, h)) _ _ _ (p .ensures) (p .kept .0) in (
       search needs,
       u,
-      more-lines (a .nodes .now) (l .i) (l .sent) (c .before .send .result .bytes) _ (l .inv .2) t (c .before .send .ensures (c .if2 .left)),
+      more-lines (a .nodes .now) (l .i) (l .sent) _ _ (l .inv .2) t (c .before .send .ensures (not-false (c .before .send .result) (c .if2 .left))),
       l .inv .3,
     )
 

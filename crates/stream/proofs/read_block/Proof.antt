@@ -4,8 +4,8 @@ use mathlib.Core.Path.{_≡_}
 use lib.ListN.{length}
 use borrow.Author.Needs.{needs}
 use native.Mathlib.Omega.{arith}
-use Rattle.run.proofs.read_block.Statement.{statement}
-use Rattle.run.proofs.read_block.Tie as tie
+use Rattle.stream.proofs.read_block.Statement.{statement}
+use Rattle.stream.proofs.read_block.Tie as tie
 
 abbrev Inv-loop : tie.InvT-loop
 Inv-loop input bytes₀ done₀ bytes done = (done ≤ 512) × (length bytes ≡ 512)
