@@ -32,10 +32,10 @@ fn ring_of(points: &[i32]) -> Ring
     requires { ⌜ length (now points) / 2 ≤ mostPoints ⌝ }
     ensures { λ r. ⌜ OnSheetRing r ⌝ }
 {
-    if entry::any_outside(points) {
-        return entry::points(points, 0);
+    if lent_points::any_outside(points) {
+        return lent_points::points(points, 0);
     }
-    entry::points(points, points.len() / 2)
+    lent_points::points(points, points.len() / 2)
 }
 
 // How many points a block has.
