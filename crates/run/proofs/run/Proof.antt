@@ -73,7 +73,8 @@ tell-requires c κs =
     let g = c .before .before .before .before .before .before .before .before .before .before .before .before .before .before .before .before .goes-on in
     let e =
     not-true (l .s .ended)
-    (sym (g .ensures) ∙ c .before .before .before .before .before .before .before .before .before .before .before .before .before .before .before .if1 .taken) in
+    (sym (g .ensures) ∙ c .before .before .before .before .before .before .before .before .before .before .before .before .before .before
+    .before .if1 .taken) in
     let p = c .before .before .before .before .before .before .step in
     let b = take (q .result) (q .last .1 .0) in
     let h : length b ≤ 512 = omega (arith, length-take (q .result) (q .last .1 .0), q .ensures) in
@@ -85,8 +86,8 @@ returns c = λ e. not-both true refl e
 loop-less : tie.Need-loop-less Inv-loop μ-loop
 loop-less c =
     let l =
-    c .before .before .before .before .before .before .before .before .before .before .before .before .before .before .before .before .before .before .before .before
-    .loop in
+    c .before .before .before .before .before .before .before .before .before .before .before .before .before .before .before .before .before .before
+    .before .before .loop in
     let q = c .before .before .before .before .before .before .before .before .before .before .before .before .before .before .before .before .read-block in
     let g =
     c .before .before .before .before .before .before .before .before .before .before .before .before .before .before .before .before .before .before .before
@@ -94,7 +95,8 @@ loop-less c =
     let e =
     not-true (l .s .ended)
     (sym (g .ensures)
-    ∙ c .before .before .before .before .before .before .before .before .before .before .before .before .before .before .before .before .before .before .if1 .taken) in
+    ∙ c .before .before .before .before .before .before .before .before .before .before .before .before .before .before .before .before .before
+    .before .if1 .taken) in
     let p = c .before .before .before .before .before .before .before .before .before .step in
     let b = take (q .result) (q .last .1 .0) in
     falls (l .s) (l .ring) (l .nodes) (l .rims) (l .inv .0 .reached) e b (p .ensures .1) (p .result .state) (p .ensures .0 .state)
@@ -102,8 +104,8 @@ loop-less c =
 loop-again : tie.Need-loop-again Inv-loop μ-loop
 loop-again c =
     let l =
-    c .before .before .before .before .before .before .before .before .before .before .before .before .before .before .before .before .before .before .before .before
-    .loop in
+    c .before .before .before .before .before .before .before .before .before .before .before .before .before .before .before .before .before .before
+    .before .before .loop in
     let q = c .before .before .before .before .before .before .before .before .before .before .before .before .before .before .before .before .read-block in
     let g =
     c .before .before .before .before .before .before .before .before .before .before .before .before .before .before .before .before .before .before .before
@@ -111,7 +113,8 @@ loop-again c =
     let e =
     not-true (l .s .ended)
     (sym (g .ensures)
-    ∙ c .before .before .before .before .before .before .before .before .before .before .before .before .before .before .before .before .before .before .if1 .taken) in
+    ∙ c .before .before .before .before .before .before .before .before .before .before .before .before .before .before .before .before .before
+    .before .if1 .taken) in
     let p = c .before .before .before .before .before .before .before .before .before .step in
     let b = take (q .result) (q .last .1 .0) in
     let h : length b ≤ 512 = omega (arith, length-take (q .result) (q .last .1 .0), q .ensures) in
