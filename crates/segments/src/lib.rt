@@ -1,7 +1,7 @@
 // Segments: how two segments meet, apart, touching or crossing, and whether a point is strictly between two others.
 //
 // It stands on vector. A ring is refused with 6 where two of its edges cross (simple), and a diagonal may neither cross an edge of its
-// part nor run over a third corner (diagonal).
+// part nor run over a third corner (obstacles).
 
 ghost use mathlib.Core.Path.{_≡_};
 ghost use Prim.Native.Nat.{_^_, _≤_};

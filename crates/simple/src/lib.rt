@@ -1,7 +1,7 @@
 // Simple: whether a cleaned ring crosses itself, which the divider refuses with 6; and whether a point is inside a ring.
 //
 // It stands on segments, which says how two edges meet. The divider asks it of a ring after cleaning, before the split; the middle of a
-// diagonal has to be inside its part (diagonal).
+// diagonal has to be inside its part (obstacles).
 
 ghost use mathlib.Core.Path.{_≡_};
 ghost use mathlib.Core.Bool.{not, _&&_};
