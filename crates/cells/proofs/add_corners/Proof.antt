@@ -19,7 +19,9 @@ abbrev μ-loop : tie.MeasureT-loop
 μ-loop nodes₀ used near numbers xs list₀ ring n at₀ i₀ nodes list at i = n - i
 
 loop-holds : tie.Need-loop-holds Inv-loop μ-loop
-loop-holds c = (search needs, search needs, adding.start _ (c .before .before .before .before .pre .0 .usable .room) (c .before .before .before .before .pre .3))
+loop-holds c =
+    let s = c .before .before .before .before in
+    (search needs, search needs, adding.start _ (s .pre .0 .usable .room) (s .pre .3))
 
 mul-p : tie.Need-mul-p Inv-loop μ-loop
 mul-p c = search needs

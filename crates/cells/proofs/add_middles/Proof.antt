@@ -112,7 +112,9 @@ mul-list : tie.Need-mul-list Inv-loop μ-loop
 mul-list c = omega (arith, few (c .before .before))
 
 slice-write-list : tie.Need-slice-write-list Inv-loop μ-loop
-slice-write-list c = omega (arith, few (c .before .before), c .before .before .before .before .before .before .before .before .before .before .before .before .before .loop .inv .1 .long)
+slice-write-list c =
+    let l = c .before .before .before .before .before .before .before .before .before .before .before .before .before .loop in
+    omega (arith, few (c .before .before), l .inv .1 .long)
 
 add-i : tie.Need-add-i Inv-loop μ-loop
 add-i c = omega (arith, few (c .before .before .before))
