@@ -1,5 +1,5 @@
 -- Each case of the definitions as the code comes to it, and how long the head is at most.
-use Prim.Native.Nat.{ℕ, _+_, _-_, _*_, _≤_, _<_}
+use Prim.Native.Nat.{ℕ, _+_, _-_, _*_, _≤_, _<_, min}
 use mathlib.Core.Path.{_≡_, sym, ap, _∙_}
 use mathlib.Core.Bool.{true, false}
 use mathlib.Core.List.{List}
@@ -12,24 +12,8 @@ use Rattle.blocks.specs.declared.Block.the-variants.{Ring, Chain, Refused}
 use borrow.Author.Tests.{lt-ltb, le-ltb}
 use Rattle.job.specs.Run.{blockAt}
 use Rattle.frame.specs.declared.Extent.{Extent}
-use Rattle.frame.specs.Bounds.{least, most, grown, decadeTo, stepFor, widened, stopped, met, extended}
+use Rattle.frame.specs.Bounds.{grown, decadeTo, stepFor, widened, stopped, met, extended}
 use Rattle.blocks.specs.Blocks.{readBlock}
-
-pub least-below : (a b : ℕ) → b < a → b ≡ least a b
-unfolding least
-least-below a b h = rw (lt-ltb b a h)
-
-pub least-above : (a b : ℕ) → a ≤ b → a ≡ least a b
-unfolding least
-least-above a b h = rw (le-ltb b a h)
-
-pub most-above : (a b : ℕ) → a < b → b ≡ most a b
-unfolding most
-most-above a b h = rw (lt-ltb a b h)
-
-pub most-below : (a b : ℕ) → b ≤ a → a ≡ most a b
-unfolding most
-most-below a b h = rw (le-ltb a b h)
 
 pub grown-stays : (d size : ℕ) → size < d * 40 → d ≡ grown d size
 unfolding grown
@@ -74,11 +58,11 @@ rest l i h =
 
 -- what is met
 module _ (e : Extent) (ps : List ℤ) (b : Block) where
-  pub met-ring : (count size : ℕ) → b ≡ Ring count size → widened e ps (least 60 count) ≡ met e ps b
+  pub met-ring : (count size : ℕ) → b ≡ Ring count size → widened e ps (min 60 count) ≡ met e ps b
   unfolding met
   met-ring count size h = rw h
 
-  pub met-chain : (count : ℕ) → b ≡ Chain count → widened e ps (least 60 count) ≡ met e ps b
+  pub met-chain : (count : ℕ) → b ≡ Chain count → widened e ps (min 60 count) ≡ met e ps b
   unfolding met
   met-chain count h = rw h
 

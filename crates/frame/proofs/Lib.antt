@@ -1,3 +1,5 @@
--- Laws that the function proofs cite: the cases of the definitions, and how long the head is at most.
+-- What is proved of the head: `no-tenth-below` and `no-tenth-beside` of Ticks are the claim that every tick has its number; the others are the laws that the
+-- function proofs cite.
 pub mod Cases
 pub mod Lengths
+pub mod Ticks

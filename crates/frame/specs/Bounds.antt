@@ -1,5 +1,5 @@
 -- The extent of a job: the box of all points of its blocks, as places, up to the first block that is refused. Definitions only.
-use Prim.Native.Nat.{ℕ, zero, suc, _+_, _-_, _*_, _/_, _≤_, _<_}
+use Prim.Native.Nat.{ℕ, zero, suc, _+_, _-_, _*_, _/_, _≤_, _<_, min, max}
 use mathlib.Core.Bool.{true, false, cond}
 use mathlib.Core.List.{List}
 use lib.ListN.{length}
@@ -13,18 +13,12 @@ use Rattle.svg.specs.Place.{origin, pointPlace}
 use Rattle.frame.specs.declared.Extent.{Extent}
 use Rattle.frame.specs.declared.Frame.{Frame}
 
-unfoldable pub least : ℕ → ℕ → ℕ
-least a b = cond (ltb b a) b a
-
-unfoldable pub most : ℕ → ℕ → ℕ
-most a b = cond (ltb a b) b a
-
 -- before the first point
 unfoldable pub noPoint : Extent
 noPoint = record { left = 40000000; right = 0; bottom = 40000000; top = 0; going = true }
 
 unfoldable pub widen : Extent → ℕ → ℕ → Extent
-widen e x y = record { left = least (e .left) x; right = most (e .right) x; bottom = least (e .bottom) y; top = most (e .top) y; going = e .going }
+widen e x y = record { left = min (e .left) x; right = max (e .right) x; bottom = min (e .bottom) y; top = max (e .top) y; going = e .going }
 
 -- with the first i points
 unfoldable pub widened : Extent → List ℤ → ℕ → Extent
@@ -36,8 +30,8 @@ unfoldable pub stopped : Extent → Extent
 stopped e = record { left = e .left; right = e .right; bottom = e .bottom; top = e .top; going = false }
 
 unfoldable pub met : Extent → List ℤ → Block → Extent
-met e ps (Ring count size) = widened e ps (least 60 count)
-met e ps (Chain count) = widened e ps (least 60 count)
+met e ps (Ring count size) = widened e ps (min 60 count)
+met e ps (Chain count) = widened e ps (min 60 count)
 met e ps (Refused code n) = stopped e
 
 unfoldable pub extended : Extent → List ℕ → ℕ → Extent
@@ -78,7 +72,7 @@ upsideDown y = 40000000 - y
 
 unfoldable pub framed : Extent → Frame
 framed e =
-    let size = most (e .right - e .left) (e .top - e .bottom) in
+    let size = max (e .right - e .left) (e .top - e .bottom) in
     record {
       left = e .left;
       right = e .right;

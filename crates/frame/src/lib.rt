@@ -1,10 +1,10 @@
-// Frame: the extent of a job, and the head of its picture: the size in mm, axes with ticks, and a scale bar. It stands above svg
-// and job's definitions, and below the program that draws.
+// Frame: the extent of a job, and the head of its picture: the size in mm, axes with a number at each tick, a scale bar and a key.
+// It stands above svg and job's definitions, and below the program that draws.
 //
 // All numbers are places or lengths in ten-thousandths of a mm; nothing is negative, and a difference below nothing is nothing.
 
 ghost use mathlib.Core.Path.{_≡_};
-ghost use Prim.Native.Nat.{_+_, _-_, _*_, _/_, _≤_, _<_};
+ghost use Prim.Native.Nat.{_+_, _-_, _*_, _/_, _≤_, _<_, min, max};
 ghost use lib.ListN.{length};
 ghost use Rattle.text.specs.Text.{Written};
 ghost use Rattle.job.specs.Run.{blockAt};
@@ -35,8 +35,8 @@ pub struct Frame {
     pub step: u64,
 }
 
-fn least(a: u64, b: u64) -> u64
-    ensures { λ r. ⌜ (r ≡ Bounds.least a b) × (r ≤ a) ⌝ }
+fn min(a: u64, b: u64) -> u64
+    ensures { λ r. ⌜ r ≡ min a b ⌝ }
 {
     if b < a {
         return b;
@@ -44,9 +44,8 @@ fn least(a: u64, b: u64) -> u64
     a
 }
 
-fn most(a: u64, b: u64) -> u64
-    requires { ⌜ (a ≤ 40000000) × (b ≤ 40000000) ⌝ }
-    ensures { λ r. ⌜ (r ≡ Bounds.most a b) × (r ≤ 40000000) ⌝ }
+fn max(a: u64, b: u64) -> u64
+    ensures { λ r. ⌜ r ≡ max a b ⌝ }
 {
     if a < b {
         return b;
@@ -69,10 +68,10 @@ fn widen(e: Extent, x: u64, y: u64) -> Extent
     ensures { λ r. ⌜ (r ≡ Bounds.widen e x y) × Bounds.Small r ⌝ }
 {
     Extent {
-        left: least(e.left, x),
-        right: most(e.right, x),
-        bottom: least(e.bottom, y),
-        top: most(e.top, y),
+        left: min(e.left, x),
+        right: max(e.right, x),
+        bottom: min(e.bottom, y),
+        top: max(e.top, y),
         going: e.going,
     }
 }
@@ -92,7 +91,7 @@ fn widen_all(e: Extent, points: &[i32], count: usize) -> Extent
 }
 
 fn few(count: usize) -> usize
-    ensures { λ r. ⌜ (r ≡ Bounds.least 60 count) × (r ≤ 60) ⌝ }
+    ensures { λ r. ⌜ (r ≡ min 60 count) × (r ≤ 60) ⌝ }
 {
     if count < 60 {
         return count;
@@ -225,7 +224,7 @@ fn surround(e: Extent) -> Frame
     requires { ⌜ Bounds.Small e ⌝ }
     ensures { λ r. ⌜ (r ≡ Bounds.framed e) × Bounds.SmallFrame r ⌝ }
 {
-    let size = most(less(e.right, e.left), less(e.top, e.bottom));
+    let size = max(less(e.right, e.left), less(e.top, e.bottom));
     let step = step_for(size);
     Frame {
         left: e.left,
@@ -247,6 +246,9 @@ pub fn frame_of(e: Extent) -> Frame
     surround(fill(e))
 }
 
+// No picture's head is longer.
+pub const MOST_HEAD: usize = 8192;
+
 // What the head's first line says: width and height, where the box begins, and the size of letters.
 pub struct View {
     pub wide: u64,
@@ -256,7 +258,7 @@ pub struct View {
     pub letters: u64,
 }
 
-// The places of the axes, their ticks and their labels, and of the scale bar.
+// The places of the axes and their ticks, of the scale bar and of the key.
 pub struct Axes {
     pub under: u64,
     pub beside: u64,
@@ -265,14 +267,12 @@ pub struct Axes {
     pub eastern: u64,
     pub northern: u64,
     pub west: u64,
-    pub east: u64,
     pub south: u64,
-    pub north: u64,
-    pub lowest: u64,
-    pub highest: u64,
     pub foot: u64,
     pub bar: u64,
     pub tip: u64,
+    pub key: u64,
+    pub above: u64,
 }
 
 fn view_of(f: Frame) -> View
@@ -289,16 +289,16 @@ fn view_of(f: Frame) -> View
 }
 
 // The first multiple of the step from x on, and the last up to x.
-fn first(x: u64, step: u64) -> u64
+fn multiple_from(x: u64, step: u64) -> u64
     requires { ⌜ (x ≤ 40000000) × (0 < step) × (step ≤ 400000000) ⌝ }
-    ensures { λ r. ⌜ r ≡ Head.first x step ⌝ }
+    ensures { λ r. ⌜ (r ≡ Head.multipleFrom x step) × (r ≤ 440000000) ⌝ }
 {
     (x + step - 1) / step * step
 }
 
-fn last(x: u64, step: u64) -> u64
+fn multiple_to(x: u64, step: u64) -> u64
     requires { ⌜ (x ≤ 40000000) × (0 < step) ⌝ }
-    ensures { λ r. ⌜ r ≡ Head.last x step ⌝ }
+    ensures { λ r. ⌜ r ≡ Head.multipleTo x step ⌝ }
 {
     x / step * step
 }
@@ -308,8 +308,6 @@ fn axes_of(f: Frame) -> Axes
     ensures { λ r. ⌜ r ≡ Head.axesOf f ⌝ }
 {
     let line = f.em / 8;
-    let south = last(f.low, f.step);
-    let north = first(f.high, f.step);
     Axes {
         under: f.low + f.em,
         beside: less(f.left, f.em),
@@ -317,15 +315,13 @@ fn axes_of(f: Frame) -> Axes
         gap: ORIGIN + less(f.step, line),
         eastern: f.right + line,
         northern: less(f.high, line),
-        west: first(f.left, f.step),
-        east: last(f.right, f.step),
-        south,
-        north,
-        lowest: less(40000000, south),
-        highest: less(40000000, north),
+        west: multiple_from(f.left, f.step),
+        south: multiple_to(f.low, f.step),
         foot: f.low + f.em * 7 / 2,
         bar: ORIGIN + f.step,
         tip: f.left + f.step,
+        key: f.right + f.em / 2,
+        above: less(f.high, f.em * 9 / 2),
     }
 }
 
@@ -351,11 +347,22 @@ fn put_looks(out: &mut [u8], at: usize) -> usize
     svg::put_form(
         out,
         at,
-        b"<style>path{fill:none}.outline{fill:aliceblue}.cell{fill:none;stroke:lightsteelblue;stroke-width:.07em}.rim{stroke:darkslategray;stroke-width:.15em;stroke-linecap:round}.cut{stroke:firebrick;stroke-width:.13em;stroke-dasharray:.45em .3em}.refused polygon{fill:gainsboro;fill-opacity:.6;stroke:gray;stroke-width:.1em}.refused text{fill:dimgray;font-size:1.5em;text-anchor:middle}.node circle{fill:darkslategray}.inside circle{fill:steelblue}.node text,.inside text{font-size:.8em;fill:black;stroke:white;stroke-width:.2em;paint-order:stroke}.inside text{fill:steelblue}.axis{stroke:gray;stroke-width:.06em}.tick{stroke:gray;stroke-width:.6em}.bar{stroke:black;stroke-width:.25em}.ended{fill:firebrick}</style>\n",
+        b"<style>path{fill:none}.outline{fill:aliceblue;fill-opacity:.7}.cell{fill:none;stroke:lightsteelblue;stroke-width:.07em}\
+            .rim{stroke:darkslategray;stroke-width:.15em;stroke-linecap:round}\
+            .cut{stroke:firebrick;stroke-width:.13em;stroke-dasharray:.45em .3em}\
+            .lead{fill:none;stroke:goldenrod;stroke-width:.5em;stroke-opacity:.5;stroke-linecap:round;stroke-linejoin:round}\
+            .snapped{fill:none;stroke:darkgoldenrod;stroke-width:.12em}\
+            .refused polygon{fill:gainsboro;fill-opacity:.6;stroke:gray;stroke-width:.1em}\
+            .refused text{fill:dimgray;font-size:150em;text-anchor:middle}.node circle{fill:darkslategray}\
+            .node,.inside,.label,.ended{font-size:100em}.inside circle{fill:steelblue}\
+            .node text,.inside text{font-size:.8em;fill:black;stroke:white;stroke-width:.2em;paint-order:stroke}.inside text{fill:steelblue}\
+            .axis{stroke:gray;stroke-width:.06em}.tick{stroke:gray;stroke-width:.6em}.bar{stroke:black;stroke-width:.25em}.label{fill:gray}\
+            .below{text-anchor:middle}.beside{text-anchor:end}.key{font-size:75em;fill:dimgray}.ended{fill:firebrick}</style>\n",
         &none,
     )
 }
 
+// The axes, the scale bar, the key, and the group of all that is drawn.
 fn put_axes(out: &mut [u8], at: usize, f: Frame, a: Axes) -> usize
     requires { ⌜ at + length (Head.axesText f a) ≤ length (now out) ⌝ }
     ensures { λ r. ⌜ Written (now (out .entry)) at (Head.axesText f a) r (now (out .exit)) ⌝ }
@@ -377,31 +384,85 @@ fn put_axes(out: &mut [u8], at: usize, f: Frame, a: Axes) -> usize
         a.beside,
         a.south,
         a.northern,
-        a.west,
-        a.under,
-        a.west,
-        a.east,
-        a.under,
-        a.east,
-        a.beside,
-        a.south,
-        a.lowest,
-        a.beside,
-        a.north,
-        a.highest,
         f.left,
         a.foot,
         a.bar,
         a.tip,
         a.foot,
         a.bar,
+        a.key,
+        a.above,
     ];
     svg::put_form(
         out,
         at,
-        b"<path class='axis' d='M@ @H@M@ @V@'/>\n<path class='tick' stroke-dasharray='@ @' d='M@ @H@'/>\n<path class='tick' stroke-dasharray='@ @' d='M@ @V@'/>\n<g fill='gray' text-anchor='middle'><text x='@' y='@' dy='1.4em'>~</text><text x='@' y='@' dy='1.4em'>~</text></g>\n<g fill='gray' text-anchor='end'><text x='@' y='@' dx='-.6em' dy='.35em'>~</text><text x='@' y='@' dx='-.6em' dy='.35em'>~</text></g>\n<path class='bar' d='M@ @h@'/><text x='@' y='@' dx='.5em' dy='.35em'>~ mm</text>\n<g transform='scale(1 -1)'>\n",
+        b"<path class='axis' d='M@ @H@M@ @V@'/>\n\
+            <path class='tick' stroke-dasharray='@ @' d='M@ @H@'/>\n\
+            <path class='tick' stroke-dasharray='@ @' d='M@ @V@'/>\n\
+            <path class='bar' d='M@ @h@'/><text class='label' transform='matrix(.01 0 0 .01 @ @)' x='.5em' y='.35em'>~ mm</text>\n\
+            <g class='key' transform='matrix(.01 0 0 .01 @ @)'><line class='cut' x2='1.4em'/><text x='1.7em' y='.3em'>cut</text>\
+            <line class='cell' x2='1.4em' y1='1.2em' y2='1.2em'/><text x='1.7em' y='1.5em'>cell</text>\
+            <line class='lead' x1='.3em' x2='1.1em' y1='2.4em' y2='2.4em'/><text x='1.7em' y='2.7em'>lead</text>\
+            <circle class='snapped' cx='.7em' cy='3.6em' r='.5em'/><text x='1.7em' y='3.9em'>snapped</text></g>\n\
+            <g transform='scale(1 -1)'>\n",
         &numbers,
     )
+}
+
+// The number of tick i of the axis below, none beyond its end.
+fn put_below(out: &mut [u8], at: usize, f: Frame, i: u64) -> usize
+    requires { ⌜ Bounds.SmallFrame f × (i < 9) × (at + length (Head.belowText f i) ≤ length (now out)) ⌝ }
+    ensures { λ r. ⌜ Written (now (out .entry)) at (Head.belowText f i) r (now (out .exit)) ⌝ }
+{
+    let x = multiple_from(f.left, f.step) + i * f.step;
+    let numbers = [x, f.low + f.em, x];
+    if f.right < x {
+        return at;
+    }
+    svg::put_form(
+        out,
+        at,
+        b"<text class='label below' transform='matrix(.01 0 0 .01 @ @)' y='1.4em'>~</text>\n",
+        &numbers,
+    )
+}
+
+// The number of tick i of the axis at the side, from below, none beyond its end.
+fn put_beside(out: &mut [u8], at: usize, f: Frame, i: u64) -> usize
+    requires { ⌜ Bounds.SmallFrame f × (i < 9) × (at + length (Head.besideText f i) ≤ length (now out)) ⌝ }
+    ensures { λ r. ⌜ Written (now (out .entry)) at (Head.besideText f i) r (now (out .exit)) ⌝ }
+{
+    let y = less(multiple_to(f.low, f.step), i * f.step);
+    let numbers = [less(f.left, f.em), y, less(40000000, y)];
+    if y < f.high {
+        return at;
+    }
+    svg::put_form(
+        out,
+        at,
+        b"<text class='label beside' transform='matrix(.01 0 0 .01 @ @)' x='-.6em' y='.35em'>~</text>\n",
+        &numbers,
+    )
+}
+
+fn put_tick(out: &mut [u8], at: usize, f: Frame, i: u64) -> usize
+    requires { ⌜ Bounds.SmallFrame f × (i < 9) × (at + length (Head.tickText f i) ≤ length (now out)) ⌝ }
+    ensures { λ r. ⌜ Written (now (out .entry)) at (Head.tickText f i) r (now (out .exit)) ⌝ }
+{
+    let next = put_below(out, at, f, i);
+    put_beside(out, next, f, i)
+}
+
+// The numbers of all ticks: neither axis has more than nine.
+fn put_ticks(out: &mut [u8], at: usize, f: Frame) -> usize
+    requires { ⌜ Bounds.SmallFrame f × (at + length (Head.ticksText f 9) ≤ length (now out)) ⌝ }
+    ensures { λ r. ⌜ Written (now (out .entry)) at (Head.ticksText f 9) r (now (out .exit)) ⌝ }
+{
+    let mut next = at;
+    for i in 0..9u64 {
+        next = put_tick(out, next, f, i);
+    }
+    next
 }
 
 // The head of a picture, up to where its rings begin.
@@ -410,7 +471,8 @@ pub fn put_head(out: &mut [u8], f: Frame) -> usize
     ensures { λ r. ⌜ Written (now (out .entry)) 0 (Head.headText f) r (now (out .exit)) × (r ≤ Head.mostHead) ⌝ }
 {
     let looks = put_box(out, view_of(f));
-    let axes = put_looks(out, looks);
+    let ticks = put_looks(out, looks);
+    let axes = put_ticks(out, ticks, f);
     put_axes(out, axes, f, axes_of(f))
 }
 
@@ -423,7 +485,7 @@ pub fn put_ended(out: &mut [u8], f: Frame, block: u64, code: u64) -> usize
     svg::put_form(
         out,
         0,
-        b"<text class='ended' transform='matrix(1 0 0 -1 @ @)' dy='4.8em'>block # refused #</text>\n",
+        b"<text class='ended' transform='matrix(.01 0 0 -.01 @ @)' y='4.8em'>block # refused #</text>\n",
         &numbers,
     )
 }

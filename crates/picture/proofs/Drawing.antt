@@ -14,23 +14,35 @@ use lib.Seq.{take-at}
 use lib.IntN.{ℤ}
 use lib.Ieee.{Float, binary64, ofBits}
 use borrow.Author.Tests.{eq-eqb, ne-eqb}
-use Rattle.text.specs.Text.{put, Written}
+use Rattle.text.specs.Text.{bytes, put, Written}
+use Rattle.text.proofs.Writing.{join, room}
+use lib.Dec.{eqb}
 use Rattle.laws.specs.Double.{naught}
 use Rattle.table.specs.declared.Row.{Row}
+use Rattle.blocks.specs.declared.Block.{Block}
+use Rattle.blocks.specs.declared.Block.the-variants.{Ring, Chain, Refused}
+use Rattle.blocks.specs.declared.Reading.{Reading}
+use Rattle.blocks.specs.Blocks.{points, readBlock}
+use Rattle.blocks.proofs.Counts.{few-points}
+use Rattle.told.specs.Text.{CanTell}
 use Rattle.told.specs.declared.Told.{Told}
-use Rattle.told.specs.declared.Told.the-variants.{Nothing, Ring, Block}
+use Rattle.told.specs.declared.Told.the-variants as Told
 use Rattle.job.specs.declared.State.{State}
 use Rattle.job.specs.declared.Stepped.{Stepped}
 use Rattle.job.specs.Step.{Step, stepOf, Steps, CanStep}
 use Rattle.job.specs.Run.{Course, start, noPoints, noNodes, noRims, ran, readTo, wholeRun, blockAt}
 use Rattle.job.proofs.Runs.{Went, outcome, not-both, stays, goes, ran-held}
 use Rattle.job.proofs.Printed.{one-more, settles}
-use Rattle.scene.specs.Scene.{ringText, nodeText, nodesText}
+use Rattle.scene.specs.Scene.{ringText, leadText, nodeText, nodesText, mostRing}
+use Rattle.scene.proofs.Lengths.{ring-length, lead-length}
 use Rattle.frame.specs.declared.Frame.{Frame}
 use Rattle.frame.specs.Bounds.{extentOf, frameOf}
 use Rattle.frame.specs.Head.{headText, endedText, footText}
-use Rattle.picture.specs.Picture.{cellsOf, drawn, stepDrawn, drawnTo, ringsDrawn, nodesDrawn, allDrawn, pictured, mostRings, mostPicture}
-use Rattle.picture.specs.Picture.{Wrote, Owed, Sends, Left}
+use Rattle.frame.proofs.Lengths.{ended-length}
+use Rattle.picture.specs.Picture.{cellsOf, drawn, leadOf, leadAt, stepDrawn, drawnTo, ringsDrawn, nodesDrawn, allDrawn, pictured, mostStep, mostRings, mostPicture}
+use Rattle.picture.specs.declared.End.{End}
+use Rattle.picture.specs.declared.End.the-variants.{TooLong, Unwritten}
+use Rattle.picture.specs.Picture.{Wrote, Owed, Sends, Left, said}
 use Rattle.picture.proofs.Listed.{few-nodes}
 
 -- a text that was written fits
@@ -51,6 +63,33 @@ front {l} {t} {m} {r} w =
     let q = w .list in
     (λ j. take (p j) (q j)) ∙ take-at t (drop (0 + length t) l) (0 + length t) (omega arith)
 
+-- the words of each end
+pub said-long : (x : End) (count : ℕ) → x ≡ TooLong count → bytes "picture: more than 256 rings\n" ≡ said x
+unfolding said
+said-long x count e = rw e
+
+pub said-unwritten : (x : End) → x ≡ Unwritten → bytes "picture: standard output failed\n" ≡ said x
+unfolding said
+said-unwritten x e = rw e
+
+-- what is drawn of a block and its lead line, written one after the other
+module _ (e : List ℕ) {l d m : List ℕ} {n : ℕ} (k : length l ≡ mostStep) (a : length d ≤ mostRing) (b : length e ≤ 3275) (w : Written l 0 d n m) where
+  both-fit : 0 + length (d ++ e) ≤ length l
+  both-fit = omega (arith, k, a, b, length-append d e)
+
+  pub lead-room : n + length e ≤ length m
+  lead-room = room l 0 d e both-fit w
+
+  module _ {r : ℕ} {o : List ℕ} (v : Written m n e r o) where
+    pub both : Written l 0 (d ++ e) r o
+    both = join l 0 d e both-fit w v
+
+    pub both-short : length (d ++ e) ≤ mostStep
+    both-short = omega (arith, k, both-fit)
+
+    pub both-end : r ≤ mostStep
+    both-end = omega (arith, both .place, both-short)
+
 pub cells-some : (v : Row) (cs : List ℕ) → v .code ≡ 0 → take (v .cells * 4) cs ≡ cellsOf v cs
 cells-some v cs h = rw (eq-eqb (v .code) 0 h)
 
@@ -58,30 +97,78 @@ pub cells-none : (v : Row) (cs : List ℕ) → (v .code ≡ 0 → ⊥) → take 
 cells-none v cs h = rw (ne-eqb (v .code) 0 h)
 
 module _ (f : Frame) (t : Told) (count : ℕ) (ps : List ℤ) (l : List Float) (rs cs : List ℕ) where
-  pub draws-nothing : t ≡ Nothing → [] ≡ drawn f t count ps l rs cs
+  pub draws-nothing : t ≡ Told.Nothing → [] ≡ drawn f t count ps l rs cs
   unfolding drawn
   draws-nothing e = rw e
 
-  pub draws-ring : (n used : ℕ) (v : Row) → t ≡ Ring n used v → ringText n v ps count l rs (cellsOf v cs) ≡ drawn f t count ps l rs cs
+  pub draws-ring : (n used : ℕ) (v : Row) → t ≡ Told.Ring n used v → ringText n v ps count l rs (cellsOf v cs) ≡ drawn f t count ps l rs cs
   unfolding drawn
   draws-ring n used v e = rw e
 
-  pub draws-block : (n code : ℕ) → t ≡ Block n code → endedText f n code ≡ drawn f t count ps l rs cs
+  pub draws-block : (n code : ℕ) → t ≡ Told.Block n code → endedText f n code ≡ drawn f t count ps l rs cs
   unfolding drawn
   draws-block n code e = rw e
+
+  -- it is no longer than a ring's
+  pub drawn-length : CanTell t cs → count ≤ 60 → length (drawn f t count ps l rs cs) ≤ mostRing
+  unfolding drawn
+  drawn-length h k = go t
+    where
+      go : (u : Told) → length (drawn f u count ps l rs cs) ≤ mostRing
+      go Told.Nothing = omega arith
+      go (Told.Ring n used v) =
+          let z = cond (eqb (v .code) 0) (v .cells * 4) 0 in
+          ring-length n v ps count k l rs (cellsOf v cs) (omega (arith, length-take z cs, h .few))
+      go (Told.Block n code) = omega (arith, ended-length f n code)
+
+-- ---- the lead line of a block
+module _ (ps : List ℤ) (b : Block) where
+  pub lead-of-ring : (count size : ℕ) → b ≡ Ring count size → [] ≡ leadOf ps b
+  unfolding leadOf
+  lead-of-ring count size e = rw e
+
+  pub lead-of-chain : (count : ℕ) → b ≡ Chain count → leadText ps count ≡ leadOf ps b
+  unfolding leadOf
+  lead-of-chain count e = rw e
+
+  pub lead-of-refused : (code n : ℕ) → b ≡ Refused code n → [] ≡ leadOf ps b
+  unfolding leadOf
+  lead-of-refused code n e = rw e
+
+  lead-of-length : points b ≤ 60 → length (leadOf ps b) ≤ 3275
+  unfolding leadOf
+  lead-of-length h = go b h
+    where
+      go : (d : Block) → points d ≤ 60 → length (leadOf ps d) ≤ 3275
+      go (Ring count size) k = omega arith
+      go (Chain count) k = lead-length ps count k
+      go (Refused code n) k = omega arith
+
+module _ (job : List ℕ) (i : ℕ) where
+  pub lead-length-at : length (leadAt job i) ≤ 3275
+  unfolding leadAt
+  lead-length-at =
+      let r = readBlock (blockAt job i) i in
+      lead-of-length (r .points) (r .block) (few-points (blockAt job i) i r refl)
+
+  -- what was read of the block
+  module _ (b : List ℕ) (r : Reading) (eb : b ≡ blockAt job i) (e : r ≡ readBlock b i) where
+    pub same-lead : leadOf (r .points) (r .block) ≡ leadAt job i
+    unfolding leadAt
+    same-lead = let d = e ∙ ap (λ (z : List ℕ). readBlock z i) eb in λ j. leadOf (d j .points) (d j .block)
 
 -- what is drawn of a step, and of a run that goes on
 abbrev pub drawnOf : Frame → Step → List ℕ
 drawnOf f e = drawn f (e .told) (e .state .count) (e .points) (e .nodes) (e .rims) (e .cells)
 
-steps-drawn : (f : Frame) (r : Course) (b : List ℕ) → r .state .ended ≡ false
-    → stepDrawn f r b ≡ drawnOf f (stepOf (r .state) (r .points) (r .nodes) (r .rims) b)
+steps-drawn : (f : Frame) (r : Course) (b lead : List ℕ) → r .state .ended ≡ false
+    → stepDrawn f r b lead ≡ drawnOf f (stepOf (r .state) (r .points) (r .nodes) (r .rims) b) ++ lead
 unfolding stepDrawn
-steps-drawn f r b e = rw e
+steps-drawn f r b lead e = rw e
 
-none-drawn : (f : Frame) (r : Course) (b : List ℕ) → r .state .ended ≡ true → stepDrawn f r b ≡ []
+none-drawn : (f : Frame) (r : Course) (b lead : List ℕ) → r .state .ended ≡ true → stepDrawn f r b lead ≡ []
 unfolding stepDrawn
-none-drawn f r b e = rw e
+none-drawn f r b lead e = rw e
 
 -- ---- texts that stand at the front of longer ones
 record Starts (b a : List ℕ) : Type 0 where
@@ -119,7 +206,7 @@ module _ (job : List ℕ) where
   frame = frameOf (extentOf job)
 
   abbrev stepText : ℕ → List ℕ
-  stepText i = stepDrawn frame (ran (readTo job i)) (blockAt job i)
+  stepText i = stepDrawn frame (ran (readTo job i)) (blockAt job i) (leadAt job i)
 
   abbrev dot : ℕ → List ℕ
   dot i = nodeText (wholeRun job .nodes) (wholeRun job .rims) i
@@ -153,7 +240,7 @@ module _ (job : List ℕ) where
           ap (λ (m : ℕ). ran (readTo job m)) a ∙ one-more job (k + i) ∙ stays (ran (readTo job (k + i))) (blockAt job (k + i)) d ∙ q .0,
           ap (drawnTo frame job) a
               ∙ one-drawn (k + i)
-              ∙ ap (λ (z : List ℕ). drawnTo frame job (k + i) ++ z) (none-drawn frame (ran (readTo job (k + i))) (blockAt job (k + i)) d)
+              ∙ ap (λ (z : List ℕ). drawnTo frame job (k + i) ++ z) (none-drawn frame (ran (readTo job (k + i))) (blockAt job (k + i)) (leadAt job (k + i)) d)
               ∙ append-nil (drawnTo frame job (k + i))
               ∙ q .1,
         )
@@ -216,12 +303,12 @@ pub record Reached (job : List ℕ) (i : ℕ) (s : State) (ps : List ℤ) (l : L
   pub within : s .ended ≡ false → 512 * i ≤ length job
   pub turns : i ≤ length job / 512 + 1
 
--- and what is drawn of them has so many bytes: no head is longer than 4,096, and no ring than 72,000
+-- and what is drawn of them has so many bytes: no head is longer than 8,192, and nothing drawn of a block than 84,000
 pub record Drew (job : List ℕ) (i sent : ℕ) : Type 0 where
   pub count : sent ≡ length (drawnTo (frameOf (extentOf job)) job i)
-  pub bound : sent ≤ 4096 + 72000 * i
+  pub bound : sent ≤ 8192 + 84000 * i
 
-pub drew-head : (job : List ℕ) (f : Frame) (sent : ℕ) → f ≡ frameOf (extentOf job) → sent ≡ length (headText f) → sent ≤ 4096 → Drew job 0 sent
+pub drew-head : (job : List ℕ) (f : Frame) (sent : ℕ) → f ≡ frameOf (extentOf job) → sent ≡ length (headText f) → sent ≤ 8192 → Drew job 0 sent
 unfolding drawnTo
 drew-head job f sent e q b = record { count = q ∙ ap (λ (g : Frame). length (headText g)) e; bound = omega (arith, b) }
 
@@ -279,7 +366,10 @@ module _ (job : List ℕ) (i : ℕ) (s : State) (ps : List ℤ) (l : List Float)
 
     module _ (x : Stepped) (qs : List ℤ) (m : List Float) (w c : List ℕ) (p : Steps (stepOf s ps l rs b) x qs m w c) where
       module _ (f : Frame) (ef : f ≡ frameOf (extentOf job)) where
-        its-text : drawn f (x .told) (x .state .count) qs m w c ≡ stepDrawn (frameOf (extentOf job)) now (blockAt job i)
+        abbrev text : List ℕ
+        text = drawn f (x .told) (x .state .count) qs m w c ++ leadAt job i
+
+        its-text : text ≡ stepDrawn (frameOf (extentOf job)) now (blockAt job i) (leadAt job i)
         its-text =
             let et = p .told in
             let es = p .state in
@@ -287,19 +377,19 @@ module _ (job : List ℕ) (i : ℕ) (s : State) (ps : List ℤ) (l : List Float)
             let en = p .nodes in
             let er = p .rims in
             let ec = p .cells in
-            (λ j. drawn (ef j) (et j) (es j .count) (ep j) (en j) (er j) (ec j))
-            ∙ ap (drawnOf (frameOf (extentOf job))) same
-            ∙ sym (steps-drawn (frameOf (extentOf job)) now (blockAt job i) going)
+            (λ j. drawn (ef j) (et j) (es j .count) (ep j) (en j) (er j) (ec j) ++ leadAt job i)
+            ∙ ap (λ (z : Step). drawnOf (frameOf (extentOf job)) z ++ leadAt job i) same
+            ∙ sym (steps-drawn (frameOf (extentOf job)) now (blockAt job i) (leadAt job i) going)
 
         -- what is drawn of the step is owed, and once it is sent it is drawn
-        pub due : (sent : ℕ) → Drew job i sent → length job < 4294967296 → Owed job sent (drawn f (x .told) (x .state .count) qs m w c)
+        pub due : (sent : ℕ) → Drew job i sent → length job < 4294967296 → Owed job sent text
         due sent d h =
             owed-as its-text (owes-step job i sent (omega (arith, r .within e)) (record { count = d .count; bound = omega (arith, d .bound, r .turns, h) }))
 
-        pub drew : (sent n : ℕ) → Drew job i sent → Sends sent (drawn f (x .told) (x .state .count) qs m w c) n → Drew job (i + 1) n
+        pub drew : (sent n : ℕ) → Drew job i sent → Sends sent text n → Drew job (i + 1) n
         drew sent n d q =
             rw (add-one i) (
-            let a = length-append (drawnTo (frameOf (extentOf job)) job i) (stepDrawn (frameOf (extentOf job)) now (blockAt job i)) in
+            let a = length-append (drawnTo (frameOf (extentOf job)) job i) (stepDrawn (frameOf (extentOf job)) now (blockAt job i) (leadAt job i)) in
             record {
               count = omega (arith, d .count, q .count, ap length its-text, ap length (one-drawn job i), a);
               bound = omega (arith, d .bound, q .count, q .short);

@@ -1,39 +1,66 @@
 // Picture: the program that draws a job. Job blocks on standard input, as `divide` reads them; on standard output one SVG, to
-// scale: outlines, cuts, cells and numbered nodes, refused rings in grey with their number, axes in mm and a scale bar.
+// scale: outlines, cuts, cells, lead lines and the middles that snapped to them, numbered nodes, refused rings in grey with
+// their number, axes in mm and a scale bar.
 //
 // The box of the drawing stands in front, so the whole job is read first, 256 rings at most. Then the blocks are stepped over
 // as in run. specs/Picture says what comes out as one definition, `pictured`: each text that is handed over is what it has
-// next after the bytes written so far, and a run that ends has written as many as it has. What is left to the operating
-// system's calls is said in stream.
+// next after the bytes written so far, and a run that ends has written as many as it has. `draw_job` is the whole program, and
+// `main` only says how it ended. What is left to the operating system's calls is said in stream.
 
 ghost use mathlib.Core.Path.{_≡_};
-ghost use mathlib.Core.Bool.{false};
-ghost use Prim.Native.Nat.{_+_, _*_, _≤_, _<_};
+ghost use mathlib.Core.Bool.{true, false};
+ghost use mathlib.Core.List.{_++_};
+ghost use Prim.Native.Nat.{_+_, _*_, _%_, _≤_, _<_};
 ghost use lib.ListN.{length};
 ghost use Rattle.text.specs.Text.{Written};
 ghost use Rattle.told.specs.Text.{CanTell, Shown};
 ghost use Rattle.scene.specs.Scene.{ringText, mostRing};
 ghost use Rattle.frame.specs.Bounds.{extentOf, frameOf};
 ghost use Rattle.frame.specs.Head.{headText, mostHead};
-ghost use Rattle.picture.specs.Picture.{cellsOf, drawn, ringsDrawn, allDrawn, pictured, mostRings, Wrote, Owed, Sends, Left};
+ghost use Rattle.picture.specs.Picture.{cellsOf, drawn, leadAt, ringsDrawn, allDrawn, pictured, mostStep, mostRings};
+ghost use Rattle.picture.specs.Picture.{Wrote, Owed, Sends, Left, Ends, said};
+use blocks::Block;
 use frame::Frame;
+use frame::MOST_HEAD;
 use job::State;
 use libc::STDERR_FILENO;
 use libc::STDIN_FILENO;
 use libc::STDOUT_FILENO;
 use nodes::NodeNumber;
 use run::Sent;
-use scene::MOST_RING;
 use table::Row;
 use told::Told;
 
 // The blocks of 256 rings.
 const MOST_JOB: usize = 262144;
 
-// Where a failed read leaves the job: within a block, so that its run is refused there.
+// No block's drawing is longer: a ring's text and its lead line.
+const MOST_STEP: usize = 84000;
+
+// What was read: so many bytes, and whether a read failed. Then they end within a block, so that the run is refused there.
+pub struct Input {
+    pub count: usize,
+    pub failed: bool,
+}
+
+// How the program ended: so many bytes were read, a picture of so many was written; there were too many to read; or they could
+// not be written.
+pub enum End {
+    Drawn {
+        count: usize,
+        failed: bool,
+        sent: u64,
+    },
+    TooLong {
+        count: usize,
+    },
+    Unwritten,
+}
+
+// Where a failed read leaves the job.
 fn torn(done: usize) -> usize
     requires { ⌜ done < 4294967296 ⌝ }
-    ensures { λ r. ⌜ (done ≤ r) × (r ≤ done + 1) ⌝ }
+    ensures { λ r. ⌜ (done ≤ r) × (r ≤ done + 1) × (0 < r % 512) ⌝ }
 {
     if done % 512 == 0 {
         return done + 1;
@@ -41,24 +68,36 @@ fn torn(done: usize) -> usize
     done
 }
 
-// Reads until the list is full or the input ends, and answers how many bytes there are.
-fn read_job(bytes: &mut [u8]) -> usize
+fn all_read(count: usize) -> Input
+    ensures { λ r. ⌜ (r .count ≡ count) × (r .failed ≡ false) ⌝ }
+{
+    Input {
+        count,
+        failed: false,
+    }
+}
+
+// Reads until the list is full or the input ends.
+fn read_job(bytes: &mut [u8]) -> Input
     requires { ⌜ length (now bytes) ≡ 262145 ⌝ }
-    ensures { λ r. ⌜ r ≤ 262145 ⌝ }
+    ensures { λ r. ⌜ (r .count ≤ 262145) × (r .failed ≡ true → 0 < r .count % 512) ⌝ }
 {
     let mut done: usize = 0;
     while done < 262145 {
         let got = libc::read(STDIN_FILENO, &mut bytes[done..]);
         if got < 0 {
-            return torn(done);
+            return Input {
+                count: torn(done),
+                failed: true,
+            };
         }
         let more = io::count(got, &bytes[done..]);
         if more == 0 {
-            return done;
+            return all_read(done);
         }
         done += more;
     }
-    done
+    all_read(done)
 }
 
 // A ring with the cells of its row.
@@ -73,7 +112,8 @@ fn put_row(
     cells: &[NodeNumber],
 ) -> usize
     requires { ⌜ ((v .code ≡ 0 → v .cells * 4 ≤ length (now cells))) × (length (now cells) ≤ 496) × (count ≤ 60) × (mostRing ≤ length (now out)) ⌝ }
-    ensures { λ r. ⌜ Written (now (out .entry)) 0 (ringText ring v (now (points .entry)) count (now (nodes .entry)) (now (rims .entry)) (cellsOf v (now (cells .entry)))) r (now (out .exit)) ⌝ }
+    ensures { λ r. ⌜ Written (now (out .entry)) 0
+        (ringText ring v (now (points .entry)) count (now (nodes .entry)) (now (rims .entry)) (cellsOf v (now (cells .entry)))) r (now (out .exit)) ⌝ }
 {
     if v.code == 0 {
         let end = v.cells as usize * 4;
@@ -94,7 +134,8 @@ fn put_told(
     cells: &[NodeNumber],
 ) -> usize
     requires { ⌜ CanTell told (now cells) × (count ≤ 60) × (mostRing ≤ length (now out)) ⌝ }
-    ensures { λ r. ⌜ Written (now (out .entry)) 0 (drawn f told count (now (points .entry)) (now (nodes .entry)) (now (rims .entry)) (now (cells .entry))) r (now (out .exit)) ⌝ }
+    ensures { λ r. ⌜ Written (now (out .entry)) 0
+        (drawn f told count (now (points .entry)) (now (nodes .entry)) (now (rims .entry)) (now (cells .entry))) r (now (out .exit)) ⌝ }
 {
     match told {
         Told::Nothing => 0,
@@ -112,9 +153,23 @@ fn put_told(
     }
 }
 
+// The lead line of block i, where it is a chain.
+fn put_lead(out: &mut [u8], at: usize, job: &[u8], i: usize) -> usize
+    requires { ⌜ (512 * i ≤ length (now job)) × (i < 4294967296) × (at + length (leadAt (now job) i) ≤ length (now out)) ⌝ }
+    ensures { λ r. ⌜ Written (now (out .entry)) at (leadAt (now (job .entry)) i) r (now (out .exit)) ⌝ }
+{
+    let reading = blocks::read_block(frame::block_at(job, i), i as u32);
+    let block = reading.block;
+    match block {
+        Block::Ring { count, size } => at,
+        Block::Chain { count } => scene::put_lead(out, at, &reading.points, count),
+        Block::Refused { code, block } => at,
+    }
+}
+
 // Writes the text that is owed after `sent` bytes.
 fn send(job: &[u8], text: &[u8], sent: u64) -> Sent
-    requires { ⌜ Owed (now job) sent (now text) × (length (now text) ≤ mostRing) ⌝ }
+    requires { ⌜ Owed (now job) sent (now text) × (length (now text) ≤ mostStep) ⌝ }
     ensures { λ r. ⌜ (r .failed ≡ false → r .bytes ≡ sent + length (now (text .entry))) ⌝ }
 {
     if stream::write_all(STDOUT_FILENO, text) {
@@ -129,7 +184,7 @@ fn send(job: &[u8], text: &[u8], sent: u64) -> Sent
     }
 }
 
-// Writes what is drawn of a step.
+// Writes what is drawn of a step, that of block i.
 fn draw_step(
     job: &[u8],
     f: Frame,
@@ -139,14 +194,18 @@ fn draw_step(
     nodes: &[f64],
     rims: &[u8],
     cells: &[NodeNumber],
+    i: usize,
     sent: u64,
 ) -> Sent
-    requires { ⌜ Owed (now job) sent (drawn f told count (now points) (now nodes) (now rims) (now cells)) × CanTell told (now cells) × (count ≤ 60) ⌝ }
-    ensures { λ r. ⌜ (r .failed ≡ false → Sends sent (drawn f told count (now (points .entry)) (now (nodes .entry)) (now (rims .entry)) (now (cells .entry))) (r .bytes)) ⌝ }
+    requires { ⌜ Owed (now job) sent (drawn f told count (now points) (now nodes) (now rims) (now cells) ++ leadAt (now job) i)
+        × CanTell told (now cells) × (count ≤ 60) × (512 * i ≤ length (now job)) × (i < 4294967296) ⌝ }
+    ensures { λ r. ⌜ (r .failed ≡ false → Sends sent
+        (drawn f told count (now (points .entry)) (now (nodes .entry)) (now (rims .entry)) (now (cells .entry)) ++ leadAt (now (job .entry)) i) (r .bytes)) ⌝ }
 {
-    let mut text = [0u8; MOST_RING];
+    let mut text = [0u8; MOST_STEP];
     let n = put_told(&mut text, f, told, points, count, nodes, rims, cells);
-    send(job, &text[..n], sent)
+    let m = put_lead(&mut text, n, job, i);
+    send(job, &text[..m], sent)
 }
 
 // Writes the nodes that a run has left, after the head and the rings.
@@ -193,7 +252,7 @@ fn draw(job: &[u8], f: Frame, head: u64) -> Sent
         );
         let told = stepped.told;
         s = stepped.state;
-        let out = draw_step(job, f, told, &ring, s.count, &nodes, &rims, &cells, sent);
+        let out = draw_step(job, f, told, &ring, s.count, &nodes, &rims, &cells, i, sent);
         if out.failed {
             return out;
         }
@@ -209,7 +268,7 @@ fn picture(job: &[u8]) -> Sent
     requires { ⌜ length (now job) < 4294967296 ⌝ }
     ensures { λ r. ⌜ (r .failed ≡ false → r .bytes ≡ length (pictured (now (job .entry)))) ⌝ }
 {
-    let mut text = [0u8; 4096];
+    let mut text = [0u8; MOST_HEAD];
     let f = frame::frame_of(frame::extent_of(job));
     let n = frame::put_head(&mut text, f);
     let head = send(job, &text[..n], 0);
@@ -224,15 +283,43 @@ fn picture(job: &[u8]) -> Sent
     send(job, &text[..m], drawn.bytes)
 }
 
+// The whole program: reads a job and draws it.
+fn draw_job(bytes: &mut [u8]) -> End
+    requires { ⌜ length (now bytes) ≡ 262145 ⌝ }
+    ensures { λ r. ⌜ Ends (now (bytes .exit)) r ⌝ }
+{
+    let input = read_job(bytes);
+    let count = input.count;
+    if MOST_JOB < count {
+        return End::TooLong { count };
+    }
+    let sent = picture(&bytes[..count]);
+    if sent.failed {
+        return End::Unwritten;
+    }
+    End::Drawn {
+        count,
+        failed: input.failed,
+        sent: sent.bytes,
+    }
+}
+
+// Hands over the words of how it ended.
+fn say(end: End, words: &[u8])
+    requires { ⌜ now words ≡ said end ⌝ }
+{
+    stream::write_all(STDERR_FILENO, words);
+}
+
+fn say_end(end: End) {
+    match end {
+        End::Drawn { .. } => say(end, b""),
+        End::TooLong { .. } => say(end, b"picture: more than 256 rings\n"),
+        End::Unwritten => say(end, b"picture: standard output failed\n"),
+    }
+}
+
 fn main() {
     let mut bytes = [0u8; 262145];
-    let n = read_job(&mut bytes);
-    if MOST_JOB < n {
-        stream::write_all(STDERR_FILENO, b"picture: more than 256 rings\n");
-        return;
-    }
-    let sent = picture(&bytes[..n]);
-    if sent.failed {
-        stream::write_all(STDERR_FILENO, b"picture: standard output failed\n");
-    }
+    say_end(draw_job(&mut bytes));
 }

@@ -1,8 +1,9 @@
--- Claim: a list of 72,000 bytes holds the text of every ring of at most 60 points and 124 cells, and one of 256 that of every node.
+-- Claim: a list of 80,000 bytes holds the text of every ring of at most 60 points and 124 cells, and one of 256 that of every node; a lead line of at most
+-- 60 points has 3,275 bytes.
 use Prim.Native.Nat.{ℕ, zero, suc, _+_, _*_, _/_, _≤_}
 use mathlib.Core.Path.{_≡_}
 use mathlib.Core.Bool.{Bool, true, false, cond}
-use mathlib.Core.List.{List, [], _∷_}
+use mathlib.Core.List.{List, [], _∷_, _++_}
 use native.Mathlib.Omega.{arith}
 use lib.ListN.{length, length-append}
 use lib.Dec.{eqb}
@@ -16,8 +17,8 @@ use Rattle.svg.specs.Form.{formed, marks, takes}
 use Rattle.svg.proofs.Forms.{length-formed}
 use Rattle.scene.specs.declared.Spot.{Spot}
 use Rattle.scene.specs.declared.Quad.{Quad}
-use Rattle.scene.specs.Scene.{cellText, halfText, quadOf, quadText, quadsText, placed, pointsText, dividedText}
-use Rattle.scene.specs.Scene.{halfway, refusedText, ringText, dotText, mostRing, mostNode}
+use Rattle.scene.specs.Scene.{cellText, halfText, snapped, snapText, quadOf, quadText, quadsText, placed, pointsText, leadText}
+use Rattle.scene.specs.Scene.{dividedText, halfway, refusedText, ringText, dotText, mostRing, mostNode}
 
 -- ---- by the mark
 module _ (mark : ℕ) (a b : Spot) where
@@ -44,18 +45,40 @@ cell-length : (a b c d : Spot) → length (cellText a b c d) ≤ 249
 unfolding cellText bytes marks takes
 cell-length a b c d = length-formed (bytes "<polygon class='cell' points='@,@ @,@ @,@ @,@'/>\n") (a .x ∷ a .y ∷ b .x ∷ b .y ∷ c .x ∷ c .y ∷ d .x ∷ d .y ∷ [])
 
-quad-length : (q : Quad) → length (quadText q) ≤ 515
+-- ---- the sign of a snapped middle
+module _ (q : Quad) where
+  abbrev sign : List ℕ
+  sign = formed (bytes "<circle class='snapped' cx='@' cy='@' r='.5em'/>\n") (q .behind .x ∷ q .behind .y ∷ [])
+
+  pub snap-sign : snapped q ≡ true → sign ≡ snapText q
+  unfolding snapText
+  snap-sign e = rw e
+
+  pub snap-none : snapped q ≡ false → [] ≡ snapText q
+  unfolding snapText
+  snap-none e = rw e
+
+  snap-length : length (snapText q) ≤ 99
+  unfolding snapText bytes marks takes
+  snap-length = go (snapped q)
+    where
+      go : (t : Bool) → length (cond t sign []) ≤ 99
+      go true = length-formed (bytes "<circle class='snapped' cx='@' cy='@' r='.5em'/>\n") (q .behind .x ∷ q .behind .y ∷ [])
+      go false = omega arith
+
+quad-length : (q : Quad) → length (quadText q) ≤ 614
 unfolding quadText
 quad-length q =
-    rw (length-append, length-append)
+    rw (length-append, length-append, length-append)
     (omega (
       arith,
       cell-length (q .centre) (q .ahead) (q .corner) (q .behind),
       half-length (q .first) (q .corner) (q .ahead),
       half-length (q .second) (q .corner) (q .behind),
+      snap-length q,
     ))
 
-quads-length : (l : List Float) (rs cs : List ℕ) (n : ℕ) → length (quadsText l rs cs n) ≤ 515 * n
+quads-length : (l : List Float) (rs cs : List ℕ) (n : ℕ) → length (quadsText l rs cs n) ≤ 614 * n
 unfolding quadsText
 quads-length l rs cs zero = omega arith
 quads-length l rs cs (suc n) = rw length-append (omega (arith, quads-length l rs cs n, quad-length (quadOf l rs cs n)))
@@ -69,10 +92,37 @@ unfolding pointsText
 points-length ps zero = omega arith
 points-length ps (suc n) = rw length-append (omega (arith, points-length ps n, placed-length (pointPlace ps (n * 2)) (pointPlace ps (n * 2 + 1))))
 
+-- ---- a lead line
+module _ (ps : List ℤ) (count : ℕ) where
+  abbrev leadLine : List ℕ
+  leadLine = formed (bytes "<polyline class='lead' points='") [] ++ pointsText ps count ++ formed (bytes "'/>\n") []
+
+  pub lead-none : count ≡ 0 → [] ≡ leadText ps count
+  unfolding leadText
+  lead-none e = rw (eq-eqb count 0 e)
+
+  pub lead-some : (count ≡ 0 → ⊥) → leadLine ≡ leadText ps count
+  unfolding leadText
+  lead-some e = rw (ne-eqb count 0 e)
+
+  pub lead-length : count ≤ 60 → length (leadText ps count) ≤ 3275
+  unfolding leadText bytes marks takes
+  lead-length h = go (eqb count 0)
+    where
+      go : (t : Bool) → length (cond t [] leadLine) ≤ 3275
+      go true = omega arith
+      go false =
+          rw (length-append, length-append) (omega (
+            arith,
+            length-formed (bytes "<polyline class='lead' points='") [],
+            points-length ps count,
+            length-formed (bytes "'/>\n") [],
+          ))
+
 module _ (mark : ℕ) (p : Spot) (n : ℕ) where
   abbrev insideDot : List ℕ
   insideDot =
-      formed (bytes "<g class='inside' transform='matrix(1 0 0 -1 @ @)'><circle r='.22em'/><text x='.3em' y='-.3em'>#</text></g>\n")
+      formed (bytes "<g class='inside' transform='matrix(.01 0 0 -.01 @ @)'><circle r='.22em'/><text x='.3em' y='-.3em'>#</text></g>\n")
       (p .x ∷ p .y ∷ n ∷ [])
 
   pub dot-inside : mark ≡ 0 → insideDot ≡ dotText mark p n
@@ -81,7 +131,7 @@ module _ (mark : ℕ) (p : Spot) (n : ℕ) where
 
   abbrev rimDot : List ℕ
   rimDot =
-      formed (bytes "<g class='node' transform='matrix(1 0 0 -1 @ @)'><circle r='.22em'/><text x='.3em' y='-.3em'>#</text></g>\n")
+      formed (bytes "<g class='node' transform='matrix(.01 0 0 -.01 @ @)'><circle r='.22em'/><text x='.3em' y='-.3em'>#</text></g>\n")
       (p .x ∷ p .y ∷ n ∷ [])
 
   pub dot-rim : (mark ≡ 0 → ⊥) → rimDot ≡ dotText mark p n
@@ -91,14 +141,14 @@ module _ (mark : ℕ) (p : Spot) (n : ℕ) where
   pub inside-length : length insideDot ≤ mostNode
   unfolding bytes marks takes
   inside-length =
-      let h = length-formed (bytes "<g class='inside' transform='matrix(1 0 0 -1 @ @)'><circle r='.22em'/><text x='.3em' y='-.3em'>#</text></g>\n")
+      let h = length-formed (bytes "<g class='inside' transform='matrix(.01 0 0 -.01 @ @)'><circle r='.22em'/><text x='.3em' y='-.3em'>#</text></g>\n")
       (p .x ∷ p .y ∷ n ∷ []) in
       omega (arith, h)
 
   pub rim-length : length rimDot ≤ mostNode
   unfolding bytes marks takes
   rim-length =
-      let h = length-formed (bytes "<g class='node' transform='matrix(1 0 0 -1 @ @)'><circle r='.22em'/><text x='.3em' y='-.3em'>#</text></g>\n")
+      let h = length-formed (bytes "<g class='node' transform='matrix(.01 0 0 -.01 @ @)'><circle r='.22em'/><text x='.3em' y='-.3em'>#</text></g>\n")
       (p .x ∷ p .y ∷ n ∷ []) in
       omega (arith, h)
 
@@ -122,12 +172,20 @@ module _ (n : ℕ) (v : Row) (ps : List ℤ) (count : ℕ) (h : count ≤ 60) wh
       let ms : List ℕ = halfway ps count 0 ∷ halfway ps count 1 ∷ v .code ∷ [] in
       let a : length (formed (bytes "<g class='refused'><title>ring # refused # # #</title>\n<polygon points='") ns) ≤ 172 =
       length-formed (bytes "<g class='refused'><title>ring # refused # # #</title>\n<polygon points='") ns in
-      let b : length (formed (bytes "'/>\n<text transform='matrix(1 0 0 -1 @ @)'>#</text></g>\n") ms) ≤ 131 =
-      length-formed (bytes "'/>\n<text transform='matrix(1 0 0 -1 @ @)'>#</text></g>\n") ms in
+      let b : length (formed (bytes "'/>\n<text transform='matrix(.01 0 0 -.01 @ @)'>#</text></g>\n") ms) ≤ 135 =
+      length-formed (bytes "'/>\n<text transform='matrix(.01 0 0 -.01 @ @)'>#</text></g>\n") ms in
       rw (length-append, length-append) (omega (arith, a, b, points-length ps count))
 
   -- by its row
   module _ (l : List Float) (rs cs : List ℕ) where
+    pub ring-length : length cs ≤ 496 → length (ringText n v ps count l rs cs) ≤ mostRing
+    unfolding ringText
+    ring-length k = go (eqb (v .code) 0)
+      where
+        go : (t : Bool) → length (cond t (dividedText n v ps count l rs cs) (refusedText n v ps count)) ≤ mostRing
+        go true = divided-length l rs cs k
+        go false = refused-length
+
     pub ring-divided : v .code ≡ 0 → dividedText n v ps count l rs cs ≡ ringText n v ps count l rs cs
     unfolding ringText
     ring-divided e = rw (eq-eqb (v .code) 0 e)

@@ -1,10 +1,10 @@
--- What is drawn of a ring: its outline, one polygon a cell, one line for each half of an edge; or its outline greyed with the number that
--- refuses it. And of a node: a dot and its number. Definitions only.
-use Prim.Native.Nat.{ℕ, zero, suc, _+_, _*_, _/_}
-use mathlib.Core.Bool.{cond}
+-- What is drawn of a ring: its outline, one polygon a cell, one line for each half of an edge, a circle about each snapped middle; or its
+-- outline greyed with the number that refuses it. Of its lead line, and of a node: a dot and its number. Definitions only.
+use Prim.Native.Nat.{ℕ, zero, suc, _+_, _-_, _*_, _/_}
+use mathlib.Core.Bool.{Bool, _&&_, _||_, cond}
 use mathlib.Core.List.{List, [], _∷_, _++_}
 use lib.ListN.{length, getD}
-use lib.Dec.{eqb}
+use lib.Dec.{ltb, eqb}
 use lib.IntN.{ℤ}
 use lib.Ieee.{Float, nan}
 use Rattle.text.specs.Text.{bytes}
@@ -28,7 +28,18 @@ halfText mark a b =
     formed (cond (eqb mark 0) (bytes "<path class='cut' d='M@ @L@ @'/>\n") (bytes "<path class='rim' d='M@ @L@ @'/>\n"))
     (a .x ∷ a .y ∷ b .x ∷ b .y ∷ [])
 
--- cell i of a list of four node numbers a cell, its nodes looked up
+-- the corner behind the middle m of the piece with the centre c, in the first i cells of a list: that of the piece's cell which has m before its corner
+unfoldable pub follows : List ℕ → ℕ → ℕ → ℕ → Bool
+follows cs c m j = eqb (getD cs (j * 4) 0) c && eqb (getD cs (j * 4 + 1) 0) m
+
+unfoldable pub followed : List ℕ → ℕ → ℕ → ℕ → ℕ → ℕ
+followed cs c m j found = cond (follows cs c m j) (getD cs (j * 4 + 2) 0) found
+
+unfoldable pub across : List ℕ → ℕ → ℕ → ℕ → ℕ
+across cs c m zero = 0
+across cs c m (suc j) = followed cs c m j (across cs c m j)
+
+-- cell i of a list of four node numbers a cell, its nodes looked up, and the corner after its own
 unfoldable pub quadOf : List Float → List ℕ → List ℕ → ℕ → Quad
 quadOf l rs cs i =
     record {
@@ -36,16 +47,32 @@ quadOf l rs cs i =
       ahead = spotOf l (getD cs (i * 4 + 1) 0);
       corner = spotOf l (getD cs (i * 4 + 2) 0);
       behind = spotOf l (getD cs (i * 4 + 3) 0);
+      next = spotOf l (across cs (getD cs (i * 4) 0) (getD cs (i * 4 + 3) 0) (length cs / 4));
       first = getD rs (getD cs (i * 4 + 1) 0) 0;
       second = getD rs (getD cs (i * 4 + 3) 0) 0;
     }
 
--- a cell with the two halves at its corner; and the first i cells
+-- m is off halfway between a and b by more than two ten-thousandths of a mm, more than rounding makes of a middle that is halfway
+unfoldable pub off : ℕ → ℕ → ℕ → Bool
+off a m b =
+    let half = a / 2 + b / 2 in
+    ltb 2 (m - half) || ltb 2 (half - m)
+
+-- a middle that has snapped to a lead line is off halfway between its corners: a circle about it
+unfoldable pub snapped : Quad → Bool
+snapped q = off (q .corner .x) (q .behind .x) (q .next .x) || off (q .corner .y) (q .behind .y) (q .next .y)
+
+unfoldable pub snapText : Quad → List ℕ
+snapText q =
+    cond (snapped q) (formed (bytes "<circle class='snapped' cx='@' cy='@' r='.5em'/>\n") (q .behind .x ∷ q .behind .y ∷ [])) []
+
+-- a cell with the two halves at its corner, and the sign where the second has snapped; and the first i cells
 unfoldable pub quadText : Quad → List ℕ
 quadText q =
     cellText (q .centre) (q .ahead) (q .corner) (q .behind)
     ++ halfText (q .first) (q .corner) (q .ahead)
     ++ halfText (q .second) (q .corner) (q .behind)
+    ++ snapText q
 
 unfoldable pub quadsText : List Float → List ℕ → List ℕ → ℕ → List ℕ
 quadsText l rs cs zero = []
@@ -61,6 +88,11 @@ pointText ps i = placed (pointPlace ps (i * 2)) (pointPlace ps (i * 2 + 1))
 unfoldable pub pointsText : List ℤ → ℕ → List ℕ
 pointsText ps zero = []
 pointsText ps (suc i) = pointsText ps i ++ pointText ps i
+
+-- a lead line: a line through all points of a ring's chain
+unfoldable pub leadText : List ℤ → ℕ → List ℕ
+leadText ps count =
+    cond (eqb count 0) [] (formed (bytes "<polyline class='lead' points='") [] ++ pointsText ps count ++ formed (bytes "'/>\n") [])
 
 -- ring number n, which has its row and its first `count` points: divided, with its cells
 unfoldable pub dividedText : ℕ → Row → List ℤ → ℕ → List Float → List ℕ → List ℕ → List ℕ
@@ -79,7 +111,7 @@ unfoldable pub refusedText : ℕ → Row → List ℤ → ℕ → List ℕ
 refusedText n v ps count =
     formed (bytes "<g class='refused'><title>ring # refused # # #</title>\n<polygon points='") (n ∷ v .code ∷ v .corners ∷ v .k ∷ [])
     ++ pointsText ps count
-    ++ formed (bytes "'/>\n<text transform='matrix(1 0 0 -1 @ @)'>#</text></g>\n") (halfway ps count 0 ∷ halfway ps count 1 ∷ v .code ∷ [])
+    ++ formed (bytes "'/>\n<text transform='matrix(.01 0 0 -.01 @ @)'>#</text></g>\n") (halfway ps count 0 ∷ halfway ps count 1 ∷ v .code ∷ [])
 
 unfoldable pub ringText : ℕ → Row → List ℤ → ℕ → List Float → List ℕ → List ℕ → List ℕ
 ringText n v ps count l rs cs = cond (eqb (v .code) 0) (dividedText n v ps count l rs cs) (refusedText n v ps count)
@@ -89,8 +121,8 @@ unfoldable pub dotText : ℕ → Spot → ℕ → List ℕ
 dotText mark p n =
     formed
     (cond (eqb mark 0)
-    (bytes "<g class='inside' transform='matrix(1 0 0 -1 @ @)'><circle r='.22em'/><text x='.3em' y='-.3em'>#</text></g>\n")
-    (bytes "<g class='node' transform='matrix(1 0 0 -1 @ @)'><circle r='.22em'/><text x='.3em' y='-.3em'>#</text></g>\n"))
+    (bytes "<g class='inside' transform='matrix(.01 0 0 -.01 @ @)'><circle r='.22em'/><text x='.3em' y='-.3em'>#</text></g>\n")
+    (bytes "<g class='node' transform='matrix(.01 0 0 -.01 @ @)'><circle r='.22em'/><text x='.3em' y='-.3em'>#</text></g>\n"))
     (p .x ∷ p .y ∷ n ∷ [])
 
 -- node i of a list, and the first i
@@ -103,7 +135,7 @@ nodesText l rs (suc i) = nodesText l rs i ++ nodeText l rs i
 
 -- no ring's text is longer
 abbrev pub mostRing : ℕ
-mostRing = 72000
+mostRing = 80000
 
 -- and no node's
 abbrev pub mostNode : ℕ

@@ -1,5 +1,5 @@
-// Scene: what is drawn of a ring and of a node, as the text of SVG elements. It stands above svg, beside job: it takes the row
-// of a ring with its points, the node list, the rim marks and the cells that the call left.
+// Scene: what is drawn of a ring, of its lead line and of a node, as the text of SVG elements. It stands above svg, beside job:
+// it takes the row of a ring with its points, the node list, the rim marks and the cells that the call left.
 //
 // Each function that writes takes the place to write at and returns the place after it, as in text.
 
@@ -12,7 +12,7 @@ use nodes::NodeNumber;
 use table::Row;
 
 // No ring's text is longer.
-pub const MOST_RING: usize = 72000;
+pub const MOST_RING: usize = 80000;
 
 // Where a node is, as places of a picture.
 pub struct Spot {
@@ -20,12 +20,14 @@ pub struct Spot {
     pub y: u64,
 }
 
-// A cell: where its centre, its corner and the middles before and behind the corner are, and the rim marks of the middles.
+// A cell: where its centre, its corner and the middles before and behind the corner are, the next corner behind that middle,
+// and the rim marks of the middles.
 pub struct Quad {
     pub centre: Spot,
     pub ahead: Spot,
     pub corner: Spot,
     pub behind: Spot,
+    pub next: Spot,
     pub first: u8,
     pub second: u8,
 }
@@ -94,36 +96,113 @@ fn put_half(out: &mut [u8], at: usize, mark: u8, a: Spot, b: Spot) -> usize
     svg::put_form(out, at, b"<path class='rim' d='M@ @L@ @'/>\n", &numbers)
 }
 
+// Whether cell j of a list has the centre c, and the middle m before its corner.
+fn follows(cells: &[NodeNumber], j: usize, c: u64, m: u64) -> bool
+    requires { ⌜ j < 124 ⌝ }
+    ensures { λ r. ⌜ r ≡ Scene.follows (now (cells .entry)) c m j ⌝ }
+{
+    if listed(cells, j * 4) != c {
+        return false;
+    }
+    listed(cells, j * 4 + 1) == m
+}
+
+// The corner of cell j where it follows, else the one that was found before.
+fn followed(cells: &[NodeNumber], j: usize, c: u64, m: u64, found: u64) -> u64
+    requires { ⌜ (j < 124) × (found < 4294967296) ⌝ }
+    ensures { λ r. ⌜ (r ≡ Scene.followed (now (cells .entry)) c m j found) × (r < 4294967296) ⌝ }
+{
+    if follows(cells, j, c, m) {
+        return listed(cells, j * 4 + 2);
+    }
+    found
+}
+
+// The corner behind the middle m of a piece: that of its cell which has m before its corner.
+fn across(cells: &[NodeNumber], c: u64, m: u64) -> u64
+    requires { ⌜ length (now cells) ≤ 496 ⌝ }
+    ensures { λ r. ⌜ (r ≡ Scene.across (now (cells .entry)) c m (length (now (cells .entry)) / 4)) × (r < 4294967296) ⌝ }
+{
+    let n = cells.len() / 4;
+    let mut found: u64 = 0;
+    for j in 0..n {
+        found = followed(cells, j, c, m, found);
+    }
+    found
+}
+
 // Cell i of a list, its nodes looked up.
 fn read_quad(nodes: &[f64], rims: &[u8], cells: &[NodeNumber], i: usize) -> Quad
-    requires { ⌜ i < 124 ⌝ }
+    requires { ⌜ (i < 124) × (length (now cells) ≤ 496) ⌝ }
     ensures { λ r. ⌜ r ≡ Scene.quadOf (now (nodes .entry)) (now (rims .entry)) (now (cells .entry)) i ⌝ }
 {
     let k = i * 4;
+    let centre = listed(cells, k);
     let before = listed(cells, k + 1);
     let after = listed(cells, k + 3);
-    let centre = spot_of(nodes, listed(cells, k));
+    let middle = spot_of(nodes, centre);
     let ahead = spot_of(nodes, before);
     let corner = spot_of(nodes, listed(cells, k + 2));
     let behind = spot_of(nodes, after);
+    let next = spot_of(nodes, across(cells, centre, after));
     Quad {
-        centre,
+        centre: middle,
         ahead,
         corner,
         behind,
+        next,
         first: mark(rims, before),
         second: mark(rims, after),
     }
 }
 
-// A cell and the two halves at its corner.
+// Whether m is off halfway between a and b.
+fn off(a: u64, m: u64, b: u64) -> bool
+    ensures { λ r. ⌜ r ≡ Scene.off a m b ⌝ }
+{
+    let half = a / 2 + b / 2;
+    if half < m {
+        return m - half > 2;
+    }
+    half - m > 2
+}
+
+// Whether the middle behind a cell's corner has snapped to a lead line.
+fn snapped(q: Quad) -> bool
+    ensures { λ r. ⌜ r ≡ Scene.snapped q ⌝ }
+{
+    if off(q.corner.x, q.behind.x, q.next.x) {
+        return true;
+    }
+    off(q.corner.y, q.behind.y, q.next.y)
+}
+
+// The sign of a snapped middle.
+fn put_snap(out: &mut [u8], at: usize, q: Quad) -> usize
+    requires { ⌜ at + length (Scene.snapText q) ≤ length (now out) ⌝ }
+    ensures { λ r. ⌜ Written (now (out .entry)) at (Scene.snapText q) r (now (out .exit)) ⌝ }
+{
+    let numbers = [q.behind.x, q.behind.y];
+    if snapped(q) {
+        return svg::put_form(
+            out,
+            at,
+            b"<circle class='snapped' cx='@' cy='@' r='.5em'/>\n",
+            &numbers,
+        );
+    }
+    at
+}
+
+// A cell, the two halves at its corner, and the sign where the second has snapped.
 fn put_quad(out: &mut [u8], at: usize, q: Quad) -> usize
     requires { ⌜ at + length (Scene.quadText q) ≤ length (now out) ⌝ }
     ensures { λ r. ⌜ Written (now (out .entry)) at (Scene.quadText q) r (now (out .exit)) ⌝ }
 {
     let first = put_cell(out, at, q.centre, q.ahead, q.corner, q.behind);
     let second = put_half(out, first, q.first, q.corner, q.ahead);
-    put_half(out, second, q.second, q.corner, q.behind)
+    let third = put_half(out, second, q.second, q.corner, q.behind);
+    put_snap(out, third, q)
 }
 
 fn put_quads(out: &mut [u8], at: usize, nodes: &[f64], rims: &[u8], cells: &[NodeNumber]) -> usize
@@ -159,6 +238,20 @@ fn put_points(out: &mut [u8], at: usize, ring: &[i32], count: usize) -> usize
         next = put_point(out, next, x, y);
     }
     next
+}
+
+// The lead line through the first `count` points of a chain; nothing of none.
+pub fn put_lead(out: &mut [u8], at: usize, chain: &[i32], count: usize) -> usize
+    requires { ⌜ (count ≤ 60) × (at + length (Scene.leadText (now chain) count) ≤ length (now out)) ⌝ }
+    ensures { λ r. ⌜ Written (now (out .entry)) at (Scene.leadText (now (chain .entry)) count) r (now (out .exit)) ⌝ }
+{
+    if count == 0 {
+        return at;
+    }
+    let none = [0u64; 0];
+    let first = svg::put_form(out, at, b"<polyline class='lead' points='", &none);
+    let closed = put_points(out, first, chain, count);
+    svg::put_form(out, closed, b"'/>\n", &none)
 }
 
 // An accepted ring: its outline, its cells and their edges.
@@ -215,7 +308,7 @@ fn put_refused(out: &mut [u8], ring: u64, v: Row, points: &[i32], count: usize) 
     svg::put_form(
         out,
         closed,
-        b"'/>\n<text transform='matrix(1 0 0 -1 @ @)'>#</text></g>\n",
+        b"'/>\n<text transform='matrix(.01 0 0 -.01 @ @)'>#</text></g>\n",
         &label,
     )
 }
@@ -251,14 +344,14 @@ fn put_dot(out: &mut [u8], mark: u8, p: Spot, n: u64) -> usize
         return svg::put_form(
             out,
             0,
-            b"<g class='inside' transform='matrix(1 0 0 -1 @ @)'><circle r='.22em'/><text x='.3em' y='-.3em'>#</text></g>\n",
+            b"<g class='inside' transform='matrix(.01 0 0 -.01 @ @)'><circle r='.22em'/><text x='.3em' y='-.3em'>#</text></g>\n",
             &numbers,
         );
     }
     svg::put_form(
         out,
         0,
-        b"<g class='node' transform='matrix(1 0 0 -1 @ @)'><circle r='.22em'/><text x='.3em' y='-.3em'>#</text></g>\n",
+        b"<g class='node' transform='matrix(.01 0 0 -.01 @ @)'><circle r='.22em'/><text x='.3em' y='-.3em'>#</text></g>\n",
         &numbers,
     )
 }

@@ -1,5 +1,5 @@
 // Stream: a block read from a descriptor, and a text written to one, with a count of every byte that was taken. It stands below
-// run and the other programs that read blocks or print, and all that they hand to the operating system goes through here.
+// run and the other programs that read blocks or print; what they write to their standard output goes through here.
 //
 // What a call of the operating system read or wrote has no contract. `write_some` alone calls `libc::write`, once, and adds what
 // was taken to the count that it is lent; so whoever hands a text over twice has counted it twice, and cannot show that the

@@ -1,5 +1,6 @@
--- `put_head`: three texts one after the other, which have room by proofs/Lengths.
+-- `put_head`: four texts one after the other, which have room by proofs/Lengths.
 use mathlib.Core.List.{_++_}
+use Rattle.text.proofs.Writing.{shorter, room, join}
 use Rattle.svg.proofs.Sums.{room-as, written-as}
 use Rattle.svg.proofs.Chain.{room-second, room-third, three}
 use Rattle.frame.proofs.Lengths.{head-length}
@@ -25,10 +26,26 @@ put-looks-requires c κs =
     let f = s .args .f in
     let out = s .args .out .now in
     let a = Head.boxText (Head.viewOf f) in
+    let t = Head.ticksText f 9 in
     let d = Head.axesText f (Head.axesOf f) in
-    let h : 0 + length (a ++ Head.looks ++ d) ≤ length out = omega (arith, s .pre .1, head-length f) in
-    room-second out 0 a Head.looks d h
-    (written-as (ap Head.boxText (c .before .before .before .before .view-of .ensures)) (c .before .before .before .put-box .ensures))
+    let h : 0 + length (a ++ Head.looks ++ t ++ d) ≤ length out = omega (arith, s .pre .1, head-length f) in
+    let k = shorter 0 (length out) (a ++ Head.looks ++ t) d h in
+    room-second out 0 a Head.looks t k (written-as (ap Head.boxText (c .before .before .before .before .view-of .ensures)) (c .before .before .before .put-box .ensures))
+
+put-ticks-requires : tie.Need-put-ticks-requires
+unfolding Head.headText
+put-ticks-requires c κs =
+    let c₈ = c .before .before .before .before .before .before .before .before in
+    let s = c₈ .before .before .before in
+    let f = s .args .f in
+    let out = s .args .out .now in
+    let a = Head.boxText (Head.viewOf f) in
+    let t = Head.ticksText f 9 in
+    let d = Head.axesText f (Head.axesOf f) in
+    let h : 0 + length (a ++ Head.looks ++ t ++ d) ≤ length out = omega (arith, s .pre .1, head-length f) in
+    let k = shorter 0 (length out) (a ++ Head.looks ++ t) d h in
+    let w = written-as (ap Head.boxText (c₈ .view-of .ensures)) (c .before .before .before .before .before .before .before .put-box .ensures) in
+    (s .pre .0, room-third out 0 a Head.looks t k w (c .before .before .before .put-looks .ensures))
 
 axes-of-requires : tie.Need-axes-of-requires
 axes-of-requires c κs = search needs
@@ -37,15 +54,17 @@ put-axes-requires : tie.Need-put-axes-requires
 unfolding Head.headText
 put-axes-requires c κs =
     let c₈ = c .before .before .before .before .before .before .before .before in
-    let s = c₈ .before .before .before .before in
+    let s = c₈ .before .before .before .before .before .before .before .before in
     let f = s .args .f in
     let out = s .args .out .now in
     let a = Head.boxText (Head.viewOf f) in
+    let t = Head.ticksText f 9 in
     let d = Head.axesText f (Head.axesOf f) in
-    let h : 0 + length (a ++ Head.looks ++ d) ≤ length out = omega (arith, s .pre .1, head-length f) in
-    room-as (ap (Head.axesText f) (c .axes-of .ensures)) (c .before .before .before .before .put-looks .result) _
-    (room-third out 0 a Head.looks d h (written-as (ap Head.boxText (c₈ .before .view-of .ensures)) (c₈ .put-box .ensures))
-    (c .before .before .before .before .put-looks .ensures))
+    let h : 0 + length (a ++ Head.looks ++ t ++ d) ≤ length out = omega (arith, s .pre .1, head-length f) in
+    let k = shorter 0 (length out) (a ++ Head.looks ++ t) d h in
+    let w = written-as (ap Head.boxText (c₈ .before .before .before .before .before .view-of .ensures)) (c₈ .before .before .before .before .put-box .ensures) in
+    let v = three out 0 a Head.looks t k w (c₈ .put-looks .ensures) (c .before .before .before .before .put-ticks .ensures) in
+    room-as (ap (Head.axesText f) (c .axes-of .ensures)) (c .before .before .before .before .put-ticks .result) _ (room out 0 (a ++ Head.looks ++ t) d h v)
 
 same-length : tie.Need-same-length
 same-length c = search needs
@@ -54,17 +73,20 @@ returns : tie.Need-returns
 unfolding Head.headText
 returns c =
     let c₈ = c .before .before .before .before .before .before .before .before in
-    let s = c₈ .before .before .before .before .before .before .before in
+    let c₁₆ = c₈ .before .before .before .before .before .before .before .before in
+    let s = c₁₆ .before .before .before in
     let f = s .args .f in
     let out = s .args .out .now in
     let a = Head.boxText (Head.viewOf f) in
+    let t = Head.ticksText f 9 in
     let d = Head.axesText f (Head.axesOf f) in
-    let h : 0 + length (a ++ Head.looks ++ d) ≤ length out = omega (arith, s .pre .1, head-length f) in
-    let w = three out 0 a Head.looks d h
-    (written-as (ap Head.boxText (c₈ .before .before .before .before .view-of .ensures)) (c₈ .before .before .before .put-box .ensures))
-    (c .before .before .before .before .before .before .before .put-looks .ensures)
+    let h : 0 + length (a ++ Head.looks ++ t ++ d) ≤ length out = omega (arith, s .pre .1, head-length f) in
+    let k = shorter 0 (length out) (a ++ Head.looks ++ t) d h in
+    let w = written-as (ap Head.boxText (c₁₆ .view-of .ensures)) (c₈ .before .before .before .before .before .before .before .put-box .ensures) in
+    let v = three out 0 a Head.looks t k w (c₈ .before .before .before .put-looks .ensures) (c .before .before .before .before .before .before .before .put-ticks .ensures) in
+    let u = join out 0 (a ++ Head.looks ++ t) d h v
     (written-as (ap (Head.axesText f) (c .before .before .before .axes-of .ensures)) (c .before .before .put-axes .ensures)) in
-    (w, omega (arith, w .place, head-length f))
+    (u, omega (arith, u .place, head-length f))
 
 pub put-head-spec : {M : Type 1} → statement M
 put-head-spec =
@@ -73,6 +95,7 @@ put-head-spec =
     view-of-requires
     put-box-requires
     put-looks-requires
+    put-ticks-requires
     axes-of-requires
     put-axes-requires
     same-length

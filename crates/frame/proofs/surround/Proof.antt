@@ -1,5 +1,5 @@
 -- `surround`: the frame by the size.
-use Prim.Native.Nat.{_+_, _-_, _/_}
+use Prim.Native.Nat.{_+_, _-_, _/_, _≤_, max}
 use mathlib.Core.Path.{ap, _∙_}
 use Rattle.frame.specs.Bounds as Bounds
 use native.Mathlib.Omega.{arith}
@@ -13,8 +13,8 @@ less-requires c κs = search needs
 less-requires-2 : tie.Need-less-requires-2
 less-requires-2 c κs = search needs
 
-most-requires : tie.Need-most-requires
-most-requires c κs = search needs
+max-requires : tie.Need-max-requires
+max-requires c κs = search needs
 
 step-for-requires : tie.Need-step-for-requires
 step-for-requires c κs = search needs
@@ -38,9 +38,9 @@ returns c =
     let e = s .args .e in
     let a = c .before .before .before .before .before .less .ensures .0 in
     let b = c .before .before .before .before .less2 .ensures .0 in
-    let z = c .before .before .before .most .ensures .0 ∙ (λ j. Bounds.most (a j) (b j)) in
+    let z = c .before .before .before .max .ensures ∙ (λ j. max (a j) (b j)) in
     let t = c .before .before .step-for .ensures .0 ∙ ap Bounds.stepFor z in
-    let m = c .before .before .before .most .ensures .1 in (
+    let m : c .before .before .before .max .result ≤ 40000000 = omega (arith, z, s .pre .right, s .pre .top) in (
       λ j. record {
         left = e .left;
         right = e .right;
@@ -70,7 +70,7 @@ surround-spec =
     (tie.spec
     less-requires
     less-requires-2
-    most-requires
+    max-requires
     step-for-requires
     sub-t4
     sub-t5

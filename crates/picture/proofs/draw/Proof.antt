@@ -100,6 +100,8 @@ draw-step-requires c κs =
       due _ (l .i) (l .s) (l .ring) (l .nodes) (l .rims) (l .inv .0) e _ b (p .result) _ _ _ _ (p .ensures .0) _ (l .inv .2) (l .sent) (l .inv .7) (l .inv .1),
       p .ensures .0 .tells,
       can-step _ _ _ _ _ _ t .few,
+      l .inv .0 .within e,
+      omega (arith, l .inv .0 .within e, l .inv .1),
     )
 
 returns : tie.Need-returns Inv-loop μ-loop

@@ -1,9 +1,10 @@
--- `draw_step` meets its contract: the text that was put is what is owed.
+-- `draw_step` meets its contract: the two texts that were put are what is owed.
 use Prim.Native.Nat.{ℕ}
 use mathlib.Core.Path.{ap, _∙_}
 use lib.ListN.{length, length-replicate, length-take}
 use Rattle.laws.proofs.Lists.{part-length}
-use Rattle.picture.proofs.Drawing.{fits, front, owed-as}
+use Rattle.picture.specs.Picture.{leadAt}
+use Rattle.picture.proofs.Drawing.{front, owed-as, drawn-length, lead-length-at, lead-room, both, both-short, both-end}
 use native.Mathlib.Omega.{arith}
 use borrow.Author.Needs.{needs}
 use Rattle.picture.proofs.draw_step.Statement.{statement}
@@ -15,31 +16,69 @@ slice-aggregate-put-told c = search needs
 put-told-requires : tie.Need-put-told-requires
 put-told-requires c κs = let q = c .before .before .before .before .before .pre in (q .1, q .2, search needs)
 
+slice-aggregate-put-lead : tie.Need-slice-aggregate-put-lead
+slice-aggregate-put-lead c = search needs
+
+put-lead-requires : tie.Need-put-lead-requires
+put-lead-requires c κs =
+    let t = c .before .before in
+    let s = t .before .before .before .before .before .before in
+    let a = s .args in
+    let w = t .put-told .ensures in
+    let k = length-replicate {A = ℕ} 84000 0 in
+    let short = drawn-length (a .f) (a .told) (a .count) (a .points .now) (a .nodes .now) (a .rims .now) (a .cells .now) (s .pre .1) (s .pre .2) in
+    let lead = lead-length-at (a .job .now) (a .i) in
+    (s .pre .3, s .pre .4, lead-room (leadAt (a .job .now) (a .i)) k short lead w)
+
 array-share-prefix-text : tie.Need-array-share-prefix-text
-array-share-prefix-text c = let p = c .before .put-told in omega (arith, fits (p .ensures) (p .kept .0), p .kept .0, length-replicate {A = ℕ} 72000 0)
+array-share-prefix-text c =
+    let p = c .before in
+    let t = p .before .before .before in
+    let s = t .before .before .before .before .before .before in
+    let a = s .args in
+    let w = t .put-told .ensures in
+    let k = length-replicate {A = ℕ} 84000 0 in
+    let short = drawn-length (a .f) (a .told) (a .count) (a .points .now) (a .nodes .now) (a .rims .now) (a .cells .now) (s .pre .1) (s .pre .2) in
+    let lead = lead-length-at (a .job .now) (a .i) in
+    omega (arith, both-end (leadAt (a .job .now) (a .i)) k short lead w (p .put-lead .ensures), p .put-lead .kept .0, t .put-told .kept .0, k)
 
 slice-aggregate-send : tie.Need-slice-aggregate-send
 slice-aggregate-send c =
-    let p = c .before .before .put-told in
-    let n = length-replicate {A = ℕ} 72000 0 in
-    part-length (p .result) 72000 _ (p .kept .0 ∙ n) (omega (arith, fits (p .ensures) (p .kept .0), n))
+    let p = c .before .before in
+    let t = p .before .before .before in
+    let s = t .before .before .before .before .before .before in
+    let a = s .args in
+    let w = t .put-told .ensures in
+    let k = length-replicate {A = ℕ} 84000 0 in
+    let short = drawn-length (a .f) (a .told) (a .count) (a .points .now) (a .nodes .now) (a .rims .now) (a .cells .now) (s .pre .1) (s .pre .2) in
+    let lead = lead-length-at (a .job .now) (a .i) in
+    part-length (p .put-lead .result) 84000 _ (p .put-lead .kept .0 ∙ t .put-told .kept .0 ∙ k) (both-end (leadAt (a .job .now) (a .i)) k short lead w (p .put-lead .ensures))
 
 send-requires : tie.Need-send-requires
 send-requires c κs =
-    let p = c .before .before .put-told in
-    let n = length-replicate {A = ℕ} 72000 0 in
-    let o = c .before .before .before .before .before .before .before .before .pre .0 in
-    (owed-as (front (p .ensures)) o, omega (arith, length-take (p .result) (p .last .0), fits (p .ensures) (p .kept .0), n))
+    let p = c .before .before in
+    let t = p .before .before .before in
+    let s = t .before .before .before .before .before .before in
+    let a = s .args in
+    let w = t .put-told .ensures in
+    let k = length-replicate {A = ℕ} 84000 0 in
+    let short = drawn-length (a .f) (a .told) (a .count) (a .points .now) (a .nodes .now) (a .rims .now) (a .cells .now) (s .pre .1) (s .pre .2) in
+    let lead = lead-length-at (a .job .now) (a .i) in
+    let v = p .put-lead .ensures in
+    (owed-as (front (both (leadAt (a .job .now) (a .i)) k short lead w v)) (s .pre .0), omega (arith, length-take (p .put-lead .result) (p .put-lead .last .0), both-end (leadAt (a .job .now) (a .i)) k short lead w v))
 
 returns : tie.Need-returns
 returns c =
-    let p = c .before .before .before .put-told in
-    let n = length-replicate {A = ℕ} 72000 0 in
-    λ e.
-    record {
-      count = omega (arith, c .send .ensures e, ap length (front (p .ensures)));
-      short = omega (arith, p .ensures .place, fits (p .ensures) (p .kept .0), n);
-    }
+    let p = c .before .before .before in
+    let t = p .before .before .before in
+    let s = t .before .before .before .before .before .before in
+    let a = s .args in
+    let w = t .put-told .ensures in
+    let k = length-replicate {A = ℕ} 84000 0 in
+    let short = drawn-length (a .f) (a .told) (a .count) (a .points .now) (a .nodes .now) (a .rims .now) (a .cells .now) (s .pre .1) (s .pre .2) in
+    let lead = lead-length-at (a .job .now) (a .i) in
+    let v = p .put-lead .ensures in
+    λ e. record { count = omega (arith, c .send .ensures e, ap length (front (both (leadAt (a .job .now) (a .i)) k short lead w v))); short = both-short (leadAt (a .job .now) (a .i)) k short lead w v }
 
 pub draw-step-spec : {M : Type 1} → statement M
 draw-step-spec =
@@ -47,6 +86,8 @@ draw-step-spec =
     (tie.spec
     slice-aggregate-put-told
     put-told-requires
+    slice-aggregate-put-lead
+    put-lead-requires
     array-share-prefix-text
     slice-aggregate-send
     send-requires

@@ -29,7 +29,7 @@ array-share-prefix-text c = search needs
 slice-aggregate-send : tie.Need-slice-aggregate-send
 slice-aggregate-send c =
     let p = c .before .before .put-head in
-    part-length (p .result) 4096 _ (p .kept .0 ∙ length-replicate {A = ℕ} 4096 0) (p .ensures .1)
+    part-length (p .result) 8192 _ (p .kept .0 ∙ length-replicate {A = ℕ} 8192 0) (p .ensures .1)
 
 send-requires : tie.Need-send-requires
 send-requires c κs =
@@ -71,7 +71,7 @@ slice-aggregate-send-2 : tie.Need-slice-aggregate-send-2
 slice-aggregate-send-2 c =
     let p = c .before .before .put-foot in
     let h = c .before .before .before .before .before .before .before .before .before .before .put-head in
-    part-length (p .result) 4096 _ (p .kept .0 ∙ h .kept .0 ∙ length-replicate {A = ℕ} 4096 0) (p .ensures .1)
+    part-length (p .result) 8192 _ (p .kept .0 ∙ h .kept .0 ∙ length-replicate {A = ℕ} 8192 0) (p .ensures .1)
 
 send-requires-2 : tie.Need-send-requires-2
 send-requires-2 c κs =

@@ -1,6 +1,8 @@
+-- `read_job`, the loop's invariant: so many bytes are read. What a failed read leaves is no whole number of blocks, by `torn`.
 use Prim.Native.Nat.{_-_, _≤_}
 use mathlib.Core.Path.{_≡_}
 use lib.ListN.{length}
+use Rattle.job.proofs.Runs.{not-both}
 use borrow.Author.Needs.{needs}
 use native.Mathlib.Omega.{arith}
 use Rattle.picture.proofs.read_job.Statement.{statement}
@@ -34,7 +36,7 @@ same-length : tie.Need-same-length Inv-loop μ-loop
 same-length c = search needs
 
 returns : tie.Need-returns Inv-loop μ-loop
-returns c = search needs
+returns c = (omega arith, λ e. c .torn .ensures .2)
 
 sub-count : tie.Need-sub-count Inv-loop μ-loop
 sub-count c = search needs
@@ -48,11 +50,14 @@ part-count-end c = search needs
 count-requires : tie.Need-count-requires Inv-loop μ-loop
 count-requires c κs = search needs
 
+all-read-requires : tie.Need-all-read-requires Inv-loop μ-loop
+all-read-requires c κs = search needs
+
 same-length-2 : tie.Need-same-length-2 Inv-loop μ-loop
 same-length-2 c = search needs
 
 returns-2 : tie.Need-returns-2 Inv-loop μ-loop
-returns-2 c = search needs
+returns-2 c = (omega arith, λ e. not-both (c .all-read .result .failed) e (c .all-read .ensures .1))
 
 add-done : tie.Need-add-done Inv-loop μ-loop
 add-done c = search needs
@@ -63,11 +68,14 @@ loop-less c = search needs
 loop-again : tie.Need-loop-again Inv-loop μ-loop
 loop-again c = search needs
 
+all-read-requires-2 : tie.Need-all-read-requires-2 Inv-loop μ-loop
+all-read-requires-2 c κs = search needs
+
 same-length-3 : tie.Need-same-length-3 Inv-loop μ-loop
 same-length-3 c = search needs
 
 returns-3 : tie.Need-returns-3 Inv-loop μ-loop
-returns-3 c = search needs
+returns-3 c = (omega arith, λ e. not-both (c .all-read2 .result .failed) e (c .all-read2 .ensures .1))
 
 pub read-job-spec : {M : Type 1} → statement M
 read-job-spec =
@@ -87,10 +95,12 @@ read-job-spec =
     part-count-start
     part-count-end
     count-requires
+    all-read-requires
     same-length-2
     returns-2
     add-done
     loop-less
     loop-again
+    all-read-requires-2
     same-length-3
     returns-3)

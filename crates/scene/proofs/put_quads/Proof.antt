@@ -27,7 +27,7 @@ loop-holds c =
     (search needs, search needs, search needs, search needs, search needs, nothing (s .out .now) (s .at) (omega arith))
 
 read-quad-requires : tie.Need-read-quad-requires Inv-loop μ-loop
-read-quad-requires c κs = omega arith
+read-quad-requires c κs = (omega arith, omega arith)
 
 put-quad-requires : tie.Need-put-quad-requires Inv-loop μ-loop
 unfolding Scene.quadsText

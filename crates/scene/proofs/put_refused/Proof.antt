@@ -29,7 +29,7 @@ put-form-requires c κs =
     let b = Scene.pointsText (s .args .points .now) (s .args .count) in
     let x = Scene.halfway (s .args .points .now) (s .args .count) 0 in
     let y = Scene.halfway (s .args .points .now) (s .args .count) 1 in
-    let m = formed (bytes "'/>\n<text transform='matrix(1 0 0 -1 @ @)'>#</text></g>\n") (x ∷ y ∷ s .args .v .code ∷ []) in
+    let m = formed (bytes "'/>\n<text transform='matrix(.01 0 0 -.01 @ @)'>#</text></g>\n") (x ∷ y ∷ s .args .v .code ∷ []) in
     let out = s .args .out .now in
     let h : 0 + length (a ++ b ++ m) ≤ length out =
     omega (arith, s .pre .1, refused-length (s .args .ring) (s .args .v) (s .args .points .now) (s .args .count) (s .pre .0)) in
@@ -44,7 +44,7 @@ put-points-requires c κs =
     let b = Scene.pointsText (s .args .points .now) (s .args .count) in
     let x = Scene.halfway (s .args .points .now) (s .args .count) 0 in
     let y = Scene.halfway (s .args .points .now) (s .args .count) 1 in
-    let m = formed (bytes "'/>\n<text transform='matrix(1 0 0 -1 @ @)'>#</text></g>\n") (x ∷ y ∷ s .args .v .code ∷ []) in
+    let m = formed (bytes "'/>\n<text transform='matrix(.01 0 0 -.01 @ @)'>#</text></g>\n") (x ∷ y ∷ s .args .v .code ∷ []) in
     let out = s .args .out .now in
     let h : 0 + length (a ++ b ++ m) ≤ length out =
     omega (arith, s .pre .1, refused-length (s .args .ring) (s .args .v) (s .args .points .now) (s .args .count) (s .pre .0)) in
@@ -73,13 +73,13 @@ put-form-requires-2 c κs =
     let b = Scene.pointsText (s .args .points .now) (s .args .count) in
     let x = Scene.halfway (s .args .points .now) (s .args .count) 0 in
     let y = Scene.halfway (s .args .points .now) (s .args .count) 1 in
-    let m = formed (bytes "'/>\n<text transform='matrix(1 0 0 -1 @ @)'>#</text></g>\n") (x ∷ y ∷ s .args .v .code ∷ []) in
+    let m = formed (bytes "'/>\n<text transform='matrix(.01 0 0 -.01 @ @)'>#</text></g>\n") (x ∷ y ∷ s .args .v .code ∷ []) in
     let out = s .args .out .now in
     let h : 0 + length (a ++ b ++ m) ≤ length out =
     omega (arith, s .pre .1, refused-length (s .args .ring) (s .args .v) (s .args .points .now) (s .args .count) (s .pre .0)) in
     let p = c .before .before .before .before .halfway .ensures in
     let q = c .before .before .before .halfway2 .ensures in
-    room-as (λ j. formed (bytes "'/>\n<text transform='matrix(1 0 0 -1 @ @)'>#</text></g>\n") (p j ∷ q j ∷ s .args .v .code ∷ []))
+    room-as (λ j. formed (bytes "'/>\n<text transform='matrix(.01 0 0 -.01 @ @)'>#</text></g>\n") (p j ∷ q j ∷ s .args .v .code ∷ []))
     (c .before .before .before .before .before .before .before .put-points .result) _
     (room-third out 0 a b m h (c₈ .before .before .before .put-form .ensures) (c .before .before .before .before .before .before .before .put-points .ensures))
 
@@ -99,14 +99,14 @@ returns c =
     let b = Scene.pointsText (s .args .points .now) (s .args .count) in
     let x = Scene.halfway (s .args .points .now) (s .args .count) 0 in
     let y = Scene.halfway (s .args .points .now) (s .args .count) 1 in
-    let m = formed (bytes "'/>\n<text transform='matrix(1 0 0 -1 @ @)'>#</text></g>\n") (x ∷ y ∷ s .args .v .code ∷ []) in
+    let m = formed (bytes "'/>\n<text transform='matrix(.01 0 0 -.01 @ @)'>#</text></g>\n") (x ∷ y ∷ s .args .v .code ∷ []) in
     let out = s .args .out .now in
     let h : 0 + length (a ++ b ++ m) ≤ length out =
     omega (arith, s .pre .1, refused-length (s .args .ring) (s .args .v) (s .args .points .now) (s .args .count) (s .pre .0)) in
     let p = c .before .before .before .before .before .before .before .halfway .ensures in
     let q = c .before .before .before .before .before .before .halfway2 .ensures in
     three out 0 a b m h (c₈ .before .before .before .before .before .before .put-form .ensures) (c₈ .before .before .put-points .ensures)
-    (written-as (λ j. formed (bytes "'/>\n<text transform='matrix(1 0 0 -1 @ @)'>#</text></g>\n") (p j ∷ q j ∷ s .args .v .code ∷ []))
+    (written-as (λ j. formed (bytes "'/>\n<text transform='matrix(.01 0 0 -.01 @ @)'>#</text></g>\n") (p j ∷ q j ∷ s .args .v .code ∷ []))
     (c .before .before .put-form2 .ensures))
 
 pub put-refused-spec : {M : Type 1} → statement M
