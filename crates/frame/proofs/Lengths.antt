@@ -23,7 +23,7 @@ box-length v =
     length-formed (bytes "<svg xmlns='http://www.w3.org/2000/svg' width='@mm' height='@mm' viewBox='@ @ @ @' font-size='@' font-family='sans-serif'>\n")
     (v .wide ∷ v .tall ∷ v .x ∷ v .y ∷ v .wide ∷ v .tall ∷ v .letters ∷ [])
 
-looks-length : length looks ≤ 1040
+looks-length : length looks ≤ 1055
 unfolding looks looksForm bytes marks takes
 looks-length = length-formed looksForm []
 
@@ -40,7 +40,8 @@ axes-length f a =
 pub ended-length : (f : Frame) (block code : ℕ) → length (endedText f block code) ≤ 192
 unfolding endedText bytes marks takes
 ended-length f block code =
-    length-formed (bytes "<text class='ended' transform='matrix(.01 0 0 -.01 @ @)' y='4.8em'>block # refused #</text>\n") (f .left ∷ f .bottom ∷ block ∷ code ∷ [])
+    length-formed (bytes "<text class='ended' transform='matrix(.01 0 0 -.01 @ @)' y='4.8em'>block # refused #</text>\n")
+    (f .left ∷ f .bottom ∷ block ∷ code ∷ [])
 
 pub foot-length : length footText ≤ 12
 unfolding footText bytes marks takes

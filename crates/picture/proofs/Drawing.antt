@@ -39,7 +39,8 @@ use Rattle.frame.specs.declared.Frame.{Frame}
 use Rattle.frame.specs.Bounds.{extentOf, frameOf}
 use Rattle.frame.specs.Head.{headText, endedText, footText}
 use Rattle.frame.proofs.Lengths.{ended-length}
-use Rattle.picture.specs.Picture.{cellsOf, drawn, leadOf, leadAt, stepDrawn, drawnTo, ringsDrawn, nodesDrawn, allDrawn, pictured, mostStep, mostRings, mostPicture}
+use Rattle.picture.specs.Picture.{cellsOf, drawn, leadOf, leadAt, stepDrawn, drawnTo}
+use Rattle.picture.specs.Picture.{ringsDrawn, nodesDrawn, allDrawn, pictured, mostStep, mostRings, mostPicture}
 use Rattle.picture.specs.declared.End.{End}
 use Rattle.picture.specs.declared.End.the-variants.{TooLong, Unwritten}
 use Rattle.picture.specs.Picture.{Wrote, Owed, Sends, Left, said}

@@ -30,7 +30,8 @@ put-looks-requires c κs =
     let d = Head.axesText f (Head.axesOf f) in
     let h : 0 + length (a ++ Head.looks ++ t ++ d) ≤ length out = omega (arith, s .pre .1, head-length f) in
     let k = shorter 0 (length out) (a ++ Head.looks ++ t) d h in
-    room-second out 0 a Head.looks t k (written-as (ap Head.boxText (c .before .before .before .before .view-of .ensures)) (c .before .before .before .put-box .ensures))
+    room-second out 0 a Head.looks t k (written-as (ap Head.boxText (c .before .before .before .before .view-of .ensures))
+    (c .before .before .before .put-box .ensures))
 
 put-ticks-requires : tie.Need-put-ticks-requires
 unfolding Head.headText
@@ -62,7 +63,8 @@ put-axes-requires c κs =
     let d = Head.axesText f (Head.axesOf f) in
     let h : 0 + length (a ++ Head.looks ++ t ++ d) ≤ length out = omega (arith, s .pre .1, head-length f) in
     let k = shorter 0 (length out) (a ++ Head.looks ++ t) d h in
-    let w = written-as (ap Head.boxText (c₈ .before .before .before .before .before .view-of .ensures)) (c₈ .before .before .before .before .put-box .ensures) in
+    let w = written-as (ap Head.boxText (c₈ .before .before .before .before .before .view-of .ensures))
+    (c₈ .before .before .before .before .put-box .ensures) in
     let v = three out 0 a Head.looks t k w (c₈ .put-looks .ensures) (c .before .before .before .before .put-ticks .ensures) in
     room-as (ap (Head.axesText f) (c .axes-of .ensures)) (c .before .before .before .before .put-ticks .result) _ (room out 0 (a ++ Head.looks ++ t) d h v)
 
@@ -83,7 +85,8 @@ returns c =
     let h : 0 + length (a ++ Head.looks ++ t ++ d) ≤ length out = omega (arith, s .pre .1, head-length f) in
     let k = shorter 0 (length out) (a ++ Head.looks ++ t) d h in
     let w = written-as (ap Head.boxText (c₁₆ .view-of .ensures)) (c₈ .before .before .before .before .before .before .before .put-box .ensures) in
-    let v = three out 0 a Head.looks t k w (c₈ .before .before .before .put-looks .ensures) (c .before .before .before .before .before .before .before .put-ticks .ensures) in
+    let v = three out 0 a Head.looks t k w (c₈ .before .before .before .put-looks .ensures)
+    (c .before .before .before .before .before .before .before .put-ticks .ensures) in
     let u = join out 0 (a ++ Head.looks ++ t) d h v
     (written-as (ap (Head.axesText f) (c .before .before .before .axes-of .ensures)) (c .before .before .put-axes .ensures)) in
     (u, omega (arith, u .place, head-length f))

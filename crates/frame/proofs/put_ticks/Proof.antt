@@ -32,7 +32,8 @@ put-tick-requires c κs =
     let s = c .before .before .before .before .args in (
       l .inv .1,
       omega arith,
-      turn-room (Head.ticksText (s .f)) (Head.tickText (s .f)) (λ i. refl) (s .out .now) (s .at) (l .i) 9 (l .inv .2) (omega arith) (l .next) (l .out) (l .inv .4),
+      turn-room (Head.ticksText (s .f)) (Head.tickText (s .f)) (λ i. refl) (s .out .now) (s .at) (l .i) 9 (l .inv .2) (omega arith) (l .next)
+          (l .out) (l .inv .4),
     )
 
 add-i : tie.Need-add-i Inv-loop μ-loop

@@ -52,7 +52,8 @@ slice-aggregate-send c =
     let k = length-replicate {A = ℕ} 84000 0 in
     let short = drawn-length (a .f) (a .told) (a .count) (a .points .now) (a .nodes .now) (a .rims .now) (a .cells .now) (s .pre .1) (s .pre .2) in
     let lead = lead-length-at (a .job .now) (a .i) in
-    part-length (p .put-lead .result) 84000 _ (p .put-lead .kept .0 ∙ t .put-told .kept .0 ∙ k) (both-end (leadAt (a .job .now) (a .i)) k short lead w (p .put-lead .ensures))
+    part-length (p .put-lead .result) 84000 _ (p .put-lead .kept .0 ∙ t .put-told .kept .0 ∙ k) (both-end (leadAt (a .job .now)
+    (a .i)) k short lead w (p .put-lead .ensures))
 
 send-requires : tie.Need-send-requires
 send-requires c κs =
@@ -64,8 +65,15 @@ send-requires c κs =
     let k = length-replicate {A = ℕ} 84000 0 in
     let short = drawn-length (a .f) (a .told) (a .count) (a .points .now) (a .nodes .now) (a .rims .now) (a .cells .now) (s .pre .1) (s .pre .2) in
     let lead = lead-length-at (a .job .now) (a .i) in
-    let v = p .put-lead .ensures in
-    (owed-as (front (both (leadAt (a .job .now) (a .i)) k short lead w v)) (s .pre .0), omega (arith, length-take (p .put-lead .result) (p .put-lead .last .0), both-end (leadAt (a .job .now) (a .i)) k short lead w v))
+    let v = p .put-lead .ensures in (
+      owed-as (front (both (leadAt (a .job .now) (a .i)) k short lead w v)) (s .pre .0),
+      omega (
+        arith,
+        length-take (p .put-lead .result)
+            (p .put-lead .last .0),
+        both-end (leadAt (a .job .now) (a .i)) k short lead w v,
+      ),
+    )
 
 returns : tie.Need-returns
 returns c =
@@ -78,7 +86,15 @@ returns c =
     let short = drawn-length (a .f) (a .told) (a .count) (a .points .now) (a .nodes .now) (a .rims .now) (a .cells .now) (s .pre .1) (s .pre .2) in
     let lead = lead-length-at (a .job .now) (a .i) in
     let v = p .put-lead .ensures in
-    λ e. record { count = omega (arith, c .send .ensures e, ap length (front (both (leadAt (a .job .now) (a .i)) k short lead w v))); short = both-short (leadAt (a .job .now) (a .i)) k short lead w v }
+    λ e. record {
+      count = omega (
+        arith,
+        c .send .ensures e,
+        ap length (front (both (leadAt (a .job .now)
+            (a .i)) k short lead w v)),
+      );
+      short = both-short (leadAt (a .job .now) (a .i)) k short lead w v;
+    }
 
 pub draw-step-spec : {M : Type 1} → statement M
 draw-step-spec =

@@ -39,7 +39,8 @@ put-half-requires-2 c κs =
     let b = Scene.halfText (q .first) (q .corner) (q .ahead) in
     let d = Scene.halfText (q .second) (q .corner) (q .behind) in
     let h = shorter (s .args .at) _ (a ++ b ++ d) (Scene.snapText q) (s .pre) in
-    room-third (s .args .out .now) (s .args .at) a b d h (c .before .before .before .before .before .before .before .put-cell .ensures) (c .before .before .before .put-half .ensures)
+    room-third (s .args .out .now) (s .args .at) a b d h (c .before .before .before .before .before .before .before .put-cell .ensures)
+    (c .before .before .before .put-half .ensures)
 
 put-snap-requires : tie.Need-put-snap-requires
 unfolding Scene.quadText
@@ -52,12 +53,14 @@ put-snap-requires c κs =
     let d = Scene.halfText (q .second) (q .corner) (q .behind) in
     let h = shorter (s .args .at) _ (a ++ b ++ d) (Scene.snapText q) (s .pre) in
     room (s .args .out .now) (s .args .at) (a ++ b ++ d) (Scene.snapText q) (s .pre)
-    (three (s .args .out .now) (s .args .at) a b d h (c₈ .before .before .before .put-cell .ensures) (c .before .before .before .before .before .before .before .put-half .ensures) (c .before .before .before .put-half2 .ensures))
+    (three (s .args .out .now) (s .args .at) a b d h (c₈ .before .before .before .put-cell .ensures)
+    (c .before .before .before .before .before .before .before .put-half .ensures) (c .before .before .before .put-half2 .ensures))
 
 same-length : tie.Need-same-length
 same-length c =
     let c₈ = c .before .before .before .before .before .before .before .before in
-    c .before .before .put-snap .kept .0 ∙ c .before .before .before .before .before .before .put-half2 .kept .0 ∙ c₈ .before .before .put-half .kept .0 ∙ c₈ .before .before .before .before .before .before .put-cell .kept .0
+    c .before .before .put-snap .kept .0 ∙ c .before .before .before .before .before .before .put-half2 .kept .0
+    ∙ c₈ .before .before .put-half .kept .0 ∙ c₈ .before .before .before .before .before .before .put-cell .kept .0
 
 returns : tie.Need-returns
 unfolding Scene.quadText
@@ -70,7 +73,8 @@ returns c =
     let d = Scene.halfText (q .second) (q .corner) (q .behind) in
     let h = shorter (s .args .at) _ (a ++ b ++ d) (Scene.snapText q) (s .pre) in
     join (s .args .out .now) (s .args .at) (a ++ b ++ d) (Scene.snapText q) (s .pre)
-    (three (s .args .out .now) (s .args .at) a b d h (c₈ .before .before .before .before .before .before .put-cell .ensures) (c₈ .before .before .put-half .ensures) (c .before .before .before .before .before .before .put-half2 .ensures))
+    (three (s .args .out .now) (s .args .at) a b d h (c₈ .before .before .before .before .before .before .put-cell .ensures)
+    (c₈ .before .before .put-half .ensures) (c .before .before .before .before .before .before .put-half2 .ensures))
     (c .before .before .put-snap .ensures)
 
 pub put-quad-spec : {M : Type 1} → statement M

@@ -68,9 +68,11 @@ returns c =
     let after = c₈ .before .listed3 .ensures .0 in
     let centre = c₈ .spot-of .ensures ∙ ap (Scene.spotOf l) m in
     let ahead = c .before .before .before .before .before .before .before .spot-of2 .ensures ∙ ap (Scene.spotOf l) before in
-    let corner = c .before .before .before .before .before .spot-of3 .ensures ∙ ap (Scene.spotOf l) (c .before .before .before .before .before .before .listed4 .ensures .0) in
+    let corner = c .before .before .before .before .before .spot-of3 .ensures ∙ ap (Scene.spotOf l)
+    (c .before .before .before .before .before .before .listed4 .ensures .0) in
     let behind = c .before .before .before .before .spot-of4 .ensures ∙ ap (Scene.spotOf l) after in
-    let next = c .before .before .spot-of5 .ensures ∙ ap (Scene.spotOf l) (c .before .before .before .across .ensures .0 ∙ (λ j. Scene.across cs (m j) (after j) (length cs / 4))) in
+    let next = c .before .before .spot-of5 .ensures ∙ ap (Scene.spotOf l) (c .before .before .before .across .ensures .0 ∙ (λ j. Scene.across cs
+    (m j) (after j) (length cs / 4))) in
     let first = c .before .mark .ensures ∙ ap (λ (n : ℕ). getD rs n 0) before in
     let second = c .mark2 .ensures ∙ ap (λ (n : ℕ). getD rs n 0) after in
     λ j. record { centre = centre j; ahead = ahead j; corner = corner j; behind = behind j; next = next j; first = first j; second = second j }
