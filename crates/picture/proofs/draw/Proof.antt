@@ -1,4 +1,4 @@
--- `draw` meets its contract. The loop's invariant: what the first i blocks reach (`Reached`), and as many bytes were written as are drawn of them (`Drew`).
+-- `draw`. The loop's invariant: what the first i blocks reach (`Reached`), and as many bytes were written as are drawn of them (`Drew`).
 use Prim.Native.Nat.{ℕ, _+_, _-_, _*_, _/_, _≤_, _<_}
 use mathlib.Core.Path.{_≡_, refl, sym, ap, subst, _∙_}
 use native.Mathlib.Numerals.{add-one}

@@ -1,4 +1,4 @@
--- `draw_job` meets its contract: what was read is a job of less than 4 GB, and its picture is written.
+-- `draw_job`: what was read is a job of less than 4 GB, and its picture is written.
 use Prim.Native.Nat.{ℕ}
 use mathlib.Core.Path.{_∙_}
 use lib.ListN.{length, length-take}

@@ -1,4 +1,4 @@
--- `draw_nodes` meets its contract. The loop's invariant: as many bytes were written as the head, the rings and the first i nodes have.
+-- `draw_nodes`. The loop's invariant: as many bytes were written as the head, the rings and the first i nodes have.
 use Prim.Native.Nat.{ℕ, _+_, _-_, _*_, _≤_, _<_}
 use mathlib.Core.Path.{_≡_, ap, _∙_}
 use lib.ListN.{length, length-replicate, length-take}

@@ -1,4 +1,4 @@
--- `draw_step` meets its contract: the two texts that were put are what is owed.
+-- `draw_step`: the two texts that were put are what is owed.
 use Prim.Native.Nat.{ℕ}
 use mathlib.Core.Path.{ap, _∙_}
 use lib.ListN.{length, length-replicate, length-take}

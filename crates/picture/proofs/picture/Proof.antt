@@ -1,4 +1,4 @@
--- `picture` meets its contract: the head, what is drawn of the job, and the foot are the whole.
+-- `picture`: the head, what is drawn of the job, and the foot are the whole.
 use Prim.Native.Nat.{ℕ}
 use mathlib.Core.Path.{ap, _∙_}
 use lib.ListN.{length, length-replicate, length-take}

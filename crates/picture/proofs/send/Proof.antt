@@ -1,4 +1,4 @@
--- `send` meets its contract: the count has room for one text more.
+-- `send`: the count has room for one text more.
 use mathlib.Core.Path.{refl}
 use mathlib.Core.Bool.{true}
 use Rattle.job.proofs.Runs.{not-both}
