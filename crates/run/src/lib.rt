@@ -24,17 +24,22 @@ pub struct Sent {
 }
 
 // Writes the text that is owed after `sent` bytes.
-fn send(output: i32, text: &[u8], sent: &mut u64) -> bool
+fn send(output: i32, text: &[u8], sent: &mut u64) -> Sent
     requires { ⌜ Owed (now sent) (now text) × (length (now text) ≤ mostText) ⌝ }
-    ensures { λ r. ⌜ (r ≡ true → now (sent .exit) ≡ now (sent .entry) + length (now (text .entry))) ⌝ }
+    ensures { λ r. ⌜ (r .bytes ≡ now (sent .exit)) × (r .failed ≡ false → now (sent .exit) ≡ now (sent .entry) + length (now (text .entry))) ⌝ }
 {
-    stream::write_counted(output, text, sent)
+    let written = stream::write_counted(output, text, sent);
+    Sent {
+        bytes: *sent,
+        failed: !written,
+    }
 }
 
 // Writes the text of what a step told, after `sent` bytes.
-fn write_told(output: i32, told: Told, cells: &[NodeNumber], sent: &mut u64) -> bool
+fn write_told(output: i32, told: Told, cells: &[NodeNumber], sent: &mut u64) -> Sent
     requires { ⌜ Owed (now sent) (toldText told (now cells)) × CanTell told (now cells) ⌝ }
-    ensures { λ r. ⌜ (r ≡ true → Sends (now (sent .entry)) (toldText told (now (cells .entry))) (now (sent .exit))) ⌝ }
+    ensures { λ r. ⌜ (r .bytes ≡ now (sent .exit))
+        × (r .failed ≡ false → Sends (now (sent .entry)) (toldText told (now (cells .entry))) (now (sent .exit))) ⌝ }
 {
     let mut text = [0u8; MOST_TEXT];
     let n = told::print(told, cells, &mut text);
@@ -42,13 +47,18 @@ fn write_told(output: i32, told: Told, cells: &[NodeNumber], sent: &mut u64) -> 
 }
 
 // The same, and nothing where nothing was told. The text has its place in `write_told`, so that none of it is on the stack
-// while a ring is divided: a function with one call would be merged into the loop, with its places, and so it has two.
-fn tell(output: i32, told: Told, cells: &[NodeNumber], sent: &mut u64) -> bool
+// while a ring is divided: a function with one call would be merged into the loop, with its places, and so it has two; and
+// both answer a struct, since two calls for a bool would be made one.
+fn tell(output: i32, told: Told, cells: &[NodeNumber], sent: &mut u64) -> Sent
     requires { ⌜ Owed (now sent) (toldText told (now cells)) × CanTell told (now cells) ⌝ }
-    ensures { λ r. ⌜ (r ≡ true → Sends (now (sent .entry)) (toldText told (now (cells .entry))) (now (sent .exit))) ⌝ }
+    ensures { λ r. ⌜ (r .bytes ≡ now (sent .exit))
+        × (r .failed ≡ false → Sends (now (sent .entry)) (toldText told (now (cells .entry))) (now (sent .exit))) ⌝ }
 {
     match told {
-        Told::Nothing => true,
+        Told::Nothing => Sent {
+            bytes: *sent,
+            failed: false,
+        },
         Told::Ring { .. } => write_told(output, told, cells, sent),
         Told::Block { .. } => write_told(output, told, cells, sent),
     }
@@ -83,12 +93,9 @@ pub fn run(input: i32, output: i32) -> Sent
             &mut cells,
         );
         let told = stepped.told;
-        let written = tell(output, told, &cells, &mut sent);
-        if !written {
-            return Sent {
-                bytes: sent,
-                failed: true,
-            };
+        let out = tell(output, told, &cells, &mut sent);
+        if out.failed {
+            return out;
         }
         s = stepped.state;
     }

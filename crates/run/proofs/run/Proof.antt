@@ -81,7 +81,7 @@ tell-requires c κs =
     (owes (l .s) (l .ring) (l .nodes) (l .rims) (l .sent) (l .inv .0) e b (p .ensures .1) h (p .result) _ _ _ _ (p .ensures .0), p .ensures .0 .tells)
 
 returns : tie.Need-returns Inv-loop μ-loop
-returns c = λ e. not-both true refl e
+returns c = λ e. not-both _ (c .if2 .taken) e
 
 loop-less : tie.Need-loop-less Inv-loop μ-loop
 loop-less c =
@@ -120,7 +120,7 @@ loop-again c =
     let h : length b ≤ 512 = omega (arith, length-take (q .result) (q .last .1 .0), q .ensures) in
     let o = c .before .before .tell in (
       wrote (l .s) (l .ring) (l .nodes) (l .rims) (l .sent) (l .inv .0) e b (p .ensures .1) h (p .result) _ _ _ _ (p .ensures .0) _
-          (o .ensures (not-false (o .result) (c .before .if2 .left))),
+          (o .ensures .1 (c .before .if2 .left)),
       p .kept .1 .1 .0 ∙ l .inv .1,
       p .kept .1 .1 .1 .0 ∙ l .inv .2,
       p .kept .1 .1 .1 .1 .0 ∙ l .inv .3,

@@ -1,5 +1,5 @@
 -- `tell`: where nothing was told there is no text.
-use mathlib.Core.Path.{ap}
+use mathlib.Core.Path.{refl, ap}
 use lib.ListN.{length}
 use Rattle.told.proofs.Rows.{tells-nothing}
 use native.Mathlib.Omega.{arith}
@@ -24,9 +24,9 @@ write-told-requires-2 c κs = search needs
 
 returns : tie.Need-returns
 returns c =
-    let a = c .before .before .before .args in
-    let e = ap length (tells-nothing (a .told) (a .cells .now) (c .enum-told .given .1)) in
-    λ _. record { count = omega (arith, e); short = omega (arith, e) }
+    let a = c .before .before .before .before .args in
+    let e = ap length (tells-nothing (a .told) (a .cells .now) (c .before .enum-told .given .1)) in
+    (refl, λ _. record { count = omega (arith, e); short = omega (arith, e) })
 
 returns-2 : tie.Need-returns-2
 returns-2 c = search needs

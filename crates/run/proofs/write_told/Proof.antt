@@ -34,8 +34,10 @@ send-requires c κs =
 returns : tie.Need-returns
 returns c =
     let p = c .before .before .before .before .print in
-    let e = in-front _ _ _ _ (p .ensures) in
-    λ h. record { count = omega (arith, ap length e, c .send .ensures h); short = omega (arith, p .ensures .bytes, p .ensures .room) }
+    let e = in-front _ _ _ _ (p .ensures) in (
+      c .send .ensures .0,
+      λ h. record { count = omega (arith, ap length e, c .send .ensures .1 h); short = omega (arith, p .ensures .bytes, p .ensures .room) },
+    )
 
 pub write-told-spec : {M : Type 1} → statement M
 write-told-spec =
