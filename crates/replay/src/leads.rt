@@ -3,7 +3,6 @@
 use crate::State;
 use crate::called;
 use crate::called::Entry;
-use crate::same;
 use nodes::NodeNumber;
 
 // What does not fit its list is left out, and shows as a difference.
@@ -64,7 +63,7 @@ fn compared(
     let mut before = [0.0f64; 3072];
     let mut marks = [0u8; 1536];
     words::copy(nodes, &mut before);
-    same::copy(rims, &mut marks);
+    expected::copy(rims, &mut marks);
     let v = called::divided_marked(
         entry,
         ring,
@@ -79,6 +78,6 @@ fn compared(
         cells,
         cell_count,
     );
-    let same = same::same_left(fd, v, nodes, &before, used, cells, rims, &marks);
+    let same = expected::same_left(fd, v, nodes, &before, used, cells, rims, &marks);
     s.ran(same, v.nodes as usize)
 }

@@ -4,8 +4,6 @@
 
 mod called;
 mod leads;
-mod pairs;
-mod same;
 
 use called::Entry;
 use nodes::NodeNumber;
@@ -48,26 +46,17 @@ fn replay_list(fd: i32, nodes: &mut [f64], marks: &mut [u8], s: State) -> State 
     }
 }
 
+// What does not fit its list is left out, and shows as a difference.
 fn replay_call(fd: i32, entry: Entry, nodes: &mut [f64], rims: &mut [u8], s: State) -> State {
     let size = words::word(fd);
-    let cell_numbers = words::count(fd);
+    let cell_numbers = words::count_to(fd, 2048);
     let cell_count = words::word(fd) as usize;
-    let r = words::count(fd);
-    let c = words::count(fd);
+    let r = words::count_to(fd, 256);
+    let c = words::count_to(fd, 256);
     let mut ring = [0i32; 256];
     let mut chain = [0i32; 256];
     words::read_numbers(fd, &mut ring, r);
     words::read_numbers(fd, &mut chain, c);
-    let used = s.used;
-    if 256 < r {
-        return s.ran(false, used);
-    }
-    if 256 < c {
-        return s.ran(false, used);
-    }
-    if 2048 < cell_numbers {
-        return s.ran(false, used);
-    }
     let mut cells = [65535u32; 2048];
     compared(
         fd,
@@ -100,7 +89,7 @@ fn compared(
     let mut before = [0.0f64; 3072];
     let mut marks = [0u8; 1536];
     words::copy(nodes, &mut before);
-    same::copy(rims, &mut marks);
+    expected::copy(rims, &mut marks);
     let v = called::divided(
         entry,
         ring,
@@ -112,7 +101,7 @@ fn compared(
         cells,
         cell_count,
     );
-    let same = same::same_left(fd, v, nodes, &before, used, cells, rims, &marks);
+    let same = expected::same_left(fd, v, nodes, &before, used, cells, rims, &marks);
     s.ran(same, v.nodes as usize)
 }
 
@@ -125,34 +114,25 @@ fn replay_block(fd: i32, s: State) -> State {
     if 1024 < n {
         return s.ran(false, used);
     }
-    let same = same::same_block(fd, number, blocks::read_block(&bytes[..n], number));
+    let same = expected::same_block(fd, number, blocks::read_block(&bytes[..n], number));
     s.ran(same, used)
 }
 
 fn replay_pair(fd: i32, s: State) -> State {
     let size = words::word(fd);
     let number = words::word(fd);
-    let room = words::count(fd);
-    let r = words::count(fd);
-    let c = words::count(fd);
+    let room = words::count_to(fd, 1536);
+    let r = words::count_to(fd, 520);
+    let c = words::count_to(fd, 520);
     let mut ring = [0i32; 520];
     let mut chain = [0i32; 520];
     words::read_numbers(fd, &mut ring, r);
     words::read_numbers(fd, &mut chain, c);
     let used = s.used;
-    if 520 < r {
-        return s.ran(false, used);
-    }
-    if 520 < c {
-        return s.ran(false, used);
-    }
-    if 1536 < room {
-        return s.ran(false, used);
-    }
     let mut out = [0u8; 1536];
     words::fill(&mut out);
     let code = exports::blocks_write(&ring[..r], &chain[..c], size, number, &mut out[..room]);
-    s.ran(pairs::same_pair(fd, code, &out), used)
+    s.ran(expected::same_pair(fd, code, &out), used)
 }
 
 // A call of some entry, by a chain or with given marks, over the places of its lists.
@@ -172,35 +152,36 @@ fn replay_entry(
     replay_call(fd, entry, &mut nodes[..end], &mut rims[..stop], s)
 }
 
+// The kinds of record that are calls: of the examination, with given marks, with a set of limits, of the practice paper.
+fn is_call(kind: u32) -> bool {
+    (kind == 2) | (kind == 5) | (kind == 7) | (kind == 8)
+}
+
+// A set of limits stands before its call, and after it, or after an 8, whether the call is by a chain or with given marks.
+fn replay_any(fd: i32, kind: u32, nodes: &mut [f64], rims: &mut [u8], s: State) -> State {
+    if kind == 7 {
+        let entry = called::read(fd);
+        return replay_entry(fd, entry, words::word(fd), nodes, rims, s);
+    }
+    let entry = called::without_set(kind);
+    if kind == 8 {
+        return replay_entry(fd, entry, words::word(fd), nodes, rims, s);
+    }
+    replay_entry(fd, entry, kind, nodes, rims, s)
+}
+
 fn step(fd: i32, kind: u32, nodes: &mut [f64], rims: &mut [u8], s: State) -> State {
+    if is_call(kind) {
+        return replay_any(fd, kind, nodes, rims, s);
+    }
     if kind == 1 {
         return replay_list(fd, nodes, rims, s);
-    }
-    if kind == 2 {
-        return replay_entry(fd, called::without_set(kind), kind, nodes, rims, s);
     }
     if kind == 3 {
         return replay_block(fd, s);
     }
     if kind == 4 {
         return replay_pair(fd, s);
-    }
-    if kind == 5 {
-        return replay_entry(fd, called::without_set(kind), kind, nodes, rims, s);
-    }
-    if kind == 8 {
-        return replay_entry(
-            fd,
-            called::without_set(kind),
-            words::word(fd),
-            nodes,
-            rims,
-            s,
-        );
-    }
-    if kind == 7 {
-        let entry = called::read(fd);
-        return replay_entry(fd, entry, words::word(fd), nodes, rims, s);
     }
     let used = s.used;
     s.ran(false, used)
@@ -244,20 +225,26 @@ fn file(path: &[u8]) -> Tally {
     t
 }
 
-fn main() {
+// The lists of the base: calls, blocks read and blocks written.
+fn of_the_base() -> Tally {
     let rings = file(b"rings.list");
     let calls = file(b"calls.list");
     let read = file(b"blocks.list");
     let written = file(b"pairs.list");
+    rings.plus(calls).plus(read).plus(written)
+}
+
+// Those of the other entries, and of rim marks.
+fn of_all_entries() -> Tally {
     let marked = file(b"marks.list");
     let sets = file(b"sets.list");
     let practised = file(b"practice.list");
     let rimmed = file(b"rims.list");
-    let divided = rings.plus(calls).plus(marked).plus(sets).plus(practised);
-    divided
-        .plus(rimmed)
-        .plus(read)
-        .plus(written)
-        .print(b"total");
+    marked.plus(sets).plus(practised).plus(rimmed)
+}
+
+fn main() {
+    let t = of_the_base();
+    t.plus(of_all_entries()).print(b"total");
     tally(b"wrong.list").print_told(b"wrong.list");
 }

@@ -3,8 +3,8 @@ use Prim.Native.Nat.{_-_, _≤_}
 use mathlib.Core.Path.{_≡_, _∙_}
 use lib.ListN.{length}
 use borrow.Author.Needs.{needs}
-use Rattle.replay.proofs.same.copy.Statement.{statement}
-use Rattle.replay.proofs.same.copy.Tie as tie
+use Rattle.expected.proofs.copy.Statement.{statement}
+use Rattle.expected.proofs.copy.Tie as tie
 
 abbrev Inv-loop : tie.InvT-loop
 Inv-loop from to₀ i₀ i-end to i = (i ≤ i-end) × (i-end ≡ length from) × (length to ≡ length to₀)

@@ -3,8 +3,8 @@ use Prim.Native.Nat.{_-_, _≤_}
 use mathlib.Core.Path.{_≡_}
 use lib.ListN.{length}
 use borrow.Author.Needs.{needs}
-use Rattle.replay.proofs.pairs.same_pair.Statement.{statement}
-use Rattle.replay.proofs.pairs.same_pair.Tie as tie
+use Rattle.expected.proofs.pairs.same_pair.Statement.{statement}
+use Rattle.expected.proofs.pairs.same_pair.Tie as tie
 
 abbrev Inv-loop : tie.InvT-loop
 Inv-loop fd code out same₀ n k₀ same k = k ≤ 384

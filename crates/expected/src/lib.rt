@@ -1,10 +1,14 @@
-// What a call or a block leaves, compared with the list that says what the Rust leaves.
+// Expected: what a call, a block or a saved pair leaves, compared with a fixed list that says what the Rust leaves. It stands
+// under `replay`, and reads the list's words by `words`.
+
+mod pairs;
 
 use blocks::Block;
 use blocks::Reading;
+pub use pairs::same_pair;
 use table::Row;
 
-pub fn same_row(fd: i32, v: Row) -> bool {
+fn same_row(fd: i32, v: Row) -> bool {
     let mut same = v.code == words::word(fd) as u64;
     same = same & (v.corners == words::word(fd) as u64);
     same = same & (v.k == words::word(fd) as u64);
@@ -18,7 +22,7 @@ pub fn same_row(fd: i32, v: Row) -> bool {
 }
 
 // Number i of the node list: new ones from `at` on come from the file, all others are as they were.
-pub fn node_before(fd: i32, before: &[f64], i: usize, at: usize, n: usize) -> f64 {
+fn node_before(fd: i32, before: &[f64], i: usize, at: usize, n: usize) -> f64 {
     if at <= i {
         if i - at < n {
             return words::double(words::long(fd));
@@ -30,7 +34,7 @@ pub fn node_before(fd: i32, before: &[f64], i: usize, at: usize, n: usize) -> f6
     0.0
 }
 
-pub fn same_nodes(fd: i32, nodes: &[f64], before: &[f64], at: usize) -> bool {
+fn same_nodes(fd: i32, nodes: &[f64], before: &[f64], at: usize) -> bool {
     let n = words::count(fd);
     let mut same = true;
     for i in 0..nodes.len() {
@@ -41,7 +45,7 @@ pub fn same_nodes(fd: i32, nodes: &[f64], before: &[f64], at: usize) -> bool {
 }
 
 // Number i of the cell list, which was filled with 65,535 before the call.
-pub fn cell_before(fd: i32, i: usize, at: usize, n: usize) -> u32 {
+fn cell_before(fd: i32, i: usize, at: usize, n: usize) -> u32 {
     if at <= i {
         if i - at < n {
             return words::word(fd);
@@ -50,7 +54,7 @@ pub fn cell_before(fd: i32, i: usize, at: usize, n: usize) -> u32 {
     65535
 }
 
-pub fn same_cells(fd: i32, cells: &[u32]) -> bool {
+fn same_cells(fd: i32, cells: &[u32]) -> bool {
     let at = words::count(fd);
     let n = words::count(fd);
     let mut same = true;
@@ -69,7 +73,7 @@ pub fn copy(from: &[u8], to: &mut [u8]) {
 }
 
 // Byte i of a list; 255, which is no mark, where it has none.
-pub fn byte_at(bytes: &[u8], i: usize) -> u8 {
+fn byte_at(bytes: &[u8], i: usize) -> u8 {
     if i < bytes.len() {
         return bytes[i];
     }
@@ -77,14 +81,14 @@ pub fn byte_at(bytes: &[u8], i: usize) -> u8 {
 }
 
 // Mark i after a call: the first n come from the file, all others are as they were.
-pub fn mark_after(want: &[u8], before: &[u8], i: usize, n: usize) -> u8 {
+fn mark_after(want: &[u8], before: &[u8], i: usize, n: usize) -> u8 {
     if i < n {
         return byte_at(want, i);
     }
     byte_at(before, i)
 }
 
-pub fn same_rims(fd: i32, rims: &[u8], before: &[u8]) -> bool {
+fn same_rims(fd: i32, rims: &[u8], before: &[u8]) -> bool {
     let n = words::count(fd);
     let mut want = [0u8; 1536];
     words::read_packed(fd, &mut want, n);
@@ -112,7 +116,7 @@ pub fn same_left(
     row & listed & laid & same_rims(fd, rims, marks)
 }
 
-pub fn same_points(fd: i32, points: &[i32]) -> bool {
+fn same_points(fd: i32, points: &[i32]) -> bool {
     let mut same = true;
     for i in 0..points.len() {
         let x = blocks::signed(words::word(fd));
@@ -121,7 +125,7 @@ pub fn same_points(fd: i32, points: &[i32]) -> bool {
     same
 }
 
-pub fn same_reading(fd: i32, kind: u32, n: usize, size: u32, points: &[i32]) -> bool {
+fn same_reading(fd: i32, kind: u32, n: usize, size: u32, points: &[i32]) -> bool {
     let mut same = words::word(fd) == 0;
     same = same & (words::word(fd) == kind);
     same = same & (words::count(fd) == n);

@@ -3,12 +3,12 @@
 ghost use Prim.Native.Nat.{_*_, _+_, _≤_, _<_};
 ghost use lib.ListN.{length};
 
-pub fn four(a: u8, b: u8, c: u8, d: u8) -> u32 {
+fn four(a: u8, b: u8, c: u8, d: u8) -> u32 {
     words::wide(a) + 256 * words::wide(b) + 65536 * words::wide(c) + 16777216 * words::wide(d)
 }
 
 // Word k of a destination: the first n come from the file, all others are as found.
-pub fn word_left(fd: i32, k: usize, n: usize) -> u32
+fn word_left(fd: i32, k: usize, n: usize) -> u32
     requires { ⌜ k < 384 ⌝ }
 {
     if k < n {
