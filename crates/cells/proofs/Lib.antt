@@ -5,7 +5,6 @@ pub mod Ranges
 pub mod NewCells
 pub mod PieceByPiece
 pub mod Bound
-pub mod Adding
 pub mod OneAttempt
 pub mod TwoAttempts
 pub mod Rims

@@ -1,14 +1,13 @@
--- The rim marks as the code sets them: the new places cleared one by one (`clear-next`), then those of the corners set and those of the middles of ring edges
--- (`set-on`, `set-off`), is what an attempt's asks leave (`marked`).
+-- The rim marks as the code sets them, the new places cleared, then those of the corners set and those of the middles of ring edges, are what an attempt's
+-- asks leave (`marked`).
 use Prim.Native.Nat.{ℕ, zero, suc, _+_, _-_, _≤_, _<_}
-use native.Mathlib.Numerals.{add-one}
 use native.Mathlib.Decide.{decLt, ℕ-discrete}
 use native.Mathlib.Omega.{arith}
 use mathlib.Core.Path.{_≡_, refl, sym, ap, _∙_, subst}
 use mathlib.Core.Bool.{Bool, true, false, _&&_, _||_, not, cond}
 use mathlib.Core.List.{List, [], _∷_, _++_}
 use borrow.Author.Tests.{eq-eqb, ne-eqb}
-use lib.ListN.{length, getD, set, take, replicate, length-set, getD-replicate}
+use lib.ListN.{length, getD, set, take, replicate, getD-replicate}
 use lib.Seq.{getD-set-same, getD-set-other, getD-take}
 use lib.Dec.{eqb, ltb}
 use Rattle.laws.specs.Bounded.{any}
@@ -16,26 +15,12 @@ use Rattle.laws.specs.Table.{tab}
 use Rattle.laws.proofs.Search.{any-ext}
 use Rattle.cells.specs.Asks.{Ask, ask, asCorner, asRingMiddle, asCutMiddle, asCentre, asMiddle, onRim, asksFor}
 use Rattle.cells.specs.Rims.{onRimAt, rimAt, rimsBy}
-use Rattle.cells.specs.Flat.{cleared, setAt, sideAt}
+use Rattle.cells.specs.Flat.{sideAt}
+use Rattle.rim_marks.specs.Marking.{cleared, setAt, rimMarks}
+use Rattle.rim_marks.proofs.Marking.{clear-length, set-length}
 use Rattle.cells.proofs.Rims.{on-append, on-one, on-tab, kept, old, new, past, is-rims}
 
 -- ---- clearing
-pub clear-none : (rs : List ℕ) (u : ℕ) → rs ≡ cleared rs u (u - u)
-unfolding cleared
-clear-none rs u = let e : u - u ≡ 0 = omega arith in rw e
-
-pub clear-next : (rs ts : List ℕ) (u k : ℕ) → u ≤ k → ts ≡ cleared rs u (k - u) → set ts k 0 ≡ cleared rs u (k + 1 - u)
-unfolding cleared
-clear-next rs ts u k h e =
-    let a : k + 1 - u ≡ suc (k - u) = omega arith in
-    let b : k ≡ u + (k - u) = omega arith in
-    (λ j. set (e j) (b j) 0) ∙ ap (cleared rs u) (sym a)
-
-pub clear-length : (rs : List ℕ) (u d : ℕ) → length (cleared rs u d) ≡ length rs
-unfolding cleared
-clear-length rs u zero = refl
-clear-length rs u (suc d) = length-set (cleared rs u d) (u + d) 0 ∙ clear-length rs u d
-
 clear-at : (rs : List ℕ) (u d k : ℕ) → k < length rs → getD (cleared rs u d) k 0 ≡ kept u (u + d) k (getD rs k 0)
 unfolding cleared
 clear-at rs u zero k h = go (decLt k u)
@@ -65,28 +50,6 @@ clear-at rs u (suc d) k h = go (decLt k (u + d)) (decLt (u + d) k) (decLt k u) (
 
 -- ---- setting
 module _ (rs ks : List ℕ) (bs : List Bool) where
-  pub set-none : rs ≡ setAt rs ks bs 0
-  unfolding setAt
-  set-none = refl
-
-  pub set-on : (ts : List ℕ) (i : ℕ) → ts ≡ setAt rs ks bs i → getD bs i false ≡ true → set ts (getD ks i 0) 1 ≡ setAt rs ks bs (i + 1)
-  unfolding setAt
-  set-on ts i e b =
-      rw (add-one i) ((λ j. set (e j) (getD ks i 0) 1) ∙ ap (λ (c : Bool). cond c (set (setAt rs ks bs i) (getD ks i 0) 1) (setAt rs ks bs i)) (sym b))
-
-  pub set-off : (ts : List ℕ) (i : ℕ) → ts ≡ setAt rs ks bs i → getD bs i false ≡ false → ts ≡ setAt rs ks bs (i + 1)
-  unfolding setAt
-  set-off ts i e b = rw (add-one i) (e ∙ ap (λ (c : Bool). cond c (set (setAt rs ks bs i) (getD ks i 0) 1) (setAt rs ks bs i)) (sym b))
-
-  pub set-length : (i : ℕ) → length (setAt rs ks bs i) ≡ length rs
-  unfolding setAt
-  set-length zero = refl
-  set-length (suc i) = go (getD bs i false) (set-length i)
-    where
-      go : (b : Bool) → length (setAt rs ks bs i) ≡ length rs → length (cond b (set (setAt rs ks bs i) (getD ks i 0) 1) (setAt rs ks bs i)) ≡ length rs
-      go true e = length-set (setAt rs ks bs i) (getD ks i 0) 1 ∙ e
-      go false e = e
-
   -- node k is one of the first n that are set
   abbrev hits : ℕ → ℕ → Bool
   hits k i = getD bs i false && eqb (getD ks i 0) k
@@ -113,7 +76,7 @@ module _ (rs ks : List ℕ) (bs : List Bool) where
       go : (b : Bool) → Dec (getD ks n 0 ≡ k) → (a : Bool) → getD ts k 0 ≡ cond a 1 x
           → getD (cond b (set ts (getD ks n 0) 1) ts) k 0 ≡ cond (a || (b && eqb (getD ks n 0) k)) 1 x
       go true (yes f) a e =
-          ap (λ (i : ℕ). getD (set ts i 1) k 0) f ∙ getD-set-same ts k 1 0 (omega (arith, h, set-length n)) ∙ sym (or-true a)
+          ap (λ (i : ℕ). getD (set ts i 1) k 0) f ∙ getD-set-same ts k 1 0 (omega (arith, h, set-length rs ks bs n)) ∙ sym (or-true a)
           ∙ ap (λ (c : Bool). cond (a || c) 1 x) (sym (eq-eqb (getD ks n 0) k f))
       go true (no f) a e =
           getD-set-other ts (getD ks n 0) k 1 0 (λ g. f (sym g)) ∙ e ∙ or-false a ∙ ap (λ (c : Bool). cond (a || c) 1 x) (sym (ne-eqb (getD ks n 0) k f))
@@ -147,17 +110,23 @@ asked-at vs ms c o n k =
     tail false = refl
 
 -- u nodes were listed, v are; the code cleared, and set twice
-pub marked : (rs ts xs ys : List ℕ) (u v n : ℕ) (vs ms : List ℕ) (bs : List Bool) (c : ℕ) → u ≤ v → n ≤ 60 → ts ≡ cleared rs u (v - u)
-    → xs ≡ setAt ts vs (replicate 60 true) n
-    → ys ≡ setAt xs ms bs n → ys ≡ rimsBy u v (asksFor (take n vs) (take n ms) c (sideAt bs) n) rs
+pub marked : (rs ys : List ℕ) (u v n : ℕ) (vs ms : List ℕ) (bs : List Bool) (c : ℕ) → u ≤ v → n ≤ 60 → ys ≡ rimMarks rs u v vs ms bs n
+    → ys ≡ rimsBy u v (asksFor (take n vs) (take n ms) c (sideAt bs) n) rs
 unfolding rimAt
-marked rs ts xs ys u v n vs ms bs c h few e f g = is-rims u v (asksFor (take n vs) (take n ms) c (sideAt bs) n) rs ys long at
+marked rs ys u v n vs ms bs c h few g = is-rims u v (asksFor (take n vs) (take n ms) c (sideAt bs) n) rs ys long at
   where
+    -- cleared, and then the corners set
+    ts : List ℕ
+    ts = cleared rs u (v - u)
+
+    xs : List ℕ
+    xs = setAt ts vs (replicate 60 true) n
+
     t-long : length ts ≡ length rs
-    t-long = ap length e ∙ clear-length rs u (v - u)
+    t-long = clear-length rs u (v - u)
 
     x-long : length xs ≡ length rs
-    x-long = ap length f ∙ set-length ts vs (replicate 60 true) n ∙ t-long
+    x-long = set-length ts vs (replicate 60 true) n ∙ t-long
 
     long : length ys ≡ length rs
     long = ap length g ∙ set-length xs ms bs n ∙ x-long
@@ -180,9 +149,9 @@ marked rs ts xs ys u v n vs ms bs c h few e f g = is-rims u v (asksFor (take n v
     at k l =
         let w : u + (v - u) ≡ v = omega arith in
         ap (λ (y : List ℕ). getD y k 0) g ∙ set-at xs ms bs n k (omega (arith, l, x-long))
-        ∙ (λ j. cond (middles k j) 1 ((ap (λ (x : List ℕ). getD x k 0) f ∙ set-at ts vs (replicate 60 true) n k (omega (arith, l, t-long))) j))
+        ∙ (λ j. cond (middles k j) 1 (set-at ts vs (replicate 60 true) n k (omega (arith, l, t-long)) j))
         ∙ (λ j. cond (any (λ i. sideAt bs i && eqb (getD (take n ms) i 0) k) n) 1
-        (cond (corners k j) 1 ((ap (λ (x : List ℕ). getD x k 0) e ∙ clear-at rs u (v - u) k l) j)))
+        (cond (corners k j) 1 (clear-at rs u (v - u) k l j)))
         ∙ ap
         (λ (w : ℕ).
         cond (any (λ i. sideAt bs i && eqb (getD (take n ms) i 0) k) n) 1 (cond (any (λ i. eqb (getD (take n vs) i 0) k) n) 1 (kept u w k (getD rs k 0))))

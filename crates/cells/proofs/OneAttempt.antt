@@ -33,10 +33,11 @@ use Rattle.cells.specs.Stages.{markAt}
 use Rattle.marks.specs.Edges.{marksIn, partIn}
 use Rattle.cells.specs.Asks.{Ask, asksFor, attemptAsks}
 use Rattle.cells.specs.Rims.{rimsBy}
-use Rattle.cells.specs.Flat.{cornerAt, CanAdd, Adds, endAt, middleAt, farAt, sideAt, attemptIn, attemptAsksIn, triedOf, CanTry}
+use Rattle.cells.specs.Flat.{sideAt, attemptIn, attemptAsksIn, triedOf, CanTry}
+use Rattle.piece_nodes.specs.Adding.{cornerAt, CanAdd, Adds, endAt, middleAt, farAt}
 use Rattle.quads.specs.Flat.{ListedTo, overCells}
 use Rattle.cells.proofs.Ranges.{corner-ranged, middle-ranged, mean-ranged, edge-by}
-use Rattle.cells.proofs.Adding as adding
+use Rattle.piece_nodes.proofs.Adding as adding
 use Rattle.quads.proofs.Turns as turns
 
 -- ---- a mean goes by its points

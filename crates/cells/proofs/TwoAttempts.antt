@@ -32,7 +32,7 @@ use Rattle.quads.specs.Flat.{overCells}
 use Rattle.cells.proofs.Attempts.{attempt-any, subdivide-by}
 use Rattle.cells.proofs.Ranges.{attempt-ranged, straight≢snap}
 use Rattle.cells.proofs.NewCells.{attempt-cells}
-use Rattle.cells.proofs.Adding.{nodes-ranged, over-usable}
+use Rattle.piece_nodes.proofs.Adding.{nodes-ranged, over-usable}
 use Rattle.quads.proofs.CellList as cell
 use Rattle.cells.proofs.Rims.{rims-length, rims-then}
 use Rattle.cells.proofs.Asking.{attempt-listed}

@@ -42,7 +42,7 @@ use Rattle.quads.specs.Flat.{overCells}
 use Rattle.cells.proofs.Attempts.{onward-done, pieces-any, pieces-later, subdivide-any}
 use Rattle.cells.proofs.Ranges.{pieces-in-range}
 use Rattle.cells.proofs.NewCells.{subdivide-cells, pieces-cells}
-use Rattle.cells.proofs.Adding.{nodes-ranged, over-usable}
+use Rattle.piece_nodes.proofs.Adding.{nodes-ranged, over-usable}
 use Rattle.cells.proofs.Rims.{rims-length, rims-none, rims-then}
 use Rattle.cells.proofs.Asking.{Below, asks-listed}
 use Rattle.pieces.specs.declared.Subdivision.{Subdivision}

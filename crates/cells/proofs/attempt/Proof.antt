@@ -1,6 +1,7 @@
 -- `attempt`: corners, middles, centre, cells and rim marks one after the other, each with what the one before left.
 use mathlib.Core.Path.{refl, _∙_}
-use Rattle.cells.proofs.Adding.{listed, held}
+use Rattle.piece_nodes.proofs.Adding.{listed, held}
+use Rattle.cells.proofs.Marking.{marked}
 use Rattle.cells.proofs.OneAttempt as one
 use borrow.Author.Needs.{needs}
 use native.Mathlib.Omega.{arith}
@@ -118,7 +119,8 @@ returns c =
     one.answer (s .pre .0) (k .add-corners .ensures) (m .add-middles .ensures .0) (q .mean .ensures) (e .0) (e .1) (s .args .cells .now) (s .args .sides)
     (s .args .rims .now) (m .add-middles .ensures .1) (c .first-failing .ensures)
     (c .before .before .before .before .before .before .before .before .put-cells .ensures)
-    (c .before .before .before .before .mark-rims .ensures (z .add-node .result .number))
+    (marked _ _ _ _ _ _ _ _ _ (one.used-up (s .pre .0) (k .add-corners .ensures) (m .add-middles .ensures .0) (q .mean .ensures) (e .0) (e .1))
+    (s .pre .0 .sheet .count) (c .before .before .before .before .mark-rims .ensures))
 
 pub attempt-spec : {M : Type 1} → statement M
 attempt-spec =

@@ -1,0 +1,2 @@
+-- Points added one by one to the lent node list.
+pub mod Adding

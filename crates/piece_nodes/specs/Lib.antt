@@ -1,0 +1,2 @@
+-- What adding the corners and middles of a piece leaves.
+pub mod Adding

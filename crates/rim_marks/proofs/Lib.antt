@@ -1,0 +1,2 @@
+-- Rim marks cleared and set, place by place.
+pub mod Marking

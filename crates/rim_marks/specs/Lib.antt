@@ -1,0 +1,2 @@
+-- The rim marks as the code sets them.
+pub mod Marking
