@@ -1,10 +1,8 @@
-// Parts: a part of a ring as a list of numbers, the two parts that a diagonal makes of it, and parts one after the other.
+// Parts: a part of a ring as a list of numbers, and parts one after the other.
 //
-// It stands under the split, whose stack and pieces are such lists. The ring's points and the marks of its edges are held
+// It stands under the split, whose stack and pieces are such lists; the two parts that a diagonal makes are `sub_polygons`. The ring's points and the marks of its edges are held
 // once, outside; a part has two bytes a corner, so that the whole state of the split is 600 bytes and goes by value.
 // specs/Vertices and specs/Layout say how numbers are read back as parts.
-
-mod sub_polygon;
 
 ghost use mathlib.Core.Path.{_≡_};
 ghost use mathlib.Core.List.{List};
@@ -22,9 +20,6 @@ ghost use Rattle.parts.specs.Layout as Layout;
 ghost use Rattle.parts.specs.Pieces.{pieceIn, marksOf};
 use marks::Edge;
 use marks::EdgeMark;
-pub use sub_polygon::first_part;
-pub use sub_polygon::rotated_points;
-pub use sub_polygon::second_part;
 use vector::GridPoint;
 use vector::MOST_POINTS;
 use vector::Ring;

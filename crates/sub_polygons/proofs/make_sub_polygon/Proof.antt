@@ -7,9 +7,9 @@ use borrow.Author.Needs.{needs}
 use lib.Dec.{lit≤, lit<}
 use lib.IntN.{natAbs}
 use Rattle.laws.proofs.Signed.{back, small64}
 use Rattle.parts.proofs.Segments as Segments
-use Rattle.parts.proofs.sub_polygon.make_sub_polygon.Statement.{statement}
-use Rattle.parts.proofs.sub_polygon.make_sub_polygon.Tie as tie
+use Rattle.sub_polygons.proofs.make_sub_polygon.Statement.{statement}
+use Rattle.sub_polygons.proofs.make_sub_polygon.Tie as tie
 
 rotated-points-requires : tie.Need-rotated-points-requires
 rotated-points-requires c κs = search needs

@@ -10,8 +10,8 @@ use mathlib.Core.Path.{_≡_, refl}
 use Prim.Native.Nat.{_+_, _-_, _%_, _≤_, _<_}
 use borrow.Author.Needs.{needs}
 use native.Mathlib.Omega.{arith}
-use Rattle.parts.proofs.sub_polygon.segment.Statement.{statement}
-use Rattle.parts.proofs.sub_polygon.segment.Tie as tie
+use Rattle.sub_polygons.proofs.segment.Statement.{statement}
+use Rattle.sub_polygons.proofs.segment.Tie as tie
 
 abbrev Inv-loop : tie.InvT-loop
 Inv-loop n v m vs out₀ j₀ i₀ i-end out j i =

@@ -1,4 +1,7 @@
-// The two parts that a diagonal makes of a part, over the numbers of its corners.
+// Sub polygons: the two parts that a diagonal makes of a part, over the numbers of its corners.
+//
+// It stands between parts, whose lists of numbers these are, and the split, which makes two parts of one until none has a bad
+// corner. A part's points are read from the ring, from whichever corner is asked for. The definitions are those of parts.
 
 ghost use mathlib.Core.Path.{_≡_};
 ghost use mathlib.Core.List.{List};
@@ -8,9 +11,9 @@ ghost use Rattle.laws.specs.Table.{tab};
 ghost use Rattle.vector.specs.Size.{AllOnSheet};
 ghost use Rattle.vector.specs.Rings.{mostPoints, pointsOf, OnSheetRing};
 ghost use Rattle.marks.specs.declared.EdgeMark.{EdgeMark};
 ghost use Rattle.parts.specs.Cut as Cut;
 ghost use Rattle.parts.specs.Vertices.{vertex, cornerPoint, edgeAt, Below, straightNumber, closing, backward, partOf};
-use super::Vertex;
+use parts::Vertex;
 use vector::GridPoint;
 use vector::MOST_POINTS;
 use vector::Ring;
@@ -41,7 +44,7 @@ pub fn rotated_points(
 }
 
 // m of n corners, counted from corner v. The last edge, the diagonal, is straight.
-pub fn segment(vs: [Vertex; MOST_POINTS], n: usize, v: usize, m: usize) -> [Vertex; MOST_POINTS]
+fn segment(vs: [Vertex; MOST_POINTS], n: usize, v: usize, m: usize) -> [Vertex; MOST_POINTS]
     requires { ⌜ (n ≤ mostPoints) × (v < n) × (1 ≤ m) × (m ≤ n) × Below vs ⌝ }
     ensures { λ r. ⌜ (take m r ≡ tab (closing vs n v m) m) × Below r ⌝ }
 {
@@ -61,7 +64,7 @@ pub fn segment(vs: [Vertex; MOST_POINTS], n: usize, v: usize, m: usize) -> [Vert
 }
 
 // m corners the other way round. Each keeps the edge that now starts there; the last edge is straight.
-pub fn reversed(vs: [Vertex; MOST_POINTS], m: usize) -> [Vertex; MOST_POINTS]
+fn reversed(vs: [Vertex; MOST_POINTS], m: usize) -> [Vertex; MOST_POINTS]
     requires { ⌜ (1 ≤ m) × (m ≤ mostPoints) × Below vs ⌝ }
     ensures { λ r. ⌜ (take m r ≡ tab (backward vs m) m) × Below r ⌝ }
 {
@@ -89,7 +92,7 @@ pub struct SubPolygon {
 }
 
 // m corners that end with the diagonal, turned round if their area is negative.
-pub fn make_sub_polygon(
+fn make_sub_polygon(
     ring: [GridPoint; MOST_POINTS],
     vs: [Vertex; MOST_POINTS],
     m: usize,

@@ -10,8 +10,8 @@ use mathlib.Core.Path.{_≡_, refl, ap}
 use Prim.Native.Nat.{_+_, _-_, _≤_, _<_}
 use borrow.Author.Needs.{needs}
 use native.Mathlib.Omega.{arith}
-use Rattle.parts.proofs.sub_polygon.reversed.Statement.{statement}
-use Rattle.parts.proofs.sub_polygon.reversed.Tie as tie
+use Rattle.sub_polygons.proofs.reversed.Statement.{statement}
+use Rattle.sub_polygons.proofs.reversed.Tie as tie
 
 abbrev Inv-loop : tie.InvT-loop
 Inv-loop m vs out₀ a₀ i₀ i-end out a i =

@@ -4,10 +4,10 @@ use native.Mathlib.Nat.{mod-lt}
 use mathlib.Core.Path.{ap, _∙_}
 use native.Mathlib.Omega.{arith}
 use borrow.Author.Needs.{needs}
 use Rattle.parts.specs.Cut.{turnedArea}
 use Rattle.parts.proofs.Segments as Segments
-use Rattle.parts.proofs.sub_polygon.second_part.Statement.{statement}
-use Rattle.parts.proofs.sub_polygon.second_part.Tie as tie
+use Rattle.sub_polygons.proofs.second_part.Statement.{statement}
+use Rattle.sub_polygons.proofs.second_part.Tie as tie
 
 add-start : tie.Need-add-start
 add-start c = search needs

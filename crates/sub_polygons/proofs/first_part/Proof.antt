@@ -3,10 +3,10 @@ use Prim.Native.Nat.{_+_}
 use mathlib.Core.Path.{ap, _∙_}
 use native.Mathlib.Omega.{arith}
 use borrow.Author.Needs.{needs}
 use Rattle.parts.specs.Cut.{turnedArea}
 use Rattle.parts.proofs.Segments as Segments
-use Rattle.parts.proofs.sub_polygon.first_part.Statement.{statement}
-use Rattle.parts.proofs.sub_polygon.first_part.Tie as tie
+use Rattle.sub_polygons.proofs.first_part.Statement.{statement}
+use Rattle.sub_polygons.proofs.first_part.Tie as tie
 
 add-segment : tie.Need-add-segment
 add-segment c = search needs
