@@ -6,7 +6,6 @@ pub mod NewCells
 pub mod PieceByPiece
 pub mod Bound
 pub mod OneAttempt
-pub mod TwoAttempts
 pub mod Rims
 pub mod Marking
 pub mod Asking

@@ -1,8 +1,8 @@
-// Cells: the corners, edge middles and mean of a piece become nodes, and its cells are four node numbers each.
+// Cells: one attempt at a piece. Its corners, edge middles and mean become nodes, and its cells are four node numbers each.
 //
-// It is the last step in the way of a ring: the pieces of the split come here one after the other, over the shared node
-// list, and their cells go into the part of the caller's cell list that starts after those already there. A cell stands
-// in that list as four numbers; specs/Flat has the words for that, and for what a function asks of the lists.
+// The pieces of the split come here one after the other, over the shared node list, and their cells go into the part of the
+// caller's cell list that starts after those already there. A cell stands in that list as four numbers; specs/Flat has the words
+// for that, and for what a function asks of the lists. The retry is `piece_cells`, above: the definitions of both are here.
 
 ghost use mathlib.Core.Path.{_≡_};
 ghost use Prim.Native.Nat.{_*_, _≤_};
@@ -11,9 +11,8 @@ ghost use Rattle.nodes.specs.Flat.{over};
 ghost use Rattle.nodes.specs.Nearby.{ValidNearby};
 ghost use Rattle.cells.specs.Rims.{rimsBy};
 ghost use Rattle.quads.specs.Flat.{overCells};
-ghost use Rattle.cells.specs.Flat.{CanTry, CanSubdividePiece, attemptIn, subdivideIn, triedOf, pieceOf, attemptAsksIn, subdivideAsksIn};
+ghost use Rattle.cells.specs.Flat.{CanTry, attemptIn, triedOf, pieceOf, attemptAsksIn};
 use marks::Edge;
-use marks::EdgeMark;
 use nodes::Nearby;
 use nodes::NodeNumber;
 use vector::MOST_POINTS;
@@ -29,7 +28,7 @@ pub struct Tried {
 
 // One attempt: the piece's nodes are added and all its cells are put, also where one fails. The retry puts its own over
 // the same places, so no cell of an abandoned attempt is left.
-fn attempt(
+pub fn attempt(
     nodes: &mut [f64],
     used: usize,
     rims: &mut [u8],
@@ -65,64 +64,4 @@ fn attempt(
         fails: f,
         far: m.far,
     }
-}
-
-// A piece: the attempt with its marks, and where a cell fails with no snap too far, one on straight middles.
-pub fn subdivide(
-    nodes: &mut [f64],
-    used: usize,
-    rims: &mut [u8],
-    cells: &mut [NodeNumber],
-    ring: Ring,
-    edges: [Edge; MOST_POINTS],
-    sides: [bool; MOST_POINTS],
-    share: f64,
-    near: Nearby,
-    numbers: &[NodeNumber],
-    xs: &[f64],
-) -> Tried
-    requires { ⌜ CanSubdividePiece share (now nodes) used (pieceOf ring edges) × (ring .count * 4 ≤ length (now cells)) × ValidNearby (now nodes) used near
-        (now numbers) (now xs)
-        × (length (subdivideIn share (now nodes) used (pieceOf ring edges) .nodes) ≤ length (now rims)) ⌝ }
-    ensures { λ r. ⌜ (r ≡ triedOf (subdivideIn share (now (nodes .entry)) used (pieceOf ring edges)))
-        × (now (nodes .exit) ≡ over (now (nodes .entry)) (subdivideIn share (now (nodes .entry)) used (pieceOf ring edges) .nodes))
-        × (now (cells .exit) ≡ overCells (now (cells .entry)) (subdivideIn share (now (nodes .entry)) used (pieceOf ring edges) .cells))
-        × (now (rims .exit) ≡ rimsBy used (length (subdivideIn share (now (nodes .entry)) used (pieceOf ring edges) .nodes))
-        (subdivideAsksIn share (now (nodes .entry)) used (pieceOf ring edges) sides) (now (rims .entry))) ⌝ }
-{
-    let t = attempt(
-        nodes,
-        used,
-        rims,
-        cells,
-        ring,
-        edges,
-        sides,
-        share,
-        near,
-        numbers,
-        xs,
-    );
-    if t.fails == ring.count {
-        return t;
-    }
-    if t.far {
-        return t;
-    }
-    let e = Edge {
-        mark: EdgeMark::Straight,
-    };
-    attempt(
-        nodes,
-        t.used,
-        rims,
-        cells,
-        ring,
-        [e; MOST_POINTS],
-        sides,
-        share,
-        near,
-        numbers,
-        xs,
-    )
 }

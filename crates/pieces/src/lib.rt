@@ -103,7 +103,7 @@ pub fn subdivide_all(
         let n = corners.count;
         let sides = piece_sides(pieces, i);
         let start = at * 4;
-        let t = cells::subdivide(
+        let t = piece_cells::subdivide(
             nodes,
             u,
             rims,

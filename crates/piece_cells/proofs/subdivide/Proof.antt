@@ -1,9 +1,9 @@
 -- `subdivide`: one attempt, or a second on straight middles after it.
-use Rattle.cells.proofs.TwoAttempts as two
+use Rattle.piece_cells.proofs.TwoAttempts as two
 use native.Mathlib.Omega.{arith}
 use borrow.Author.Needs.{needs}
-use Rattle.cells.proofs.subdivide.Statement.{statement}
-use Rattle.cells.proofs.subdivide.Tie as tie
+use Rattle.piece_cells.proofs.subdivide.Statement.{statement}
+use Rattle.piece_cells.proofs.subdivide.Tie as tie
 
 attempt-requires : tie.Need-attempt-requires
 attempt-requires c κs =

@@ -1,0 +1,2 @@
+-- The attempts at a piece one after the other.
+pub mod TwoAttempts
