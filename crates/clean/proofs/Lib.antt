@@ -4,8 +4,5 @@ pub mod Settled
 pub mod Apart
 pub mod AtRest
 pub mod Places
-pub mod Choices
-pub mod Filter
-pub mod Turns
 pub mod Passing
 pub mod Answer

@@ -1,43 +1,16 @@
 -- Which points of a ring stay in cleaning, by their places. Each definition of places follows the one of specs/Clean that it has
--- its name from: the points at these places are what that one leaves (proofs/Places).
-use Prim.Native.Nat.{ℕ, zero, suc, _-_, _<_}
-use mathlib.Core.Bool.{_||_, _&&_, not, cond}
-use mathlib.Core.List.{List, [], _∷_, _++_, map}
-use lib.ListN.{length, getD, take}
+-- its name from: the points at these places are what that one leaves (proofs/Places). Those of the steps are in clean_steps.
+use Prim.Native.Nat.{ℕ, zero, suc}
+use mathlib.Core.Bool.{_||_, _&&_, cond}
+use mathlib.Core.List.{List}
+use lib.ListN.{length, take}
 use lib.Dec.{leb, ltb, eqb}
 use lib.Ieee.{Float}
-use Rattle.laws.specs.Table.{tab}
 use Rattle.vector.specs.declared.GridPoint.{GridPoint}
-use Rattle.vector.specs.Grid.{origin}
-use Rattle.nearness.specs.Nearness.{tolerance, near}
-use Rattle.clean.specs.Clean.{opened, flat}
-
--- the points of a ring at these places
-abbrev pub pick : List GridPoint → List ℕ → List GridPoint
-pick r ks = map (λ (k : ℕ). getD r k origin) ks
-
--- of the places ks, those that stand in it at the places ws
-abbrev pub among : List ℕ → List ℕ → List ℕ
-among ks ws = map (λ (w : ℕ). getD ks w 0) ws
-
--- all places of a ring of n points
-abbrev pub places : ℕ → List ℕ
-places n = tab (λ (i : ℕ). i) n
-
--- "drop a point within tolerance of the last kept one": the places kept of the first i
-unfoldable pub spacedPlaces : Float → List GridPoint → ℕ → List ℕ
-spacedPlaces tol r zero = []
-spacedPlaces tol r (suc i) =
-    let ks = spacedPlaces tol r i in
-    let u = pick r ks in
-    cond (eqb (length u) 0 || not (near tol (getD u (length u - 1) origin) (getD r i origin))) (ks ++ (i ∷ [])) ks
-
--- "mark all points .. and drop them together": the places left of the first i
-unfoldable pub bentPlaces : Float → List GridPoint → ℕ → List ℕ
-bentPlaces tol r zero = []
-bentPlaces tol r (suc i) =
-    let ks = bentPlaces tol r i in
-    cond (flat tol r i) ks (ks ++ (i ∷ []))
+use Rattle.nearness.specs.Nearness.{tolerance}
+use Rattle.clean_steps.specs.Steps.{opened}
+pub use Rattle.clean_steps.specs.Choices.{pick, among, places, Rising}
+unfoldable pub use Rattle.clean_steps.specs.Choices.{spacedPlaces, bentPlaces}
 
 -- "above 3 points .. if 3 or more remain"
 unfoldable pub straightenedPlaces : Float → List GridPoint → List ℕ
@@ -63,8 +36,3 @@ passesPlaces (suc d) tol r =
 -- the places that stay in clean_polygon
 unfoldable pub keptPlaces : ℕ → List GridPoint → List ℕ
 keptPlaces size r = passesPlaces (suc (length r)) (tolerance size) r
-
--- places in rising order, each below n
-pub record Rising (n : ℕ) (ks : List ℕ) : Type 0 where
-  pub below : (i : ℕ) → i < length ks → getD ks i 0 < n
-  pub rising : (i j : ℕ) → i < j → j < length ks → getD ks i 0 < getD ks j 0

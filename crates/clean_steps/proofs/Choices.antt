@@ -11,9 +11,9 @@ use lib.Seq.{length-take-le, getD-take, take-length}
 use Rattle.vector.specs.declared.GridPoint.{GridPoint}
 use Rattle.vector.specs.Grid.{origin, at, prev}
 use Rattle.vector.proofs.Rings.{at-in, at-next, prev-any}
-use Rattle.clean.specs.declared.Choice.{Choice}
-use Rattle.clean.specs.Rings.{placesOf, chosen, ValidChoice}
-use Rattle.clean.proofs.Places.{map-getD, pick-length}
+use Rattle.clean_steps.specs.declared.Choice.{Choice}
+use Rattle.clean_steps.specs.Choices.{placesOf, chosen, ValidChoice}
+use Rattle.clean_steps.proofs.Places.{map-getD, pick-length}
 
 -- ---- a place as an index of the ring, and as an offset of 8 bytes each
 pub place-fits : {x : ℕ} → x < 60 → Fits w64 x

@@ -1,0 +1,3 @@
+-- The steps of a pass, of the points and of their places.
+pub mod Steps
+pub mod Choices
