@@ -5,7 +5,5 @@ pub mod Ranges
 pub mod NewCells
 pub mod PieceByPiece
 pub mod Bound
-pub mod OneAttempt
 pub mod Rims
-pub mod Marking
 pub mod Asking

@@ -1,7 +1,7 @@
 // Piece cells: the cells of one piece, by an attempt with its marks and, where that fails, one on straight middles.
 //
 // It is the last step in the way of a ring: pieces calls it for each piece that the split leaves. The attempts are those of
-// Cells, and so are the definitions.
+// `attempts`, and the definitions those of Cells.
 
 ghost use mathlib.Core.Path.{_≡_};
 ghost use Prim.Native.Nat.{_*_, _≤_};
@@ -42,7 +42,7 @@ pub fn subdivide(
         × (now (rims .exit) ≡ rimsBy used (length (subdivideIn share (now (nodes .entry)) used (pieceOf ring edges) .nodes))
         (subdivideAsksIn share (now (nodes .entry)) used (pieceOf ring edges) sides) (now (rims .entry))) ⌝ }
 {
-    let t = cells::attempt(
+    let t = attempts::attempt(
         nodes,
         used,
         rims,
@@ -64,7 +64,7 @@ pub fn subdivide(
     let e = Edge {
         mark: EdgeMark::Straight,
     };
-    cells::attempt(
+    attempts::attempt(
         nodes,
         t.used,
         rims,

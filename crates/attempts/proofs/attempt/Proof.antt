@@ -1,12 +1,12 @@
 -- `attempt`: corners, middles, centre, cells and rim marks one after the other, each with what the one before left.
 use mathlib.Core.Path.{refl, _∙_}
 use Rattle.piece_nodes.proofs.Adding.{listed, held}
-use Rattle.cells.proofs.Marking.{marked}
-use Rattle.cells.proofs.OneAttempt as one
+use Rattle.attempts.proofs.Marking.{marked}
+use Rattle.attempts.proofs.OneAttempt as one
 use borrow.Author.Needs.{needs}
 use native.Mathlib.Omega.{arith}
-use Rattle.cells.proofs.attempt.Statement.{statement}
-use Rattle.cells.proofs.attempt.Tie as tie
+use Rattle.attempts.proofs.attempt.Statement.{statement}
+use Rattle.attempts.proofs.attempt.Tie as tie
 
 slice-aggregate-add-corners : tie.Need-slice-aggregate-add-corners
 slice-aggregate-add-corners c = search needs
