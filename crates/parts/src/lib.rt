@@ -6,7 +6,7 @@
 
 ghost use mathlib.Core.Path.{_≡_};
 ghost use mathlib.Core.List.{List};
-ghost use Prim.Native.Nat.{ℕ, _+_, _≤_, _<_};
+ghost use Prim.Native.Nat.{ℕ, _+_, _%_, _≤_, _<_};
 ghost use lib.ListN.{getD, take};
 ghost use Rattle.laws.specs.Table.{tab};
 ghost use Rattle.vector.specs.declared.GridPoint.{GridPoint};
@@ -15,7 +15,7 @@ ghost use Rattle.vector.specs.Size.{AllOnSheet};
 ghost use Rattle.vector.specs.Rings.{mostPoints, pointsOf, OnSheetRing};
 ghost use Rattle.marks.specs.declared.EdgeMark.{EdgeMark};
 ghost use Rattle.marks.specs.Edges.{straightEdge};
-ghost use Rattle.parts.specs.Vertices.{vertex, Below};
+ghost use Rattle.parts.specs.Vertices.{vertex, cornerPoint, Below};
 ghost use Rattle.parts.specs.Layout as Layout;
 ghost use Rattle.parts.specs.Pieces.{pieceIn, marksOf};
 use marks::Edge;
@@ -58,6 +58,31 @@ pub fn load(vs: [Vertex; 124], a: usize, n: usize) -> [Vertex; MOST_POINTS]
     for i in 0..n {
         let c = vs[a + i];
         out[i] = c;
+    }
+    out
+}
+
+// The points of n corners, counted from corner v.
+pub fn rotated_points(
+    ring: [GridPoint; MOST_POINTS],
+    vs: [Vertex; MOST_POINTS],
+    n: usize,
+    v: usize,
+) -> Ring
+    requires { ⌜ (n ≤ mostPoints) × (v < n) × Below vs × AllOnSheet ring ⌝ }
+    ensures { λ r. ⌜ (pointsOf r ≡ tab (λ i. cornerPoint ring vs ((v + i) % n)) n) × OnSheetRing r × (r .count ≡ n) ⌝ }
+{
+    let mut out = Ring {
+        points: [GridPoint::ORIGIN; MOST_POINTS],
+        count: n,
+    };
+    let mut j = v;
+    for i in 0..n {
+        let c = vs[j];
+        let k = c.at as usize;
+        let p = ring[k];
+        out.points[i] = p;
+        j = vector::next(j, n);
     }
     out
 }

@@ -1,47 +1,21 @@
 // Sub polygons: the two parts that a diagonal makes of a part, over the numbers of its corners.
 //
 // It stands between parts, whose lists of numbers these are, and the split, which makes two parts of one until none has a bad
-// corner. A part's points are read from the ring, from whichever corner is asked for. The definitions are those of parts.
+// corner. The definitions are those of parts.
 
 ghost use mathlib.Core.Path.{_≡_};
 ghost use mathlib.Core.List.{List};
-ghost use Prim.Native.Nat.{_+_, _-_, _%_, _^_, _≤_, _<_};
+ghost use Prim.Native.Nat.{_+_, _-_, _^_, _≤_, _<_};
 ghost use lib.ListN.{length, take};
 ghost use Rattle.laws.specs.Table.{tab};
 ghost use Rattle.vector.specs.Size.{AllOnSheet};
-ghost use Rattle.vector.specs.Rings.{mostPoints, pointsOf, OnSheetRing};
+ghost use Rattle.vector.specs.Rings.{mostPoints};
 ghost use Rattle.marks.specs.declared.EdgeMark.{EdgeMark};
 ghost use Rattle.parts.specs.Cut as Cut;
 ghost use Rattle.parts.specs.Vertices.{vertex, cornerPoint, edgeAt, Below, straightNumber, closing, backward, partOf};
 use parts::Vertex;
 use vector::GridPoint;
 use vector::MOST_POINTS;
-use vector::Ring;
-
-// The points of n corners, counted from corner v.
-pub fn rotated_points(
-    ring: [GridPoint; MOST_POINTS],
-    vs: [Vertex; MOST_POINTS],
-    n: usize,
-    v: usize,
-) -> Ring
-    requires { ⌜ (n ≤ mostPoints) × (v < n) × Below vs × AllOnSheet ring ⌝ }
-    ensures { λ r. ⌜ (pointsOf r ≡ tab (λ i. cornerPoint ring vs ((v + i) % n)) n) × OnSheetRing r × (r .count ≡ n) ⌝ }
-{
-    let mut out = Ring {
-        points: [GridPoint::ORIGIN; MOST_POINTS],
-        count: n,
-    };
-    let mut j = v;
-    for i in 0..n {
-        let c = vs[j];
-        let k = c.at as usize;
-        let p = ring[k];
-        out.points[i] = p;
-        j = vector::next(j, n);
-    }
-    out
-}
 
 // m of n corners, counted from corner v. The last edge, the diagonal, is straight.
 fn segment(vs: [Vertex; MOST_POINTS], n: usize, v: usize, m: usize) -> [Vertex; MOST_POINTS]
@@ -102,7 +76,7 @@ fn make_sub_polygon(
         (tab (edgeAt es vs) (m - 1)))
         × (r .turned ≡ Cut.turnedArea (tab (cornerPoint ring vs) m)) × Below (r .corners) × (r .turned ≤ 2 ^ 53) ⌝ }
 {
-    let area = vector::polygon_area(rotated_points(ring, vs, m, 0));
+    let area = vector::polygon_area(parts::rotated_points(ring, vs, m, 0));
     if 0 <= area {
         return SubPolygon {
             corners: vs,

@@ -8,11 +8,11 @@ use Rattle.vector.proofs.Sheet.{origin-on}
 use Rattle.laws.specs.Table.{tab}
 use Rattle.laws.proofs.Table.{more, tab-none, start-mod, step-mod}
 use Rattle.laws.proofs.Lists.{all-same, all-set}
 use Rattle.parts.specs.Vertices.{cornerPoint, Below}
 use borrow.Author.Needs.{needs}
 use native.Mathlib.Omega.{arith}
-use Rattle.sub_polygons.proofs.rotated_points.Statement.{statement}
-use Rattle.sub_polygons.proofs.rotated_points.Tie as tie
+use Rattle.parts.proofs.rotated_points.Statement.{statement}
+use Rattle.parts.proofs.rotated_points.Tie as tie
 
 abbrev Inv-loop : tie.InvT-loop
 Inv-loop n v ring vs out₀ j₀ i₀ out j i =
