@@ -7,7 +7,6 @@
 
 ghost use mathlib.Core.Path.{_≡_};
 ghost use mathlib.Core.List.{List};
-ghost use Prim.Native.Nat.{_≤_};
 ghost use lib.IntN.{natAbs};
 ghost use lib.ListN.{length};
 ghost use Rattle.vector.specs.Grid.{polygonArea};
@@ -15,13 +14,17 @@ ghost use Rattle.vector.specs.Rings.{pointsOf, OnSheetRing};
 ghost use Rattle.marks.specs.Edges.{partIn};
 ghost use Rattle.corner.specs.Limits.{delivered};
 ghost use Rattle.split.specs.Split.{splitBadVertices};
+ghost use Rattle.nodes.specs.Nearby.{ValidNearby};
 ghost use Rattle.quads.specs.declared.Cell.{Cell};
 ghost use Rattle.table.specs.Answers as Answers;
+ghost use Rattle.table.specs.declared.Answer.the-variants as answer;
 ghost use Rattle.call.specs.Divide.{Whole, outcomeOf, answered, core};
 ghost use Rattle.divider.specs.Promise.{Leaves, Promise};
 ghost use Rattle.divider.specs.Steps.{OnPaper, Prepares, listsIn, testOf, failedAnswer, CanDivideRing, divideInto, HasRoom};
 use corner::Limits;
 use marks::MarkedRing;
+use nodes::MOST_NEARBY;
+use nodes::Nearby;
 use nodes::NodeNumber;
 use pieces::Subdivision;
 use table::Answer;
@@ -74,7 +77,7 @@ fn failed(laid: Subdivision, cells: usize) -> Answer
 }
 
 // The pieces of a ring of `own` points that passed every test, and their cells over the places from cell_count on. Its
-// doubled area is the one that the tests found.
+// doubled area is the one that the tests found, and the used nodes nearby were collected.
 fn lay_out(
     limits: Limits,
     ring: MarkedRing,
@@ -85,9 +88,12 @@ fn lay_out(
     rims: &mut [u8],
     cells: &mut [NodeNumber],
     cell_count: usize,
+    near: Nearby,
+    numbers: &[NodeNumber],
+    xs: &[f64],
 ) -> Answer
     requires { ⌜ CanDivideRing limits own ring (now nodes) «node_count» (now rims) (now cells) «cell_count» × Whole (partIn ring .points)
-        × (area ≡ natAbs (polygonArea (partIn ring .points))) ⌝ }
+        × (area ≡ natAbs (polygonArea (partIn ring .points))) × ValidNearby (now nodes) «node_count» near (now numbers) (now xs) ⌝ }
     ensures { λ r. ⌜ Leaves (answered limits own (partIn ring) (listsIn (now (nodes .entry)) «node_count» (now (rims .entry))
         (now (cells .entry)) «cell_count») (splitBadVertices limits (partIn ring))
         (outcomeOf limits (partIn ring) (listsIn (now (nodes .entry)) «node_count» (now (rims .entry)) (now (cells .entry)) «cell_count»)))
@@ -109,6 +115,9 @@ fn lay_out(
         ring,
         pieces,
         share,
+        near,
+        numbers,
+        xs,
     );
     let Subdivision::Done {
         nodes: listed,
@@ -129,8 +138,8 @@ fn lay_out(
     }
 }
 
-// The core, which every entry calls: a ring of `own` points, cleaned and with its marks, wherever they came from. Refusals
-// 5 to 7, or its pieces and their cells.
+// The core, which every entry calls: a ring of `own` points, cleaned and with its marks, wherever they came from, and the
+// used nodes nearby. Refusals 5 to 7, or its pieces and their cells.
 pub fn divide_core(
     limits: Limits,
     ring: MarkedRing,
@@ -140,8 +149,12 @@ pub fn divide_core(
     rims: &mut [u8],
     cells: &mut [NodeNumber],
     cell_count: usize,
+    near: Nearby,
+    numbers: &[NodeNumber],
+    xs: &[f64],
 ) -> Answer
-    requires { ⌜ CanDivideRing limits own ring (now nodes) «node_count» (now rims) (now cells) «cell_count» ⌝ }
+    requires { ⌜ CanDivideRing limits own ring (now nodes) «node_count» (now rims) (now cells) «cell_count»
+        × ValidNearby (now nodes) «node_count» near (now numbers) (now xs) ⌝ }
     ensures { λ r. ⌜ Leaves (core limits own (partIn ring) (listsIn (now (nodes .entry)) «node_count» (now (rims .entry)) (now (cells .entry)) «cell_count»))
         (Answers.values r) (now (nodes .entry)) (now (nodes .exit)) (now (rims .exit)) (now (cells .entry)) (now (cells .exit)) ⌝ }
 {
@@ -164,6 +177,9 @@ pub fn divide_core(
         rims,
         cells,
         cell_count,
+        near,
+        numbers,
+        xs,
     )
 }
 
@@ -182,6 +198,26 @@ fn prepared(ring: &[i32], chain: &[i32], size: u32) -> MarkedRing
         ring: cleaned,
         edges: edges,
     }
+}
+
+// The answer of a call that is refused before it touches anything.
+pub fn refused(code: u32, nodes: usize, cells: usize) -> Answer
+    ensures { λ r. ⌜ r ≡ answer.Refused code nodes cells ⌝ }
+{
+    Answer::Refused {
+        code: code,
+        nodes: nodes,
+        cells: cells,
+    }
+}
+
+// How far from the middle of an edge a snap point is taken, as a share of the chord: a chain of fewer than two points snaps
+// no edge.
+fn reach(limits: Limits, chain: usize) -> f64 {
+    if chain < 4 {
+        return 0.0;
+    }
+    limits.share
 }
 
 // The caller's cell list, of which the tests look at the number of places and at how many are used; and the place where
@@ -218,27 +254,44 @@ pub fn divide_with(
         }) (now (cells .entry)) (room .at))
         (Answers.values a) (now (nodes .entry)) (now (nodes .exit)) (now (rims .exit)) (now (cells .entry)) (now (cells .exit))) ⌝ }
 {
-    let code = entry::refusal(
+    let code = entry::points_refusal(limits, ring, chain, size);
+    if code != 0 {
+        return refused(code, node_count, room.at);
+    }
+    let own = ring.len() / 2;
+    let w = extent::window(ring, reach(limits, chain.len()));
+    let mut numbers = [0; MOST_NEARBY];
+    let mut xs = [0.0; MOST_NEARBY];
+    let test = entry::lists_refusal(
         limits,
-        ring,
-        chain,
-        size,
+        own,
         nodes,
         node_count,
         rims,
         room.places,
         room.used,
+        w,
+        &mut numbers,
+        &mut xs,
     );
-    if code != 0 {
-        return Answer::Refused {
-            code: code,
-            nodes: node_count,
-            cells: room.at,
-        };
+    if test.code != 0 {
+        return refused(test.code, node_count, room.at);
     }
-    let own = ring.len() / 2;
+    let near = test.near;
     let marked = prepared(ring, chain, size);
-    divide_core(limits, marked, own, nodes, node_count, rims, cells, room.at)
+    divide_core(
+        limits,
+        marked,
+        own,
+        nodes,
+        node_count,
+        rims,
+        cells,
+        room.at,
+        near,
+        &numbers,
+        &xs,
+    )
 }
 
 // The divider call with the caller's set of limits, over the lists that the caller lends.

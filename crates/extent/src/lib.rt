@@ -1,30 +1,28 @@
 // Extent: the box of a ring, in which nodes are collected for it.
 //
-// It stands between the split and the pieces, which ask it where to collect nodes before the first piece is laid out.
-// The box decides no answer, only where a node is looked for: of a point outside it the whole list is searched. So
-// nothing is promised of it but that it is one. The corners and the snap points of the pieces make it; middles and
-// means lie between them, up to rounding, for which it is a unit wider.
+// It stands between the tests of a ring and the survey of the used nodes, which asks it where to collect them. The box
+// decides no answer, only where a node is looked for: of a point outside it the whole list is searched. So nothing is
+// promised of it but that it is one. The ring's points make it, as they were lent, and the snap points that its edges may
+// take; middles and means lie between them, up to rounding, for which it is a unit wider.
 
+ghost use Prim.Native.Nat.{_+_, _*_, _/_, _≤_};
+ghost use lib.ListN.{length};
 ghost use Rattle.laws.specs.Within.{Within};
+ghost use Rattle.vector.specs.Rings.{mostPoints};
 ghost use Rattle.nodes.specs.Nearby.{Framed};
-ghost use Rattle.parts.specs.Layout.{ValidParts};
-use marks::Edge;
-use marks::EdgeMark;
 use nodes::Window;
-use parts::PartList;
 use vector::GridPoint;
-use vector::MOST_POINTS;
 use vector::Point;
 
 // 1/8192 mm.
 const UNIT: f64 = 0.0001220703125;
 
 // How far some points reach.
-pub struct Extent {
-    pub lo_x: f64,
-    pub hi_x: f64,
-    pub lo_y: f64,
-    pub hi_y: f64,
+struct Extent {
+    lo_x: f64,
+    hi_x: f64,
+    lo_y: f64,
+    hi_y: f64,
 }
 
 fn lesser(a: f64, b: f64) -> f64 {
@@ -39,6 +37,14 @@ fn greater(a: f64, b: f64) -> f64 {
         return b;
     }
     a
+}
+
+// How far two coordinates are apart.
+fn gap(a: f64, b: f64) -> f64 {
+    if a < b {
+        return b - a;
+    }
+    a - b
 }
 
 // A side of the box. It is never beyond 1,025 mm, and that is seen here once.
@@ -62,53 +68,58 @@ impl Extent {
         hi_y: -1024.0,
     };
 
-    fn with(self, p: Point) -> Extent {
+    fn with(self, x: f64, y: f64) -> Extent {
         Extent {
-            lo_x: lesser(self.lo_x, p.x),
-            hi_x: greater(self.hi_x, p.x),
-            lo_y: lesser(self.lo_y, p.y),
-            hi_y: greater(self.hi_y, p.y),
+            lo_x: lesser(self.lo_x, x),
+            hi_x: greater(self.hi_x, x),
+            lo_y: lesser(self.lo_y, y),
+            hi_y: greater(self.hi_y, y),
         }
     }
 
-    fn with_mark(self, m: EdgeMark) -> Extent {
-        match m {
-            EdgeMark::Straight => self,
-            EdgeMark::Snap(q) => self.with(q),
-        }
+    // With the edge from a to b, but for b, which the next edge begins at. A snap point is taken where it is no farther from
+    // the edge's middle than this share of the chord, and a chord is no longer than its width and height together.
+    fn with_edge(self, a: Point, b: Point, share: f64) -> Extent {
+        let r = share * (gap(a.x, b.x) + gap(a.y, b.y));
+        let x = (a.x + b.x) * 0.5;
+        let y = (a.y + b.y) * 0.5;
+        let corner = self.with(a.x, a.y);
+        let low = corner.with(x - r, y - r);
+        low.with(x + r, y + r)
     }
 }
 
-// How far the corners of the pieces and the snap points of their edges reach.
-pub fn of_pieces(
-    ring: [GridPoint; MOST_POINTS],
-    marks: [Edge; MOST_POINTS],
-    pieces: PartList,
-) -> Extent
-    requires { ⌜ ValidParts pieces ⌝ }
+// Point i of a ring, in mm.
+fn point_at(ring: &[i32], i: usize) -> Point
+    requires { ⌜ i * 2 + 2 ≤ length (now ring) ⌝ }
 {
-    let count = pieces.count;
-    let n = pieces.ends[count] as usize;
+    let at = i * 2;
+    Point::new(GridPoint {
+        x: ring[at],
+        y: ring[at + 1],
+    })
+}
+
+// How far the points of a ring reach, and the snap points of its edges.
+fn of_ring(ring: &[i32], share: f64) -> Extent
+    requires { ⌜ length (now ring) / 2 ≤ mostPoints ⌝ }
+{
+    let n = ring.len() / 2;
     let mut e = Extent::NONE;
     for i in 0..n {
-        let c = pieces.corners[i];
-        let k = c.at as usize;
-        let p = ring[k];
-        e = e.with(Point::new(p));
-        let j = c.edge as usize;
-        if j < MOST_POINTS {
-            let d = marks[j];
-            let m = d.mark;
-            e = e.with_mark(m);
-        }
+        let a = point_at(ring, i);
+        let b = point_at(ring, vector::next(i, n));
+        e = e.with_edge(a, b, share);
     }
     e
 }
 
-// The window over this extent.
-pub fn window(e: Extent) -> Window
+// The window over a ring whose edges take snap points up to this share of their chord; 0 where they take none.
+pub fn window(ring: &[i32], share: f64) -> Window
+    requires { ⌜ length (now ring) / 2 ≤ mostPoints ⌝ }
     ensures { λ r. ⌜ Framed r ⌝ }
 {
+    let e = of_ring(ring, share);
     let lo_x = side(e.lo_x - UNIT);
     let hi_x = side(e.hi_x + UNIT);
     let lo_y = side(e.lo_y - UNIT);

@@ -5,18 +5,16 @@
 // is left there. specs/Promise has the promise, in which stands what holds of every accepted ring.
 
 ghost use mathlib.Core.Path.{_≡_};
-ghost use mathlib.Core.List.{List, []};
-ghost use Prim.Native.Nat.{ℕ, _/_};
-ghost use lib.ListN.{length};
+ghost use mathlib.Core.List.{[]};
 ghost use Rattle.corner.specs.Limits.{delivered};
 ghost use Rattle.table.specs.Answers as Answers;
-ghost use Rattle.table.specs.Refusals.{firstOf};
 ghost use Rattle.call.specs.Call as Call;
-ghost use Rattle.call.specs.Marked.{allPoints, markedTests};
+ghost use Rattle.call.specs.Marked.{allPoints};
 ghost use Rattle.marked.specs.Promise.{MarkedPromise};
-ghost use Rattle.marked.specs.Steps.{Tested, Prepares};
+ghost use Rattle.marked.specs.Steps.{earlyRefusal, Tested, Prepares};
 use corner::Limits;
 use marks::MarkedRing;
+use nodes::MOST_NEARBY;
 use nodes::NodeNumber;
 use table::Answer;
 
@@ -30,9 +28,8 @@ fn units_out(ring: &[i32], size: u32) -> bool
     lent_points::size_out(size)
 }
 
-// The first refusal, or 0: 1 and 2 of the ring, 13 and 14 of its marks, 15 of the set, 3 and 4 of the lists. Of the cell list
-// only the number of its places is looked at.
-fn refusal(
+// The first refusal of what is not a list, or 0: 1 and 2 of the ring, 13 and 14 of its marks, 15 of the set.
+fn early_refusal(
     limits: Limits,
     ring: &[i32],
     kinds: &[u8],
@@ -40,23 +37,13 @@ fn refusal(
     outline: &[i32],
     loops: &[u32],
     size: u32,
-    nodes: &[f64],
-    node_count: usize,
-    rims: &[u8],
-    cell_places: usize,
-    cell_count: usize,
 ) -> u32
-    ensures { λ r. ⌜ ((q : List ℕ) → length q / 4 ≡ «cell_places»
-        → r ≡ firstOf (markedTests limits (record {
-          ring = now (ring .entry);
-          marking = record { kinds = now (kinds .entry); snaps = now (snaps .entry); outline = now (outline .entry); loops = now (loops .entry) };
-          size = size;
-          nodes = now (nodes .entry);
-          nodeCount = «node_count»;
-          rims = now (rims .entry);
-          cells = q;
-          cellCount = «cell_count»;
-        }))) ⌝ }
+    ensures { λ r. ⌜ r ≡ earlyRefusal limits (now (ring .entry)) (record {
+      kinds = now (kinds .entry);
+      snaps = now (snaps .entry);
+      outline = now (outline .entry);
+      loops = now (loops .entry);
+    }) size ⌝ }
 {
     if lent_points::counts_out(ring.len(), 0) {
         return 1;
@@ -72,17 +59,6 @@ fn refusal(
     }
     if sets::limits_out(limits) {
         return 15;
-    }
-    if entry::lists_out(nodes, node_count, rims, cell_places, cell_count) {
-        return 3;
-    }
-    if entry::room_out(
-        limits,
-        ring.len() / 2,
-        nodes.len() / 2 - node_count,
-        cell_places - cell_count,
-    ) {
-        return 4;
     }
     0
 }
@@ -142,29 +118,30 @@ pub fn divide_marked_set(
     })
         (Answers.values a) (now (nodes .exit)) (now (rims .exit)) (now (cells .exit)) ⌝ }
 {
-    let places = cells.len() / 4;
-    let code = refusal(
+    let code = early_refusal(limits, ring, kinds, snaps, outline, loops, size);
+    if code != 0 {
+        return divider::refused(code, node_count, cell_count);
+    }
+    let own = ring.len() / 2;
+    let w = extent::window(ring, limits.share);
+    let mut numbers = [0; MOST_NEARBY];
+    let mut xs = [0.0; MOST_NEARBY];
+    let test = entry::lists_refusal(
         limits,
-        ring,
-        kinds,
-        snaps,
-        outline,
-        loops,
-        size,
+        own,
         nodes,
         node_count,
         rims,
-        places,
+        cells.len() / 4,
         cell_count,
+        w,
+        &mut numbers,
+        &mut xs,
     );
-    if code != 0 {
-        return Answer::Refused {
-            code: code,
-            nodes: node_count,
-            cells: cell_count,
-        };
+    if test.code != 0 {
+        return divider::refused(test.code, node_count, cell_count);
     }
-    let own = ring.len() / 2;
+    let near = test.near;
     let marked = marked_ring(ring, kinds, snaps, outline, loops, size);
     divider::divide_core(
         limits,
@@ -175,6 +152,9 @@ pub fn divide_marked_set(
         rims,
         cells,
         cell_count,
+        near,
+        &numbers,
+        &xs,
     )
 }
 

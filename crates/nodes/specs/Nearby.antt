@@ -3,11 +3,10 @@
 use Prim.Native.Nat.{ℕ, zero, suc, _≤_, _<_}
 use mathlib.Core.Path.{_≡_}
 use mathlib.Core.Bool.{Bool, _&&_, cond}
-use mathlib.Core.List.{List, [], _∷_, _++_, map}
+use mathlib.Core.List.{List, [], _∷_, map}
 use lib.IntN.{ℤ, pos, _+ℤ_, _-ℤ_}
 use lib.Signed.{ltZ}
-use lib.ListN.{length, getD, take, drop}
-use lib.Dec.{leb}
+use lib.ListN.{length, getD, take}
 use lib.Ieee.{Float, nan}
 use Rattle.laws.specs.Double.{int, _≤f_}
 use Rattle.laws.specs.Within.{Within}
@@ -72,29 +71,6 @@ inside w l n = chosen (insideAt w l) n 0
 
 abbrev pub xsOf : List Float → List ℕ → List Float
 xsOf l ks = map (λ k. nodeIn l k .x) ks
-
--- so many are said to be held where there are n: one above the most where there are more
-unfoldable pub counted : ℕ → ℕ
-counted n = cond (leb n mostNearby) n (suc mostNearby)
-
--- l with the list u over its first places, as far as it is held
-unfoldable pub laid {ℓ} : {A : Type ℓ} → List A → List A → List A
-laid u l = take mostNearby u ++ drop (length (take mostNearby u)) l
-
--- what `collect` answers
-abbrev pub nearby : Window → List Float → ℕ → Nearby
-nearby w l old = record { window = w; old = old; count = counted (length (inside w l old)) }
-
--- the nodes of the first n places are collected over the lists a and b, which are now numbers and xs: r are held
-pub record Gathered (l : List Float) (w : Window) (n : ℕ) (a : List ℕ) (b : List Float) (numbers : List ℕ) (xs : List Float) (r : ℕ) : Type 0 where
-  pub count : r ≡ counted (length (inside w l n))
-  pub are : numbers ≡ laid (inside w l n) a
-  pub are-x : xs ≡ laid (xsOf l (inside w l n)) b
-
--- the same goes on: from place m, where the lists are c and d and k are held, to place n
-abbrev pub GoesOn : List Float → Window → ℕ → List ℕ → List Float → ℕ → ℕ → List ℕ → List Float → ℕ → Type 0
-GoesOn l w m c d k n numbers xs r =
-    (a : List ℕ) (b : List Float) → length a ≡ mostNearby → length b ≡ mostNearby → Gathered l w m a b c d k → Gathered l w n a b numbers xs r
 
 -- what the search asks of them: the first `count` of the numbers, and of the xs, are those of the nodes of the first n
 -- places that are in the window

@@ -2,7 +2,8 @@
 //
 // It stands under Numbering, which gives the points of all pieces their numbers, and the list goes on from piece to piece and
 // from ring to ring. It is a lent slice of doubles, x and y in turn, whose first `used` places hold nodes; specs/Flat has the
-// words for that. A ring's box is known before its first point is sought: one pass collects the nodes in it (`nearby`).
+// words for that. A ring's box is known before its first point is sought: the nodes in it are collected (`survey`), and a
+// point is looked for among them (`nearby`).
 
 mod held;
 mod nearby;
@@ -11,9 +12,9 @@ pub use held::all_held;
 pub use held::is_held;
 pub use nearby::MOST_NEARBY;
 pub use nearby::Nearby;
+pub use nearby::Span;
 pub use nearby::Window;
 pub use nearby::block_end;
-pub use nearby::collect;
 pub use nearby::find_listed;
 
 // The number of a node: its place in the list.

@@ -1,4 +1,4 @@
-// Nearby: the nodes in a ring's box, collected in one pass over the list, and the search among them.
+// Nearby: the nodes in a ring's box, which `survey` collects, and the search among them.
 //
 // A coordinate's key grows with it. So a point whose keys lie strictly between those of the sides of the box shares its keys
 // with no node outside, and is looked for among the collected nodes alone. specs/Nearby has the words for that.
@@ -13,8 +13,7 @@ ghost use Rattle.laws.specs.Within.{Within};
 ghost use Rattle.laws.specs.Bounded.{any, first};
 ghost use Rattle.nodes.specs.Flat.{Usable};
 ghost use Rattle.keys.specs.Keys.{keyOf, Sought, near};
-ghost use Rattle.nodes.specs.Nearby.{mostNearby, span, Spans, inSpan, Framed, inWindow, wellIn, wellInside, inside};
-ghost use Rattle.nodes.specs.Nearby.{xsOf, laid, nearby, Gathered, GoesOn, NearbyLists, hasListed};
+ghost use Rattle.nodes.specs.Nearby.{mostNearby, span, Spans, inSpan, Framed, inWindow, wellIn, wellInside, NearbyLists, hasListed};
 use super::NodeNumber;
 use keys::SoughtKey;
 
@@ -125,136 +124,6 @@ pub fn block_end(i: usize, size: usize, last: usize) -> usize
         return last;
     }
     i + size
-}
-
-// Whether one of 64 coordinates, every other from place `at` on, is in the span. Nothing ends the loop, so that several are
-// judged at once.
-fn any_in(nodes: &[f64], at: usize, s: Span) -> bool
-    requires { ⌜ at + 127 ≤ length (now nodes) ⌝ }
-    ensures { λ r. ⌜ r ≡ any (λ j. inSpan s (getD (now (nodes .entry)) (at + j * 2) nan)) 64 ⌝ }
-{
-    let mut found = false;
-    for j in 0..64 {
-        found = found | s.holds(nodes[at + j * 2]);
-    }
-    found
-}
-
-// The nodes from place `from` on that are in the window go after the n collected before.
-fn collect_in(
-    nodes: &[f64],
-    from: usize,
-    to: usize,
-    w: Window,
-    numbers: &mut [NodeNumber],
-    xs: &mut [f64],
-    n: usize,
-) -> usize
-    requires { ⌜ Usable (now nodes) to × (from ≤ to) × (length (now numbers) ≡ mostNearby) × (length (now xs) ≡ mostNearby) × (n ≤ mostNearby) ⌝ }
-    ensures { λ r. ⌜ GoesOn (now (nodes .entry)) w from (now (numbers .entry)) (now (xs .entry)) n to (now (numbers .exit)) (now (xs .exit)) r ⌝ }
-{
-    let mut k = n;
-    for i in from..to {
-        let x = nodes[i * 2];
-        let y = nodes[i * 2 + 1];
-        if w.holds(x, y) {
-            if k >= MOST_NEARBY {
-                return MOST_NEARBY + 1;
-            }
-            numbers[k] = i as NodeNumber;
-            xs[k] = x;
-            k += 1;
-        }
-    }
-    k
-}
-
-// The same as collect_in of at most 64 nodes. The 64 before `to` are judged first, and one that stands before `from` does no
-// harm: nearly always none of them has its x in the window, or else none its y.
-fn collect_block(
-    nodes: &[f64],
-    from: usize,
-    to: usize,
-    w: Window,
-    numbers: &mut [NodeNumber],
-    xs: &mut [f64],
-    n: usize,
-) -> usize
-    requires { ⌜ Usable (now nodes) to × (from ≤ to) × (to ≤ from + 64) × (64 ≤ to)
-        × (length (now numbers) ≡ mostNearby) × (length (now xs) ≡ mostNearby) × (n ≤ mostNearby) ⌝ }
-    ensures { λ r. ⌜ GoesOn (now (nodes .entry)) w from (now (numbers .entry)) (now (xs .entry)) n to (now (numbers .exit)) (now (xs .exit)) r ⌝ }
-{
-    let at = (to - 64) * 2;
-    let across = w.x;
-    if !any_in(nodes, at, across) {
-        return n;
-    }
-    let along = w.y;
-    if !any_in(nodes, at + 1, along) {
-        return n;
-    }
-    collect_in(nodes, from, to, w, numbers, xs, n)
-}
-
-// The same from the first place on, where there are 64 or more.
-fn collect_blocks(
-    nodes: &[f64],
-    old: usize,
-    w: Window,
-    numbers: &mut [NodeNumber],
-    xs: &mut [f64],
-) -> usize
-    requires { ⌜ Usable (now nodes) old × (64 ≤ old) × (length (now numbers) ≡ mostNearby) × (length (now xs) ≡ mostNearby) ⌝ }
-    ensures { λ r. ⌜ Gathered (now (nodes .entry)) w old (now (numbers .entry)) (now (xs .entry)) (now (numbers .exit)) (now (xs .exit)) r ⌝ }
-{
-    let mut i = 0;
-    let mut n = 0;
-    while i < old {
-        let to = block_end(i, 64, old);
-        n = collect_block(nodes, i, to, w, numbers, xs, n);
-        if n > MOST_NEARBY {
-            return n;
-        }
-        i = to;
-    }
-    n
-}
-
-// The same of all nodes in the first `old` places.
-fn collect_all(
-    nodes: &[f64],
-    old: usize,
-    w: Window,
-    numbers: &mut [NodeNumber],
-    xs: &mut [f64],
-) -> usize
-    requires { ⌜ Usable (now nodes) old × (length (now numbers) ≡ mostNearby) × (length (now xs) ≡ mostNearby) ⌝ }
-    ensures { λ r. ⌜ Gathered (now (nodes .entry)) w old (now (numbers .entry)) (now (xs .entry)) (now (numbers .exit)) (now (xs .exit)) r ⌝ }
-{
-    if old < 64 {
-        return collect_in(nodes, 0, old, w, numbers, xs, 0);
-    }
-    collect_blocks(nodes, old, w, numbers, xs)
-}
-
-// The nodes in the first `old` places that are in the window: their numbers, rising, and their x.
-pub fn collect(
-    nodes: &[f64],
-    old: usize,
-    w: Window,
-    numbers: &mut [NodeNumber],
-    xs: &mut [f64],
-) -> Nearby
-    requires { ⌜ Usable (now nodes) old × (length (now numbers) ≡ mostNearby) × (length (now xs) ≡ mostNearby) ⌝ }
-    ensures { λ r. ⌜ (r ≡ nearby w (now (nodes .entry)) old) × (now (numbers .exit) ≡ laid (inside w (now (nodes .entry)) old) (now (numbers .entry)))
-        × (now (xs .exit) ≡ laid (xsOf (now (nodes .entry)) (inside w (now (nodes .entry)) old)) (now (xs .entry))) ⌝ }
-{
-    let n = collect_all(nodes, old, w, numbers, xs);
-    Nearby {
-        window: w,
-        old: old,
-        count: n,
-    }
 }
 
 // Whether one of 16 collected nodes is near the key.

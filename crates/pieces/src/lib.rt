@@ -13,6 +13,7 @@ ghost use Rattle.vector.specs.declared.GridPoint.{GridPoint};
 ghost use Rattle.parts.specs.Layout.{ValidParts};
 ghost use Rattle.parts.specs.Pieces.{pieceIn};
 ghost use Rattle.nodes.specs.Flat.{over};
+ghost use Rattle.nodes.specs.Nearby.{ValidNearby};
 ghost use Rattle.quads.specs.Quads.{noCell};
 ghost use Rattle.cells.specs.Stages.{nodesOf};
 ghost use Rattle.cells.specs.Asks.{ofRing};
@@ -20,7 +21,7 @@ ghost use Rattle.cells.specs.Rims.{rimsBy};
 ghost use Rattle.quads.specs.Flat.{overCells};
 ghost use Rattle.pieces.specs.Flat.{outcomeIn, everyMark, asksIn, CanSubdivide, row, rowOf, overFrom, cellsLeft};
 use marks::MarkedRing;
-use nodes::MOST_NEARBY;
+use nodes::Nearby;
 use nodes::NodeNumber;
 use parts::PartList;
 use parts::Vertex;
@@ -65,8 +66,8 @@ fn piece_sides(pieces: PartList, i: usize) -> [bool; MOST_POINTS]
     out
 }
 
-// The pieces over the first `used` nodes, their cells over the places from `first` on. After a failure `reserve` places
-// from there on are zero.
+// The pieces over the first `used` nodes, of which those nearby were collected; their cells over the places from `first` on.
+// After a failure `reserve` places from there on are zero.
 pub fn subdivide_all(
     nodes: &mut [f64],
     used: usize,
@@ -77,9 +78,13 @@ pub fn subdivide_all(
     ring: MarkedRing,
     pieces: PartList,
     share: f64,
+    near: Nearby,
+    numbers: &[NodeNumber],
+    xs: &[f64],
 ) -> Subdivision
     requires { ⌜ CanSubdivide share (now nodes) used (now cells) first reserve (ring .ring .points) (ring .edges) pieces
-        × (length (nodesOf (outcomeIn share (now nodes) used (ring .ring .points) (ring .edges) pieces)) ≤ length (now rims)) ⌝ }
+        × (length (nodesOf (outcomeIn share (now nodes) used (ring .ring .points) (ring .edges) pieces)) ≤ length (now rims))
+        × ValidNearby (now nodes) used near (now numbers) (now xs) ⌝ }
     ensures { λ r. ⌜ (row r ≡ rowOf (outcomeIn share (now (nodes .entry)) used (ring .ring .points) (ring .edges) pieces))
         × (now (nodes .exit) ≡ over (now (nodes .entry)) (nodesOf (outcomeIn share (now (nodes .entry)) used (ring .ring .points) (ring .edges) pieces)))
         × (now (cells .exit) ≡ overFrom (now (cells .entry)) first (cellsLeft reserve
@@ -90,11 +95,6 @@ pub fn subdivide_all(
     let own = ring.ring;
     let points = own.points;
     let edges = ring.edges;
-    let e = extent::of_pieces(points, edges, pieces);
-    let w = extent::window(e);
-    let mut numbers = [0; MOST_NEARBY];
-    let mut xs = [0.0; MOST_NEARBY];
-    let near = nodes::collect(nodes, used, w, &mut numbers, &mut xs);
     let mut u = used;
     let mut at = first;
     for i in 0..pieces.count {
@@ -113,8 +113,8 @@ pub fn subdivide_all(
             sides,
             share,
             near,
-            &numbers,
-            &xs,
+            numbers,
+            xs,
         );
         if t.fails != n {
             let window = first * 4;

@@ -1,5 +1,4 @@
 -- `divide_core`: refusals 5 to 7 leave everything as found, and else the pieces are laid out.
-use mathlib.Core.Path.{_≡_}
 use borrow.Author.Needs.{needs}
 use Rattle.marks.specs.Edges.{partIn}
 use Rattle.vector.specs.Rings.{pointsOf}
@@ -9,24 +8,25 @@ use Rattle.divider.proofs.divide_core.Statement.{statement}
 use Rattle.divider.proofs.divide_core.Tie as tie
 
 ring-refusal-requires : tie.Need-ring-refusal-requires
-ring-refusal-requires c κs = c .before .before .before .before .pre .held .ring
+ring-refusal-requires c κs = c .before .before .before .before .before .before .pre .0 .held .ring
 
 returns : tie.Need-returns
 returns c =
-    let a = c .before .before .before .before .before .before .before .args in
+    let a = c .before .before .before .before .before .before .before .before .before .args in
     let n = c .before .before .ring-refusal in
     core-refused (a .limits) (a .own) (partIn (a .ring)) (a .nodes .now) (a .node-count) (a .rims .now) (a .cells .now) (a .cell-count) (n .result .code)
     (code-is (pointsOf (a .ring .ring)) (n .ensures)) (c .if1 .taken)
 
 lay-out-requires : tie.Need-lay-out-requires
 lay-out-requires c κs =
-    let s = c .before .before .before .before .before .before .before .before .before .before in
+    let s = c .before .before .before .before .before .before .before .before .before .before .before .before in
     let a = s .args in
     let n = c .before .before .before .before .before .ring-refusal in (
-      s .pre,
+      s .pre .0,
       core-whole (a .limits) (a .own) (partIn (a .ring)) (a .nodes .now) (a .node-count) (a .rims .now) (a .cells .now) (a .cell-count) (n .result .code)
           (code-is (pointsOf (a .ring .ring)) (n .ensures)) (c .before .before .before .if1 .left),
       area-is (pointsOf (a .ring .ring)) (n .ensures) (c .before .before .before .if1 .left),
+      s .pre .1,
     )
 
 same-length : tie.Need-same-length
@@ -40,7 +40,9 @@ same-length-3 c = search needs
 
 returns-2 : tie.Need-returns-2
 returns-2 c =
-    let a = c .before .before .before .before .before .before .before .before .before .before .before .before .before .before .before .before .before .args in
+    let a =
+    c .before .before .before .before .before .before .before .before .before .before .before .before .before .before .before .before .before
+    .before .before .args in
     let n = c .before .before .before .before .before .before .before .before .before .before .before .before .ring-refusal in
     core-laid (a .limits) (a .own) (partIn (a .ring)) (a .nodes .now) (a .node-count) (a .rims .now) (a .cells .now) (a .cell-count) (n .result .code)
     (code-is (pointsOf (a .ring .ring)) (n .ensures))

@@ -1,10 +1,9 @@
 -- `lay_out`: the answer of the pieces, done or failed, is the definition's.
 use native.Mathlib.Omega.{arith}
-use mathlib.Core.Path.{_≡_, sym, ap, _∙_}
+use mathlib.Core.Path.{sym, ap, _∙_}
 use lib.Seq.{length-take-le}
 use borrow.Author.Needs.{needs}
 use Rattle.vector.proofs.Rings.{room}
-use Rattle.marks.specs.declared.MarkedRing.{MarkedRing}
 use Rattle.parts.specs.Pieces.{marksOf}
 use Rattle.nodes.specs.Flat.{over}
 use Rattle.cells.specs.Pieces.{Outcome}
@@ -14,7 +13,6 @@ use Rattle.pieces.specs.Flat.{everyMark, row, rowOf, overFrom, cellsLeft}
 use Rattle.pieces.proofs.Cases.{if-done, if-failed}
 use Rattle.table.specs.Answers.{values}
 use Rattle.call.proofs.Course.{Divisible, outcomeOf}
-use Rattle.divider.specs.Promise.{Leaves}
 use Rattle.marks.specs.Edges.{partIn}
 use Rattle.divider.specs.Steps.{listsIn, failedAnswer}
 use Rattle.divider.proofs.Leaving.{moved}
@@ -30,7 +28,7 @@ sought s = record { prepared = s .pre .0 .prepared; whole = s .pre .1 }
 
 cell-reserve-requires : tie.Need-cell-reserve-requires
 cell-reserve-requires c κs =
-    let s = c .before .before .before .before in
+    let s = c .before .before .before .before .before .before in
     let a = s .args in (
       three (a .limits) (a .own) (a .ring) (a .nodes .now) (a .node-count) (a .rims .now) (a .cells .now) (a .cell-count) (sought s) .1,
       s .pre .0 .prepared .few,
@@ -38,14 +36,14 @@ cell-reserve-requires c κs =
 
 split-bad-vertices-requires : tie.Need-split-bad-vertices-requires
 split-bad-vertices-requires c κs =
-    let s = c .before .before .before .before .before in
+    let s = c .before .before .before .before .before .before .before in
     let a = s .args in
     let k = s .pre .0 in
     (k .held .ring, three (a .limits) (a .own) (a .ring) (a .nodes .now) (a .node-count) (a .rims .now) (a .cells .now) (a .cell-count) (sought s) .0, k .cuts)
 
 subdivide-all-requires : tie.Need-subdivide-all-requires
 subdivide-all-requires c κs =
-    let s = c .before .before .before .before .before .before .before .before .before .before in
+    let s = c .before .before .before .before .before .before .before .before .before .before .before .before in
     let a = s .args in
     let r = c .before .before .before .before .before .cell-reserve in
     let t = c .before .before .before .before .split-bad-vertices in
@@ -53,6 +51,7 @@ subdivide-all-requires c κs =
       can-subdivide (a .limits) (a .own) (a .ring) (a .nodes .now) (a .node-count) (a .rims .now) (a .cells .now) (a .cell-count) (sought s) (t .result) w
           (r .result) (r .ensures) (s .pre .0 .held .ring .points) (t .ensures .1),
       mark-room-in (a .limits) (a .own) (a .ring) (a .nodes .now) (a .node-count) (a .rims .now) (a .cells .now) (a .cell-count) (sought s) (t .result) w,
+      s .pre .3,
     )
 
 enum-known-laid : tie.Need-enum-known-laid
@@ -76,8 +75,8 @@ same-length-3 c = search needs
 returns : tie.Need-returns
 returns c =
     let s =
-    c .before .before .before .before .before .before .before .before .before .before .before .before .before .before .before .before .before .before .before
-    .before in
+    c .before .before .before .before .before .before .before .before .before .before .before .before .before .before .before .before .before
+    .before .before .before .before .before in
     let a = s .args in
     let r = c .before .before .before .before .before .before .before .before .before .before .before .before .before .before .before .cell-reserve in
     let t = c .before .before .before .before .before .before .before .before .before .before .before .before .before .before .split-bad-vertices in
@@ -98,14 +97,14 @@ returns c =
 
 mark-count-requires : tie.Need-mark-count-requires
 mark-count-requires c κs =
-    c .before .before .before .before .before .before .before .before .before .before .before .before .before .before .before .before .before .before .before
-    .before .pre .0 .held
+    c .before .before .before .before .before .before .before .before .before .before .before .before .before .before .before .before .before
+    .before .before .before .before .before .pre .0 .held
 
-add-t26 : tie.Need-add-t26
-add-t26 c =
+add-t29 : tie.Need-add-t29
+add-t29 c =
     let s =
-    c .before .before .before .before .before .before .before .before .before .before .before .before .before .before .before .before .before .before .before
-    .before .before in
+    c .before .before .before .before .before .before .before .before .before .before .before .before .before .before .before .before .before
+    .before .before .before .before .before .before in
     let a = s .args in
     let t =
     c .before .before .before .before .before .before .before .before .before .before .before .before .before .before .before
@@ -131,8 +130,8 @@ same-length-6 c = search needs
 returns-2 : tie.Need-returns-2
 returns-2 c =
     let s =
-    c .before .before .before .before .before .before .before .before .before .before .before .before .before .before .before .before .before .before .before
-    .before .before in
+    c .before .before .before .before .before .before .before .before .before .before .before .before .before .before .before .before .before
+    .before .before .before .before .before .before in
     let a = s .args in
     let r =
     c .before .before .before .before .before .before .before .before .before .before .before .before .before .before .before .before
@@ -176,7 +175,7 @@ lay-out-spec =
     same-length-3
     returns
     mark-count-requires
-    add-t26
+    add-t29
     same-length-4
     same-length-5
     same-length-6

@@ -7,7 +7,6 @@ use borrow.Rule.Slice.PartMut.{putMid}
 use Rattle.vector.proofs.Rings as rings
 use Rattle.marks.specs.declared.MarkedRing.{MarkedRing}
 use Rattle.parts.specs.Pieces.{marksOf}
-use Rattle.nodes.proofs.Gathering as gathering
 use Rattle.pieces.proofs.Course as course
 use Rattle.pieces.proofs.Course.{Reached, Read}
 use borrow.Author.Needs.{needs}
@@ -16,15 +15,15 @@ use Rattle.pieces.proofs.subdivide_all.Statement.{statement}
 use Rattle.pieces.proofs.subdivide_all.Tie as tie
 
 abbrev Inv-loop : tie.InvT-loop
-Inv-loop nodes₀ used rims₀ cells₀ first reserve pieces share points edges numbers xs near u₀ at₀ i₀ i-end nodes rims cells u at i =
+Inv-loop nodes₀ used rims₀ cells₀ first reserve pieces share near numbers xs points edges u₀ at₀ i₀ i-end nodes rims cells u at i =
     (i ≤ pieces .count) × (i-end ≡ pieces .count) × Reached share nodes₀ used rims₀ cells₀ first points edges pieces i nodes u rims cells at
 
 abbrev μ-loop : tie.MeasureT-loop
-μ-loop nodes₀ used rims₀ cells₀ first reserve pieces share points edges numbers xs near u₀ at₀ i₀ i-end nodes rims cells u at i = pieces .count - i
+μ-loop nodes₀ used rims₀ cells₀ first reserve pieces share near numbers xs points edges u₀ at₀ i₀ i-end nodes rims cells u at i = pieces .count - i
 
 -- where the function began
 abbrev begin : tie.At-loop Inv-loop μ-loop → tie.Start Inv-loop μ-loop
-begin c = c .before .before .before .before .before .before .before .before .before .before .before .before .before .before .before
+begin c = c .before .before .before .before .before .before .before .before .before
 
 -- piece i has been read
 abbrev piece : tie.After-piece-sides Inv-loop μ-loop → MarkedRing
@@ -59,48 +58,29 @@ long c = course.long-cells (begin c .pre .0) _ (c .loop .inv .2) (c .loop .inv .
 -- after the piece the list still has the places that are to be cleared
 window : (c : tie.Then1 Inv-loop μ-loop)
     → let y = c .before .before .before .before .before .before .before .before in
-    let o = y .before .before .before .before .before .before .before .before .before .before in
+    let o = y .before .before .before .before .before .before .before .before in
     let a = begin o .args in
     (a .first + a .reserve) * 4 ≤ length
     (putMid (o .loop .at * 4) (length (o .loop .cells) - o .loop .at * 4) (o .loop .cells) (y .subdivide .last .1 .1 .1 .0))
 window c =
     let y = c .before .before .before .before .before .before .before .before in
-    let x = y .before .before .before .before .before .before in
+    let x = y .before .before .before .before in
     let o = x .before .before .before .before in
     course.clear-room (begin o .pre .0) _ (o .loop .inv .2) (read x) (y .subdivide .ensures)
 
-of-pieces-requires : tie.Need-of-pieces-requires Inv-loop μ-loop
-of-pieces-requires c κs = search needs
-
-window-requires : tie.Need-window-requires Inv-loop μ-loop
-window-requires c κs = search needs
-
-slice-aggregate-collect : tie.Need-slice-aggregate-collect Inv-loop μ-loop
-slice-aggregate-collect c = search needs
-
-slice-aggregate-collect-2 : tie.Need-slice-aggregate-collect-2 Inv-loop μ-loop
-slice-aggregate-collect-2 c = search needs
-
-collect-requires : tie.Need-collect-requires Inv-loop μ-loop
-collect-requires c κs =
-    let s = c .before .before .before .before .before .before .before .before .before .before .before in
-    (s .pre .0 .usable, refl, refl)
-
 -- the places to be cleared begin within the list
 low : (c : tie.Then1 Inv-loop μ-loop)
-    → let o = c .before .before .before .before .before .before .before .before .before .before .before .before .before .before .before .before .before
-    .before in
+    → let o = c .before .before .before .before .before .before .before .before .before .before .before .before .before .before .before .before in
     begin o .args .first * 16 < 2 ^ 64
 low c =
-    let o =
-    c .before .before .before .before .before .before .before .before .before .before .before .before .before .before .before .before .before .before in
+    let o = c .before .before .before .before .before .before .before .before .before .before .before .before .before .before .before .before in
     omega (arith, begin o .pre .0 .places, begin o .good .1 .1 .1 .0)
 
 loop-holds : tie.Need-loop-holds Inv-loop μ-loop
 loop-holds c = (
   search needs,
   refl,
-  course.start (c .before .before .before .before .before .before .before .before .before .before .before .before .before .before .pre .0) _,
+  course.start (c .before .before .before .before .before .before .before .before .pre .0) _,
 )
 
 piece-points-requires : tie.Need-piece-points-requires Inv-loop μ-loop
@@ -127,22 +107,13 @@ part-subdivide-start c = omega (arith, room (c .before .before))
 part-subdivide-end : tie.Need-part-subdivide-end Inv-loop μ-loop
 part-subdivide-end c = search needs
 
-slice-aggregate-subdivide : tie.Need-slice-aggregate-subdivide Inv-loop μ-loop
-slice-aggregate-subdivide c = search needs
-
-slice-aggregate-subdivide-2 : tie.Need-slice-aggregate-subdivide-2 Inv-loop μ-loop
-slice-aggregate-subdivide-2 c = search needs
-
 subdivide-requires : tie.Need-subdivide-requires Inv-loop μ-loop
 subdivide-requires c κs =
-    let x = c .before .before .before .before .before in
-    let o = x .before .before .before .before in
-    let k = o .before .before .before in
-    let e = k .collect .ensures in (
+    let x = c .before .before .before in
+    let o = x .before .before .before .before in (
       course.can (begin o .pre .0) _ (o .loop .inv .2) (read x),
       simp (length-take, length-drop) (omega (arith, room x)),
-      course.held (begin o .pre .0) _ (o .loop .inv .2)
-          (gathering.held _ _ _ _ _ _ _ _ refl refl (k .before .before .before .before .window .ensures) (e .0) (e .1) (e .2)),
+      course.held (begin o .pre .0) _ (o .loop .inv .2) (begin o .pre .2),
       course.rim-room (begin o .pre .0) _ (o .loop .inv .2) (read x) (begin o .pre .1),
     )
 
@@ -167,19 +138,19 @@ clear-requires c κs = simp (length-take, length-drop) (omega (arith, window (c 
 same-length : tie.Need-same-length Inv-loop μ-loop
 same-length c =
     let y = c .before .before .before .before .before .before .before .before .before .before .before .before in
-    let o = y .before .before .before .before .before .before .before .before .before .before in
+    let o = y .before .before .before .before .before .before .before .before in
     y .subdivide .kept .0 ∙ course.long-nodes (begin o .pre .0) _ (o .loop .inv .2) (o .loop .inv .0)
 
 same-length-2 : tie.Need-same-length-2 Inv-loop μ-loop
 same-length-2 c =
     let y = c .before .before .before .before .before .before .before .before .before .before .before .before in
-    let o = y .before .before .before .before .before .before .before .before .before .before in
+    let o = y .before .before .before .before .before .before .before .before in
     y .subdivide .kept .1 .1 .0 ∙ course.long-rims (begin o .pre .0) _ (o .loop .inv .2)
 
 same-length-3 : tie.Need-same-length-3 Inv-loop μ-loop
 same-length-3 c =
     let y = c .before .before .before .before .before .before .before .before .before .before .before .before in
-    let x = y .before .before .before .before .before .before in
+    let x = y .before .before .before .before in
     let o = x .before .before .before .before in
     course.long-cleared (begin o .pre .0) _ (o .loop .inv .2) (read x) (y .subdivide .ensures) (c .before .before .clear .ensures)
 
@@ -187,19 +158,19 @@ returns : tie.Need-returns Inv-loop μ-loop
 returns c =
     let t = c .before .before .before .before in
     let y = t .before .before .before .before .before .before .before .before in
-    let x = y .before .before .before .before .before .before in
+    let x = y .before .before .before .before in
     let o = x .before .before .before .before in
     course.after-failure (begin o .pre .0) _ (o .loop .inv .2) (read x) (y .subdivide .ensures) (c .before .before .clear .ensures) (t .if1 .taken)
 
 add-at : tie.Need-add-at Inv-loop μ-loop
 add-at c =
-    let x = c .before .before .before .before .before .before .before .before .before .before .before .before .before .before in
+    let x = c .before .before .before .before .before .before .before .before .before .before .before .before in
     let o = x .before .before .before .before in
     omega (arith, room x, long o, begin o .good .1 .1 .1 .0)
 
 add-i : tie.Need-add-i Inv-loop μ-loop
 add-i c =
-    let x = c .before .before .before .before .before .before .before .before .before .before .before .before .before .before in
+    let x = c .before .before .before .before .before .before .before .before .before .before .before .before in
     let o = x .before .before .before .before in
     omega (arith, read x .count, begin o .pre .0 .kept .few)
 
@@ -209,12 +180,12 @@ loop-less c = search needs
 loop-again : tie.Need-loop-again Inv-loop μ-loop
 loop-again c =
     let y = c .before .before .before .before .before .before .before .before in
-    let x = y .before .before .before .before .before .before in
+    let x = y .before .before .before .before in
     let o = x .before .before .before .before in
     (search needs, search needs, course.go-on (begin o .pre .0) _ (o .loop .inv .2) (read x) (y .subdivide .ensures) (c .if1 .left))
 
-sub-t55 : tie.Need-sub-t55 Inv-loop μ-loop
-sub-t55 c = search needs
+sub-t43 : tie.Need-sub-t43 Inv-loop μ-loop
+sub-t43 c = search needs
 
 same-length-4 : tie.Need-same-length-4 Inv-loop μ-loop
 same-length-4 c = let o = c .before in course.long-nodes (begin o .pre .0) _ (o .loop .inv .2) (o .loop .inv .0)
@@ -237,11 +208,6 @@ subdivide-all-spec =
     (tie.spec
     Inv-loop
     μ-loop
-    of-pieces-requires
-    window-requires
-    slice-aggregate-collect
-    slice-aggregate-collect-2
-    collect-requires
     loop-holds
     piece-points-requires
     piece-marks-requires
@@ -251,8 +217,6 @@ subdivide-all-spec =
     sub-subdivide
     part-subdivide-start
     part-subdivide-end
-    slice-aggregate-subdivide
-    slice-aggregate-subdivide-2
     subdivide-requires
     mul-window
     mul-clear
@@ -268,7 +232,7 @@ subdivide-all-spec =
     add-i
     loop-less
     loop-again
-    sub-t55
+    sub-t43
     same-length-4
     same-length-5
     same-length-6

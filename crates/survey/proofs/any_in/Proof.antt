@@ -7,9 +7,9 @@ use lib.ListN.{getD}
 use lib.Ieee.{nan}
 use Rattle.laws.proofs.Search.{any-next}
 use Rattle.laws.specs.Bounded.{any}
 use Rattle.nodes.specs.Nearby.{inSpan}
-use Rattle.nodes.proofs.nearby.any_in.Statement.{statement}
-use Rattle.nodes.proofs.nearby.any_in.Tie as tie
+use Rattle.survey.proofs.any_in.Statement.{statement}
+use Rattle.survey.proofs.any_in.Tie as tie
 
 abbrev Inv-loop : tie.InvT-loop
 Inv-loop nodes at s found₀ j₀ found j = (j ≤ 64) × (found ≡ any (λ k. inSpan s (getD nodes (at + k * 2) nan)) j)

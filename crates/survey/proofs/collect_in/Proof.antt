@@ -7,11 +7,12 @@ use mathlib.Core.List.{List}
 use borrow.Author.Needs.{needs}
 use lib.ListN.{length, length-set}
 use lib.Ieee.{Float}
 use Rattle.nodes.specs.declared.nearby.Window.{Window}
-use Rattle.nodes.specs.Nearby.{mostNearby, insideAt, GoesOn}
-use Rattle.nodes.proofs.Gathering as gathering
-use Rattle.nodes.proofs.nearby.collect_in.Statement.{statement}
-use Rattle.nodes.proofs.nearby.collect_in.Tie as tie
+use Rattle.nodes.specs.Nearby.{mostNearby, insideAt}
+use Rattle.survey.specs.Survey.{GoesOn}
+use Rattle.survey.proofs.Gathering as gathering
+use Rattle.survey.proofs.collect_in.Statement.{statement}
+use Rattle.survey.proofs.collect_in.Tie as tie
 
 abbrev State : List Float → Window → ℕ → List ℕ → List Float → ℕ → ℕ → List ℕ → List Float → ℕ → Type 0
 State nodes w from numbers₀ xs₀ n i numbers xs k =
@@ -24,7 +25,7 @@ abbrev μ-loop : tie.MeasureT-loop
 μ-loop nodes from to w numbers₀ xs₀ n k₀ i₀ numbers xs k i = to - i
 
 loop-holds : tie.Need-loop-holds Inv-loop μ-loop
-loop-holds c = let s = c .before .before .before in (search needs, (s .pre .4, s .pre .2, s .pre .3, λ a b p q g. g))
+loop-holds c = let s = c .before .before .before in (search needs, (s .pre .5, s .pre .3, s .pre .4, λ a b p q g. g))
 
 mul-x : tie.Need-mul-x Inv-loop μ-loop
 mul-x c = search needs
@@ -54,10 +55,10 @@ add-result : tie.Need-add-result Inv-loop μ-loop
 add-result c = search needs
 
 same-length : tie.Need-same-length Inv-loop μ-loop
-same-length c = let o = c .before .before .before .before .before .before in o .loop .inv .1 .1 ∙ sym (o .before .before .before .before .pre .2)
+same-length c = let o = c .before .before .before .before .before .before in o .loop .inv .1 .1 ∙ sym (o .before .before .before .before .pre .3)
 
 same-length-2 : tie.Need-same-length-2 Inv-loop μ-loop
-same-length-2 c = let o = c .before .before .before .before .before .before in o .loop .inv .1 .2 ∙ sym (o .before .before .before .before .pre .3)
+same-length-2 c = let o = c .before .before .before .before .before .before in o .loop .inv .1 .2 ∙ sym (o .before .before .before .before .pre .4)
 
 returns : tie.Need-returns Inv-loop μ-loop
 unfolding insideAt
@@ -124,10 +125,10 @@ loop-again : tie.Need-loop-again Inv-loop μ-loop
 loop-again c = (search needs, joined c)
 
 same-length-3 : tie.Need-same-length-3 Inv-loop μ-loop
-same-length-3 c = c .before .loop .inv .1 .1 ∙ sym (c .before .before .before .before .before .pre .2)
+same-length-3 c = c .before .loop .inv .1 .1 ∙ sym (c .before .before .before .before .before .pre .3)
 
 same-length-4 : tie.Need-same-length-4 Inv-loop μ-loop
-same-length-4 c = c .before .loop .inv .1 .2 ∙ sym (c .before .before .before .before .before .pre .3)
+same-length-4 c = c .before .loop .inv .1 .2 ∙ sym (c .before .before .before .before .before .pre .4)
 
 returns-2 : tie.Need-returns-2 Inv-loop μ-loop
 returns-2 c =

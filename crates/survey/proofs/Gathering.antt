@@ -1,7 +1,7 @@
 -- How a collection goes on (`Gathered`): past a place that is not in the window, or past several; over the next place that is;
 -- and when it is full. What is held of all that are in the window is then what the search asks for.
 use mathlib.Core.Path.{_≡_, refl, sym, ap, _∙_, subst}
-use mathlib.Core.List.{List, [], _∷_, _++_, map, map-append, append-assoc}
+use mathlib.Core.List.{List, [], _∷_, _++_, map-append, append-assoc}
 use Prim.Native.Nat.{ℕ, suc, _+_, _-_, _*_, _≤_, _<_}
 use native.Mathlib.Nat.{le-refl, min-le-left}
 use native.Mathlib.Numerals.{add-one}
@@ -10,18 +10,18 @@ use mathlib.Core.Bool.{Bool, true, false, not, _&&_}
 use borrow.Author.Tests.{le-leb, lt-leb, leb-false}
 use lib.Dec.{T, leb}
 use lib.ListN.{length, getD, take, drop, set, length-append, length-take, length-drop, length-map}
-use lib.Seq.{take-all, take-at, take-append-le, length-take-le, drop-cons, set-at}
+use lib.Seq.{take-all, take-at, take-append-le, drop-cons, set-at}
 use lib.Ieee.{Float, nan}
 use Rattle.laws.specs.Bounded.{any}
 use Rattle.laws.proofs.Booleans.{is-false, and-false}
 use Rattle.laws.proofs.Search.{any-none}
 use Rattle.nodes.specs.Flat.{nodeIn}
 use Rattle.nodes.specs.declared.nearby.Span.{Span}
 use Rattle.nodes.specs.declared.nearby.Window.{Window}
 use Rattle.nodes.specs.declared.nearby.Nearby.{Nearby}
-use Rattle.nodes.specs.Nearby.{mostNearby, chosen, Framed, inSpan, insideAt, inside, xsOf, counted, laid, nearby, Gathered, GoesOn, Collected}
-use Rattle.nodes.specs.Nearby.{ValidNearby}
+use Rattle.nodes.specs.Nearby.{mostNearby, chosen, Framed, inSpan, insideAt, inside, xsOf, Collected, ValidNearby}
 use Rattle.nodes.proofs.Chosen.{beyond, pass, hit, skip}
+use Rattle.survey.specs.Survey.{counted, laid, nearby, Gathered}
 
 -- where branches join
 pub carried : (P : List ℕ → List Float → ℕ → Type 0) (numbers numbers' : List ℕ) (xs xs' : List Float) (k k' : ℕ) → numbers' ≡ numbers → xs' ≡ xs → k' ≡ k
