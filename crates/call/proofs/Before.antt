@@ -7,10 +7,10 @@ use mathlib.Core.Bool.{Bool, _||_, cond}
 use mathlib.Core.List.{List, []}
 use lib.ListN.{length}
 use lib.Dec.{eqb}
-use Rattle.corner.specs.Limits.{delivered}
+use Rattle.limits.specs.Limits.{delivered}
 use Rattle.quads.specs.declared.Cell.{Cell}
 use Rattle.table.specs.Refusals.{firstOf}
-use Rattle.sets.proofs.Taken.{delivered-taken}
+use Rattle.limits.proofs.Taken.{delivered-taken}
 use Rattle.call.specs.Call.{Call, listsOf, countsOut, unitsOut, listsOut, roomOut, tests}
 use Rattle.call.specs.Divide.{refused, core, startOf}
 use Rattle.call.specs.Lent.{LentOf, callBy, odd, allCells, Lent, divideBy, divideLent, LentRecords, divideRecords}

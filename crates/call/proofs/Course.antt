@@ -18,7 +18,7 @@ use Rattle.simple.specs.Simple.{polygonSimple}
 use Rattle.marks.specs.Part.{Part}
 use Rattle.marks.specs.Marks.{marked}
 use Rattle.marks.proofs.SnapRange.{marked-many, marked-in-range}
-use Rattle.corner.specs.declared.Limits.{Limits}
+use Rattle.limits.specs.declared.Limits.{Limits}
 use Rattle.split.specs.Split.{Stack, splitBadVertices}
 use Rattle.cells.specs.Pieces.{Outcome, done, failed}
 use Rattle.table.specs.Refusals.{Refusal, firstOf, inOrder, Passes, turnsAway, numbered}

@@ -24,7 +24,7 @@ use Rattle.laws.specs.All.{All}
 use Rattle.vector.specs.Grid.{polygonArea}
 use Rattle.vector.proofs.Sheet.{elements}
 use Rattle.marks.specs.Part.{Part, markCount}
-use Rattle.corner.specs.declared.Limits.{Limits}
+use Rattle.limits.specs.declared.Limits.{Limits}
 use Rattle.split.specs.Split.{Stack, splitBadVertices}
 use Rattle.cuts.specs.Counts as Counts
 use Rattle.cuts.specs.Counts.{Counted, Sound}
@@ -47,7 +47,7 @@ use Rattle.cells.proofs.NewCells.{pieces-cells, cornersTo-cons}
 use Rattle.cells.proofs.PieceByPiece.{pieces-over}
 use Rattle.table.specs.Refusals.{Refusal, Passes, numbered}
 use Rattle.table.proofs.Refusals.{not-0}
-use Rattle.sets.specs.Sets.{practiceSet}
+use Rattle.limits.specs.Sets.{practiceSet}
 use Rattle.call.specs.Call.{Lists, usedIn, Call, listsOf, over24, noTest, cellReserve, tests}
 use Rattle.call.specs.Divide.{CallAnswer, put, refusedOr, answered, asked, core, startOf, divide}
 use Rattle.call.specs.Demand.{Ready, Prepared, piecesOf, cellsFrom, AcceptedCall}

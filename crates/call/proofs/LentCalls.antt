@@ -23,7 +23,7 @@ use Rattle.laws.specs.All.{All}
 use Rattle.laws.proofs.Lists.{all-append, all-weaken}
 use Rattle.vector.specs.declared.Point.{Point}
 use Rattle.marks.specs.Part.{Part}
-use Rattle.corner.specs.declared.Limits.{Limits}
+use Rattle.limits.specs.declared.Limits.{Limits}
 use Rattle.nodes.specs.Nodes.{noNode, number}
 use Rattle.nodes.specs.Flat.{nodeIn, nodesIn}
 use Rattle.nodes.specs.Growth.{_≈_, Grown, Anything, EachNode, InRange, DistinctKeys}
@@ -35,7 +35,7 @@ use Rattle.quads.specs.declared.Cell.{Cell}
 use Rattle.cells.specs.Asks.{Ask}
 use Rattle.cells.specs.Rims.{rimsBy, AskedFor, Told}
 use Rattle.cells.proofs.Rims.{rims-none, rims-then, rims-length, rims-told, rims-stay, rims-past}
-use Rattle.sets.specs.Sets.{practiceSet}
+use Rattle.limits.specs.Sets.{practiceSet}
 use Rattle.call.specs.Call.{Lists, Call, listsOf, over24, noTest}
 use Rattle.call.specs.Divide.{CallAnswer, asked, startOf}
 use Rattle.call.specs.Lent.{callBy, testsFor, divideFor, divideLent, divideRecords, dividePractice, allCells}

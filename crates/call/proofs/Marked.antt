@@ -37,8 +37,8 @@ use Rattle.nodes.proofs.Ranged.{held-within}
 use Rattle.quads.specs.Quads.{middle}
 use Rattle.table.specs.Refusals.{Passes}
 use Rattle.table.proofs.Refusals.{clear}
-use Rattle.sets.proofs.Taken.{most-cuts}
-use Rattle.corner.specs.declared.Limits.{Limits}
+use Rattle.limits.proofs.Taken.{most-cuts}
+use Rattle.limits.specs.declared.Limits.{Limits}
 use Rattle.call.specs.Call.{held, anyOutside, countsOut}
 use Rattle.call.specs.Demand.{Ready, Prepared, AcceptedCall}
 use Rattle.call.specs.Lent.{odd}

@@ -16,7 +16,7 @@ use Rattle.vector.specs.Size.{OnSheet}
 use Rattle.marks.specs.declared.EdgeMark.{EdgeMark}
 use Rattle.marks.specs.declared.EdgeMark.the-variants.{Straight, Snap}
 use Rattle.marks.specs.Part.{Part, noPart, markCount}
-use Rattle.corner.specs.declared.Limits.{Limits}
+use Rattle.limits.specs.declared.Limits.{Limits}
 use Rattle.split.specs.Split.{Stack, splitBadVertices}
 use Rattle.cuts.specs.Counts.{Sound}
 use Rattle.cuts.proofs.Counts.{counted}

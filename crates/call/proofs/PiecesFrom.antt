@@ -14,7 +14,7 @@ use Rattle.vector.specs.declared.GridPoint.{GridPoint}
 use Rattle.vector.specs.Grid.{origin, at}
 use Rattle.marks.specs.declared.EdgeMark.the-variants.{Straight}
 use Rattle.marks.specs.Part.{Part, noPart}
-use Rattle.corner.specs.declared.Limits.{Limits}
+use Rattle.limits.specs.declared.Limits.{Limits}
 use Rattle.split.specs.Split.{Cut, splitBadVertices}
 use Rattle.cuts.specs.Counts as Counts
 use Rattle.cuts.specs.Counts.{Sound}

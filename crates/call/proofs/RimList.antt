@@ -11,7 +11,7 @@ use lib.Seq.{length-take-le}
 use lib.Dec.{T, eqb}
 use Rattle.laws.specs.All.{All}
 use Rattle.marks.specs.Part.{Part}
-use Rattle.corner.specs.declared.Limits.{Limits}
+use Rattle.limits.specs.declared.Limits.{Limits}
 use Rattle.split.specs.Split.{Stack, splitBadVertices}
 use Rattle.cells.specs.Stages.{nodesOf}
 use Rattle.cells.specs.Pieces.{Outcome, done, failed}

@@ -11,7 +11,7 @@ use lib.ListN.{length}
 use borrow.Author.Tests.{le-ltb}
 use Rattle.laws.specs.All.{All}
 use Rattle.marks.specs.Part.{Part}
-use Rattle.corner.specs.declared.Limits.{Limits}
+use Rattle.limits.specs.declared.Limits.{Limits}
 use Rattle.nodes.specs.Nodes.{mostPlaces}
 use Rattle.quads.specs.declared.Cell.{Cell}
 use Rattle.quads.specs.Flat.{Listed}

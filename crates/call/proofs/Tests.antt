@@ -18,14 +18,14 @@ use Rattle.vector.specs.declared.GridPoint.{GridPoint}
 use Rattle.vector.specs.declared.Point.{Point}
 use Rattle.vector.specs.Grid.{origin}
 use Rattle.vector.specs.Size.{OnSheet, AllOnSheet}
-use Rattle.corner.specs.declared.Limits.{Limits}
+use Rattle.limits.specs.declared.Limits.{Limits}
 use Rattle.chain.specs.Range.{ChainOnSheet}
 use Rattle.nodes.specs.Nodes.{nodeAt}
 use Rattle.nodes.specs.Growth.{InRange, EachNode}
 use Rattle.nodes.proofs.Ranged.{held-within}
 use Rattle.table.specs.Refusals.{Passes, inOrder}
 use Rattle.table.proofs.Refusals.{clear}
-use Rattle.sets.proofs.Taken.{most-cuts}
+use Rattle.limits.proofs.Taken.{most-cuts}
 use Rattle.call.specs.Call.{Lists, usedIn, Call, listsOf, countsOut, beyond, outside, anyOutside, unitsOut, held, usable, rimsOut, listsOver}
 use Rattle.call.specs.Call.{listsOut, nodeReserve, cellReserve, mostPlaces, roomOut, madeBy, noTest, tests}
 use Rattle.call.specs.Demand.{Ready}

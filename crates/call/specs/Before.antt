@@ -4,7 +4,7 @@ use Prim.Native.Nat.{_-_}
 use mathlib.Core.Bool.{_||_}
 use mathlib.Core.List.{List, [], _∷_}
 use lib.ListN.{length}
-use Rattle.corner.specs.Limits.{delivered}
+use Rattle.limits.specs.Limits.{delivered}
 use Rattle.quads.specs.declared.Cell.{Cell}
 use Rattle.table.specs.Refusals.{Refusal, _when_}
 use Rattle.call.specs.Call.{Call, listsOf, countsOut, unitsOut, listsOut, roomOut}

@@ -10,7 +10,7 @@ use Rattle.vector.specs.Grid.{polygonArea}
 use Rattle.vector.specs.Size.{AllOnSheet}
 use Rattle.marks.specs.declared.EdgeMark.the-variants.{Snap}
 use Rattle.marks.specs.Part.{Part, markCount}
-use Rattle.corner.specs.declared.Limits.{Limits}
+use Rattle.limits.specs.declared.Limits.{Limits}
 use Rattle.split.specs.Split.{Stack, Cut, splitBadVertices}
 use Rattle.cuts.specs.Areas.{areas, NotNegative, turnedBy}
 use Rattle.cuts.specs.Choices.{CutAtWorst, Clear, WhyUncut}

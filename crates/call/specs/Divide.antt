@@ -15,7 +15,7 @@ use Rattle.clean.specs.Clean.{cleanPolygon}
 use Rattle.simple.specs.Simple.{polygonSimple}
 use Rattle.marks.specs.Part.{Part, markCount}
 use Rattle.marks.specs.Marks.{marked}
-use Rattle.corner.specs.declared.Limits.{Limits}
+use Rattle.limits.specs.declared.Limits.{Limits}
 use Rattle.split.specs.Split.{Stack, splitBadVertices}
 use Rattle.quads.specs.declared.Cell.{Cell}
 use Rattle.quads.specs.Quads.{noCell}

@@ -10,11 +10,11 @@ use lib.IntN.{ℤ, pos}
 use lib.Ieee.{Float}
 use Rattle.laws.specs.Table.{tab}
 use Rattle.vector.specs.declared.GridPoint.{GridPoint}
-use Rattle.corner.specs.declared.Limits.{Limits}
+use Rattle.limits.specs.declared.Limits.{Limits}
 use Rattle.nodes.specs.Flat.{nodesIn}
 use Rattle.quads.specs.declared.Cell.{Cell}
 use Rattle.table.specs.Refusals.{Refusal, _when_, inOrder}
-use Rattle.sets.specs.Sets.{practiceSet}
+use Rattle.limits.specs.Sets.{practiceSet}
 use Rattle.call.specs.Call.{Call, listsOf, over24, madeBy, noTest}
 use Rattle.call.specs.Divide.{CallAnswer, refusedOr, core, startOf}
 

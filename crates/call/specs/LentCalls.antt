@@ -11,7 +11,7 @@ use lib.IntN.{ℤ}
 use lib.Ieee.{Float}
 use Rattle.vector.specs.declared.Point.{Point}
 use Rattle.marks.specs.Part.{Part, markCount}
-use Rattle.corner.specs.declared.Limits.{Limits}
+use Rattle.limits.specs.declared.Limits.{Limits}
 use Rattle.split.specs.Split.{splitBadVertices}
 use Rattle.nodes.specs.Nodes.{number}
 use Rattle.nodes.specs.Flat.{nodeIn, nodesIn, over}
@@ -20,7 +20,7 @@ use Rattle.quads.specs.declared.Cell.{Cell}
 use Rattle.cells.specs.Asks.{Ask}
 use Rattle.cells.specs.Rims.{AskedFor, Told}
 use Rattle.call.specs.Divide.{CallAnswer, asked, startOf}
-use Rattle.sets.specs.Sets.{practiceSet}
+use Rattle.limits.specs.Sets.{practiceSet}
 use Rattle.call.specs.Lent.{LentOf, callOf, divideLent, dividePractice, callOfRecords, divideRecords}
 use Rattle.call.specs.Marked.{Marking, LentMarked, markedStart, divideMarked}
 

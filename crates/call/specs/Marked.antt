@@ -20,11 +20,11 @@ use Rattle.outline.specs.Outline.{Segment, segments, total, nearestBoundaryPoin
 use Rattle.marks.specs.declared.EdgeMark.{EdgeMark}
 use Rattle.marks.specs.declared.EdgeMark.the-variants.{Straight, Snap}
 use Rattle.marks.specs.Part.{Part}
-use Rattle.corner.specs.declared.Limits.{Limits}
+use Rattle.limits.specs.declared.Limits.{Limits}
 use Rattle.nodes.specs.Flat.{nodeIn, nodesIn}
 use Rattle.quads.specs.Quads.{middle}
 use Rattle.table.specs.Refusals.{Refusal, Tests, inOrder}
-use Rattle.sets.specs.Sets.{limitsOut}
+use Rattle.limits.specs.Sets.{limitsOut}
 use Rattle.call.specs.Call.{Lists, held, anyOutside, countsOut, unitsOut, listsOut, roomOut}
 use Rattle.call.specs.Divide.{CallAnswer, refusedOr, core}
 use Rattle.call.specs.Lent.{pointsIn, allCells, odd}

@@ -2,7 +2,7 @@
 use Prim.Native.Nat.{ℕ}
 use mathlib.Core.List.{List, _++_}
 use Rattle.marks.specs.Part.{Part}
-use Rattle.corner.specs.declared.Limits.{Limits}
+use Rattle.limits.specs.declared.Limits.{Limits}
 use Rattle.table.specs.Refusals.{Refusal, Tests, inOrder}
 use Rattle.call.specs.Call.{Lists, listsOver}
 use Rattle.call.specs.Divide.{CallAnswer, refusedOr, core}

@@ -11,7 +11,7 @@ use lib.ListN.{length, take, drop, replicate, length-replicate, take-append-drop
 use borrow.Author.Tests.{ne-eqb}
 use Rattle.vector.specs.Grid.{polygonArea}
 use Rattle.marks.specs.Part.{Part, markCount}
-use Rattle.corner.specs.declared.Limits.{Limits}
+use Rattle.limits.specs.declared.Limits.{Limits}
 use Rattle.split.specs.Split.{Stack, splitBadVertices}
 use Rattle.quads.specs.declared.Cell.{Cell}
 use Rattle.quads.specs.Quads.{noCell}

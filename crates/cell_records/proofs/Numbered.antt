@@ -7,7 +7,7 @@ use mathlib.Core.List.{List}
 use lib.ListN.{length}
 use lib.Ieee.{Float}
 use Rattle.laws.proofs.Table.{length-tab}
-use Rattle.corner.specs.declared.Limits.{Limits}
+use Rattle.limits.specs.declared.Limits.{Limits}
 use Rattle.nodes.specs.Flat.{over}
 use Rattle.quads.specs.Flat.{overCells}
 use Rattle.table.specs.declared.Row.{Row}

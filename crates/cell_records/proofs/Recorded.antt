@@ -10,7 +10,7 @@ use lib.Seq.{length-take-le, drop-cons, set-at}
 use lib.Ieee.{Float}
 use Rattle.laws.specs.Table.{tab}
 use Rattle.laws.proofs.Table.{length-tab, is-tab}
-use Rattle.corner.specs.declared.Limits.{Limits}
+use Rattle.limits.specs.declared.Limits.{Limits}
 use Rattle.quads.specs.declared.Cell.{Cell}
 use Rattle.quads.specs.Quads.{noCell}
 use Rattle.quads.specs.Flat.{flatCells, overCells}

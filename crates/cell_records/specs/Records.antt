@@ -6,7 +6,7 @@ use mathlib.Core.List.{List}
 use lib.ListN.{set}
 use lib.Dec.{eqb}
 use lib.Ieee.{Float}
-use Rattle.corner.specs.declared.Limits.{Limits}
+use Rattle.limits.specs.declared.Limits.{Limits}
 use Rattle.nodes.specs.Flat.{over}
 use Rattle.quads.specs.declared.Cell.{Cell}
 use Rattle.table.specs.declared.Row.{Row}

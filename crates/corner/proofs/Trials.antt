@@ -10,7 +10,7 @@ use Rattle.laws.specs.All.{All}
 use Rattle.laws.specs.Double.{lit}
 use Rattle.vector.specs.declared.GridPoint.{GridPoint}
 use Rattle.vector.specs.Grid as Grid
-use Rattle.corner.specs.Limits.{delivered}
+use Rattle.limits.specs.Limits.{delivered}
 use Rattle.corner.specs.Corner.{bad, measure, byQuadrant, quotient}
 
 -- a step of whole mm

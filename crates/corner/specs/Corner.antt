@@ -10,7 +10,7 @@ use lib.Ieee.{Float}
 use Rattle.laws.specs.Double.{nat, int, _+f_, _-f_, _/f_, _<f_, _≤f_}
 use Rattle.vector.specs.declared.GridPoint.{GridPoint}
 use Rattle.vector.specs.Grid.{origin, sub, dot, cross, same, at, prev}
-use Rattle.corner.specs.declared.Limits.{Limits}
+use Rattle.limits.specs.declared.Limits.{Limits}
 
 -- "q = s / (|s| + |c|)"
 unfoldable pub quotient : ℤ → ℤ → Float

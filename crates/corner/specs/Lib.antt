@@ -1,3 +1,2 @@
--- The measure of a corner, the worst corner of a part, and the limits of the divider.
-pub mod Limits
+-- The measure of a corner, and the worst corner of a part.
 pub mod Corner

@@ -1,4 +1,4 @@
-// Corner: how wide a corner is, which corner of a part is the worst, and the limits that decide what is cut.
+// Corner: how wide a corner is, and which corner of a part is the worst.
 //
 // It stands between the points (vector) and the split, which cuts each part at its worst corner while that is bad. The
 // measure of a corner rises with its inner angle, without a trigonometric function: 1 at 90 degrees, 2 at 180, 3 at 270.
@@ -10,23 +10,10 @@ ghost use Rattle.laws.specs.Double.{nat};
 ghost use Rattle.vector.specs.Grid as Grid;
 ghost use Rattle.vector.specs.Size.{OnSheet, Step};
 ghost use Rattle.vector.specs.Rings.{pointsOf, OnSheetRing};
-ghost use Rattle.corner.specs.Limits.{delivered};
 ghost use Rattle.corner.specs.Corner as Corners;
+use limits::Limits;
 use vector::GridPoint;
 use vector::Ring;
-
-// The limits of the divider, held together as one set of values.
-pub struct Limits {
-    // the most cuts
-    pub cuts: usize,
-    // a corner is bad if its measure is above this
-    pub corner: f64,
-    // a diagonal's two cosines lie between these
-    pub least: f64,
-    pub greatest: f64,
-    // a snap point is too far if its distance from the middle is above this share of the chord
-    pub share: f64,
-}
 
 // A corner of a part: its place and its measure.
 pub struct Corner {
@@ -34,38 +21,7 @@ pub struct Corner {
     pub measure: f64,
 }
 
-impl Limits {
-    pub const CUTS: usize = 32;
-
-    pub const SHARE: f64 = 0.4;
-
-    pub const DELIVERED: Limits = Limits {
-        cuts: Limits::CUTS,
-        corner: Corner::BAD,
-        least: Corner::LEAST,
-        greatest: Corner::GREATEST,
-        share: Limits::SHARE,
-    };
-
-    // The limits of the delivered divider.
-    pub fn on_delivery() -> Limits
-        ensures { λ r. ⌜ r ≡ delivered ⌝ }
-    {
-        Limits::DELIVERED
-    }
-}
-
 impl Corner {
-    // The tangent of 20 degrees, by which a corner of 160 degrees falls short of straight.
-    const TANGENT: f64 = 0.36397023426620236;
-
-    pub const BAD: f64 = 2.0 - Corner::TANGENT / (1.0 + Corner::TANGENT);
-
-    // The cosines of 160 and of 12 degrees, between which the two of a diagonal lie.
-    pub const LEAST: f64 = -0.9396926207859084;
-
-    pub const GREATEST: f64 = 0.9781476007338057;
-
     pub const STRAIGHT: f64 = 2.0;
 
     const FULL: f64 = 4.0;

@@ -17,7 +17,7 @@ use Rattle.vector.specs.declared.GridPoint.{GridPoint}
 use Rattle.vector.specs.Size.{OnSheet}
 use Rattle.vector.proofs.Sheet.{places}
 use Rattle.marks.specs.Part.{Part}
-use Rattle.corner.specs.declared.Limits.{Limits}
+use Rattle.limits.specs.declared.Limits.{Limits}
 use Rattle.corner.specs.Corner.{measureAt, bad, Worst}
 use Rattle.corner.proofs.WorstCorner.{worst-is}
 use Rattle.corner.proofs.Measured.{measureAt-is}

@@ -20,7 +20,7 @@ use Rattle.vector.specs.Plane.{inMm, lerp}
 use Rattle.segments.specs.Meeting.{strictlyBetween}
 use Rattle.simple.specs.Simple.{pointInPolygon}
 use Rattle.marks.specs.Part.{Part}
-use Rattle.corner.specs.declared.Limits.{Limits}
+use Rattle.limits.specs.declared.Limits.{Limits}
 use Rattle.judge.specs.Judge.{inRange}
 use Rattle.obstacles.specs.Obstacles.{blocks, runsOver, unobstructed}
 use Rattle.diagonal.specs.Diagonal.{cosineNext, cosinePrev, meetsRule}

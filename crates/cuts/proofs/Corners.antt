@@ -10,7 +10,7 @@ use Rattle.vector.specs.declared.GridPoint.{GridPoint}
 use Rattle.vector.specs.Grid.{polygonArea}
 use Rattle.marks.specs.declared.EdgeMark.{EdgeMark}
 use Rattle.marks.specs.Part.{Part}
-use Rattle.corner.specs.declared.Limits.{Limits}
+use Rattle.limits.specs.declared.Limits.{Limits}
 use Rattle.parts.specs.Cut.{rotate, oriented, makeSubPolygon, firstPoints, secondPoints, firstPart, secondPart}
 use Rattle.split.specs.Split.{Stack, splitBadVertices}
 use Rattle.cuts.specs.Counts.{Sound}

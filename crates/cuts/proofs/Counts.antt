@@ -18,7 +18,7 @@ use Rattle.chain.specs.Chain.{Stretch}
 use Rattle.marks.specs.Part.{Part}
 use Rattle.marks.specs.Marks.{marked}
 use Rattle.marks.proofs.SnapRange.{marks-many}
-use Rattle.corner.specs.declared.Limits.{Limits}
+use Rattle.limits.specs.declared.Limits.{Limits}
 use Rattle.split.specs.Split.{Stack, splitBadVertices}
 use Rattle.cuts.specs.Counts.{Sound, corners, Counted}
 use Rattle.cuts.proofs.Machine.{emptied}

@@ -11,7 +11,7 @@ use lib.Seq.{getD-append-seam}
 use Rattle.laws.specs.All.{All}
 use Rattle.laws.proofs.Lists.{all-append, all-weaken, all-get, mem-get}
 use Rattle.marks.specs.Part.{Part, noPart}
-use Rattle.corner.specs.declared.Limits.{Limits}
+use Rattle.limits.specs.declared.Limits.{Limits}
 use Rattle.split.specs.Split.{Cut, Stack, splitBadVertices}
 use Rattle.cuts.specs.Counts.{Sound}
 use Rattle.cuts.specs.Provenance.{firstPartOf, secondPartOf, Side, sides, diagonal, SameSide, SidesShared, Deals, Among, Under, itself}

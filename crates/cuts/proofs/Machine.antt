@@ -10,7 +10,7 @@ use mathlib.Core.List.{List, [], _∷_, _++_}
 use lib.ListN.{length}
 use lib.Dec.{T, ltb, ltb→lt, nltb→le}
 use Rattle.marks.specs.Part.{Part}
-use Rattle.corner.specs.declared.Limits.{Limits}
+use Rattle.limits.specs.declared.Limits.{Limits}
 use Rattle.corner.specs.Corner.{bad, measureAt, worst}
 use Rattle.diagonal.specs.Diagonal.{bestTo}
 use Rattle.parts.specs.Cut.{rotate, firstPart, secondPart, turnedIn}

@@ -12,7 +12,7 @@ use Rattle.vector.specs.Grid.{polygonArea}
 use Rattle.marks.specs.declared.EdgeMark.{EdgeMark}
 use Rattle.marks.specs.declared.EdgeMark.the-variants.{Straight}
 use Rattle.marks.specs.Part.{Part}
-use Rattle.corner.specs.declared.Limits.{Limits}
+use Rattle.limits.specs.declared.Limits.{Limits}
 use Rattle.corner.specs.Corner.{Worst}
 use Rattle.corner.proofs.WorstCorner.{worst-is}
 use Rattle.parts.specs.Cut.{rotate, oriented, makeSubPolygon, firstPoints, secondPoints, firstPart, secondPart, turnedIn}

@@ -11,7 +11,7 @@ use mathlib.Core.List.{List, [], _∷_, _++_, List·Memᴰ}
 use Rattle.laws.specs.All.{All}
 use Rattle.laws.proofs.Lists.{all-left, all-right, all-own}
 use Rattle.marks.specs.Part.{Part}
-use Rattle.corner.specs.declared.Limits.{Limits}
+use Rattle.limits.specs.declared.Limits.{Limits}
 use Rattle.split.specs.Split.{splitBadVertices}
 use Rattle.cuts.specs.Counts.{Sound}
 use Rattle.cuts.specs.Provenance.{Side, sides, allSides, diagonals, made, spentParts, SameSide, Match, Among, FromRingAndCuts, Beside, Followed}

@@ -9,7 +9,7 @@ use lib.Dec.{T}
 use Rattle.vector.specs.Grid.{at}
 use Rattle.segments.specs.Meeting.{strictlyBetween}
 use Rattle.marks.specs.Part.{Part}
-use Rattle.corner.specs.declared.Limits.{Limits}
+use Rattle.limits.specs.declared.Limits.{Limits}
 use Rattle.corner.specs.Corner.{measureAt, bad, Worst}
 use Rattle.parts.specs.Cut.{rotate}
 use Rattle.split.specs.Diagonals.{Best, NoneMeets}

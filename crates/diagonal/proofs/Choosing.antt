@@ -12,7 +12,7 @@ use Rattle.vector.specs.declared.GridPoint.{GridPoint}
 use Rattle.vector.specs.Grid.{origin, sub, same, at}
 use Rattle.vector.proofs.Rings.{at-in, prev-first}
 use Rattle.cosine.specs.Cosine.{cosine}
-use Rattle.corner.specs.declared.Limits.{Limits}
+use Rattle.limits.specs.declared.Limits.{Limits}
 use Rattle.judge.specs.Judge.{inRange, larger}
 use Rattle.obstacles.specs.Obstacles.{unobstructed}
 use Rattle.diagonal.specs.Diagonal.{cosineNext, cosinePrev, meetsRule, score, better, bestTo}

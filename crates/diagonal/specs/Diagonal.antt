@@ -8,7 +8,7 @@ use Rattle.laws.specs.Double.{_<f_}
 use Rattle.vector.specs.declared.GridPoint.{GridPoint}
 use Rattle.vector.specs.Grid.{sub, same, at, prev}
 use Rattle.cosine.specs.Cosine.{cosine}
-use Rattle.corner.specs.declared.Limits.{Limits}
+use Rattle.limits.specs.declared.Limits.{Limits}
 use Rattle.judge.specs.Judge.{inRange, larger}
 use Rattle.obstacles.specs.Obstacles.{unobstructed}
 

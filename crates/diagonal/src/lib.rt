@@ -12,8 +12,8 @@ ghost use Rattle.laws.specs.Double.{_<f_};
 ghost use Rattle.vector.specs.Rings.{pointsOf, OnSheetRing};
 ghost use Rattle.diagonal.specs.Diagonal as Diagonals;
 ghost use Rattle.diagonal.specs.Answer.{answer};
-use corner::Limits;
 use judge::Judged;
+use limits::Limits;
 use vector::Ring;
 
 // The corner where the best diagonal ends, or that none meets the rule.

@@ -9,8 +9,8 @@ use lib.Ieee.{Float}
 use Rattle.laws.proofs.Table.{length-tab}
 use Rattle.marks.specs.declared.MarkedRing.{MarkedRing}
 use Rattle.marks.specs.Part.{Part}
-use Rattle.corner.specs.declared.Limits.{Limits}
-use Rattle.corner.specs.Limits.{delivered}
+use Rattle.limits.specs.declared.Limits.{Limits}
+use Rattle.limits.specs.Limits.{delivered}
 use Rattle.quads.specs.declared.Cell.{Cell}
 use Rattle.table.specs.declared.Row.{Row}
 use Rattle.table.specs.Answers.{refusedRow}

@@ -15,7 +15,7 @@ use Rattle.marks.specs.declared.EdgeMark.{EdgeMark}
 use Rattle.marks.specs.declared.MarkedRing.{MarkedRing}
 use Rattle.marks.specs.Part.{Part, noPart}
 use Rattle.marks.specs.Edges.{marksIn, partIn}
-use Rattle.corner.specs.declared.Limits.{Limits}
+use Rattle.limits.specs.declared.Limits.{Limits}
 use Rattle.split.specs.declared.Splitting.{Splitting}
 use Rattle.split.specs.Split.{splitBadVertices}
 use Rattle.parts.specs.Layout.{nth}

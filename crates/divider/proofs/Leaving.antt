@@ -9,7 +9,7 @@ use lib.Ieee.{Float}
 use Rattle.vector.specs.declared.Point.{Point}
 use Rattle.vector.specs.Grid.{polygonArea}
 use Rattle.marks.specs.Part.{Part, markCount}
-use Rattle.corner.specs.declared.Limits.{Limits}
+use Rattle.limits.specs.declared.Limits.{Limits}
 use Rattle.split.specs.Split.{Stack}
 use Rattle.nodes.specs.Flat.{over}
 use Rattle.quads.specs.declared.Cell.{Cell}

@@ -16,7 +16,7 @@ use Rattle.clean.specs.Clean.{cleanPolygon}
 use Rattle.marks.specs.declared.MarkedRing.{MarkedRing}
 use Rattle.marks.specs.Marks.{marked}
 use Rattle.marks.specs.Edges.{partIn, ValidMarkedRing}
-use Rattle.corner.specs.declared.Limits.{Limits}
+use Rattle.limits.specs.declared.Limits.{Limits}
 use Rattle.nodes.specs.Flat.{nodesIn}
 use Rattle.pieces.specs.declared.Subdivision.{Subdivision}
 use Rattle.pieces.specs.declared.Subdivision.the-variants as subdivision

@@ -18,7 +18,7 @@ ghost use Rattle.nodes.specs.Nearby.{mostNearby, Framed, ValidNearby};
 ghost use Rattle.quads.specs.declared.Cell.{Cell};
 ghost use Rattle.call.specs.Call as Call;
 ghost use Rattle.entry.specs.Refusal as Refusal;
-use corner::Limits;
+use limits::Limits;
 use nodes::MOST_PLACES;
 use nodes::Nearby;
 use nodes::NodeNumber;
@@ -126,7 +126,7 @@ pub fn points_refusal(limits: Limits, ring: &[i32], chain: &[i32], size: u32) ->
     if lent_points::units_out(ring, chain, size) {
         return 2;
     }
-    if sets::limits_out(limits) {
+    if limits::limits_out(limits) {
         return 15;
     }
     0

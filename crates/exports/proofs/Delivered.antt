@@ -6,9 +6,9 @@ use Prim.Native.Nat.{ℕ}
 use mathlib.Core.Path.{_≡_, sym, subst, _∙_}
 use mathlib.Core.List.{List}
 use lib.Ieee.{Float, ofBits, binary64}
-use Rattle.corner.specs.declared.Limits.{Limits}
-use Rattle.corner.specs.Limits.{delivered}
-use Rattle.corner.proofs.Delivered.{code-is}
+use Rattle.limits.specs.declared.Limits.{Limits}
+use Rattle.limits.specs.Limits.{delivered}
+use Rattle.limits.proofs.Delivered.{code-is}
 use Rattle.table.specs.declared.Row.{Row}
 use Rattle.call.specs.Lent.{Lent}
 use Rattle.call.specs.Divide.{CallAnswer}

@@ -6,14 +6,14 @@
 ghost use mathlib.Core.Path.{_≡_};
 ghost use lib.ListN.{length};
 ghost use Rattle.root.specs.Root.{rootBits};
-ghost use Rattle.corner.specs.Limits.{delivered};
+ghost use Rattle.limits.specs.Limits.{delivered};
 ghost use Rattle.call.specs.Lent.{lent};
 ghost use Rattle.divider.specs.Promise.{Promise};
 ghost use Rattle.marked.specs.Promise.{MarkedPromise};
 ghost use Rattle.practice.specs.Practice as Practice;
 ghost use Rattle.smallest.specs.Smallest as Rule;
 ghost use Rattle.writer.specs.Write as Write;
-use corner::Limits;
+use limits::Limits;
 ghost use Rattle.listing.specs.Sheet as Sheet;
 ghost use Rattle.wear.specs.Bytes as Bytes;
 use nodes::NodeNumber;

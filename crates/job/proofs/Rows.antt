@@ -7,7 +7,7 @@ use native.Mathlib.Decide.{decLe}
 use lib.ListN.{length}
 use lib.Ieee.{Float}
 use Rattle.laws.proofs.Table.{length-tab}
-use Rattle.corner.specs.Limits.{delivered}
+use Rattle.limits.specs.Limits.{delivered}
 use Rattle.call.specs.Call.{listsOf}
 use Rattle.call.specs.Divide.{startOf}
 use Rattle.call.specs.Demand.{AcceptedCall}

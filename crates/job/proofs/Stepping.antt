@@ -13,7 +13,7 @@ use Rattle.blocks.specs.declared.Reading.{Reading}
 use Rattle.blocks.specs.declared.Block.{Block}
 use Rattle.blocks.specs.declared.Block.the-variants.{Ring, Chain, Refused}
 use Rattle.blocks.specs.Blocks.{readBlock}
-use Rattle.corner.specs.Limits.{delivered}
+use Rattle.limits.specs.Limits.{delivered}
 use Rattle.call.specs.Lent.{Lent, divideLent}
 use Rattle.table.specs.declared.Row.{Row}
 use Rattle.divider.specs.Promise.{Promise}

@@ -7,7 +7,7 @@ use lib.ListN.{length, take, replicate}
 use lib.Dec.{eqb}
 use lib.IntN.{ℤ}
 use lib.Ieee.{Float}
-use Rattle.corner.specs.Limits.{delivered}
+use Rattle.limits.specs.Limits.{delivered}
 use Rattle.nodes.specs.Flat.{over}
 use Rattle.quads.specs.Flat.{overCells}
 use Rattle.call.specs.Lent.{Lent, divideLent}

@@ -2,7 +2,7 @@
 use mathlib.Core.Bool.{Bool, _&&_, cond}
 use lib.Ieee.{Float}
 use Rattle.laws.specs.Double.{_<f_, _≤f_}
-use Rattle.corner.specs.declared.Limits.{Limits}
+use Rattle.limits.specs.declared.Limits.{Limits}
 
 -- "both <= 0.9781476007338057 (12 degrees) and >= -0.9396926207859084 (160)"
 unfoldable pub inRange : Limits → Float → Bool

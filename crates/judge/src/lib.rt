@@ -10,7 +10,7 @@ ghost use Rattle.vector.specs.Size.{OnSheet, Step};
 ghost use Rattle.root.specs.Norm.{gridNorm};
 ghost use Rattle.cosine.specs.Cosine.{cosine};
 ghost use Rattle.judge.specs.Judge as Judge;
-use corner::Limits;
+use limits::Limits;
 use vector::GridPoint;
 
 fn in_range(limits: Limits, c: f64) -> bool

@@ -14,8 +14,8 @@ use Rattle.laws.specs.Bounded.{any}
 use Rattle.laws.proofs.Table.{length-tab}
 use Rattle.vector.specs.declared.Point.{Point}
 use Rattle.marks.specs.Part.{Part}
-use Rattle.corner.specs.declared.Limits.{Limits}
-use Rattle.corner.specs.Limits.{delivered}
+use Rattle.limits.specs.declared.Limits.{Limits}
+use Rattle.limits.specs.Limits.{delivered}
 use Rattle.split.specs.Split.{Stack, splitBadVertices}
 use Rattle.nodes.proofs.Flat.{length-in}
 use Rattle.cells.specs.Pieces.{Outcome, done, failed, piecesTo}
@@ -25,7 +25,7 @@ use Rattle.call.specs.Call.{roomOut, mostPlaces}
 use Rattle.call.specs.Divide.{CallAnswer, refused, refusedOr, ringTests, answered, core, startOf}
 use Rattle.call.specs.Lent.{Lent, callOf, divideLent, odd, allCells, testsBy, pointIn, cellIn}
 use Rattle.call.proofs.Course.{by-tests-both, refused-code}
-use Rattle.sets.specs.Sets.{limitsOut}
+use Rattle.limits.specs.Sets.{limitsOut}
 use Rattle.lone_ring.specs.Number.{points, trialLent, numberOf}
 use Rattle.lone_ring.specs.Empty.{Empty, Anywhere}
 

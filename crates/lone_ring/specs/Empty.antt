@@ -3,7 +3,7 @@
 use Prim.Native.Nat.{_-_, _/_, _≤_}
 use mathlib.Core.Path.{_≡_}
 use lib.ListN.{length}
-use Rattle.corner.specs.Limits.{delivered}
+use Rattle.limits.specs.Limits.{delivered}
 use Rattle.call.specs.Call.{nodeReserve, cellReserve, mostPlaces}
 use Rattle.call.specs.Lent.{Lent, divideLent}
 use Rattle.lone_ring.specs.Number.{points, numberOf}

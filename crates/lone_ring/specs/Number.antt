@@ -4,7 +4,7 @@ use mathlib.Core.List.{List}
 use lib.ListN.{length, replicate}
 use lib.IntN.{ℤ}
 use Rattle.laws.specs.Double.{naught}
-use Rattle.corner.specs.Limits.{delivered}
+use Rattle.limits.specs.Limits.{delivered}
 use Rattle.call.specs.Lent.{Lent, divideLent}
 
 abbrev pub points : List ℤ → ℕ

@@ -9,7 +9,7 @@ use lib.Ieee.{Float}
 use Rattle.laws.proofs.Table.{length-tab}
 use Rattle.marks.specs.declared.MarkedRing.{MarkedRing}
 use Rattle.marks.specs.Part.{Part}
-use Rattle.corner.specs.declared.Limits.{Limits}
+use Rattle.limits.specs.declared.Limits.{Limits}
 use Rattle.table.specs.declared.Row.{Row}
 use Rattle.table.specs.Answers.{refusedRow}
 use Rattle.table.specs.Refusals.{firstOf}

@@ -7,9 +7,9 @@ use mathlib.Core.List.{[]}
 use lib.ListN.{length}
 use Rattle.laws.proofs.Booleans.{neither}
 use Rattle.laws.proofs.Table.{length-tab}
-use Rattle.corner.specs.declared.Limits.{Limits}
+use Rattle.limits.specs.declared.Limits.{Limits}
 use Rattle.table.specs.Refusals.{firstOf}
-use Rattle.sets.specs.Sets.{limitsOut}
+use Rattle.limits.specs.Sets.{limitsOut}
 use Rattle.call.specs.Call.{countsOut, unitsOut}
 use Rattle.call.specs.Lent.{pointIn, odd}
 use Rattle.call.specs.Marked.{allPoints, marksOut, outlineOut, LentMarked, markedLists, markedTests}

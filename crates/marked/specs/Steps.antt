@@ -7,9 +7,9 @@ use lib.IntN.{ℤ}
 use lib.ListN.{length}
 use Rattle.marks.specs.declared.MarkedRing.{MarkedRing}
 use Rattle.marks.specs.Edges.{partIn, ValidMarkedRing}
-use Rattle.corner.specs.declared.Limits.{Limits}
+use Rattle.limits.specs.declared.Limits.{Limits}
 use Rattle.table.specs.Refusals.{_when_, firstOf}
-use Rattle.sets.specs.Sets.{limitsOut}
+use Rattle.limits.specs.Sets.{limitsOut}
 use Rattle.call.specs.Call.{countsOut, unitsOut}
 use Rattle.call.specs.Lent.{odd}
 use Rattle.call.specs.Marked.{Marking, allPoints, markedBy, marksOut, outlineOut}

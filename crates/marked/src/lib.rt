@@ -6,13 +6,13 @@
 
 ghost use mathlib.Core.Path.{_≡_};
 ghost use mathlib.Core.List.{[]};
-ghost use Rattle.corner.specs.Limits.{delivered};
+ghost use Rattle.limits.specs.Limits.{delivered};
 ghost use Rattle.table.specs.Answers as Answers;
 ghost use Rattle.call.specs.Call as Call;
 ghost use Rattle.call.specs.Marked.{allPoints};
 ghost use Rattle.marked.specs.Promise.{MarkedPromise};
 ghost use Rattle.marked.specs.Steps.{earlyRefusal, Tested, Prepares};
-use corner::Limits;
+use limits::Limits;
 use marks::MarkedRing;
 use nodes::MOST_NEARBY;
 use nodes::NodeNumber;
@@ -57,7 +57,7 @@ fn early_refusal(
     if given_tests::outline_out(kinds, outline, loops) {
         return 14;
     }
-    if sets::limits_out(limits) {
+    if limits::limits_out(limits) {
         return 15;
     }
     0

@@ -25,7 +25,7 @@ use Rattle.vector.specs.Grid.{at}
 use Rattle.vector.specs.Plane.{inMm}
 use Rattle.marks.specs.declared.EdgeMark.the-variants.{Straight}
 use Rattle.marks.specs.Part.{Part, noPart}
-use Rattle.corner.specs.declared.Limits.{Limits}
+use Rattle.limits.specs.declared.Limits.{Limits}
 use Rattle.split.specs.Split.{Cut}
 use Rattle.cuts.specs.Counts.{Sound}
 use Rattle.cuts.specs.Provenance as Provenance
@@ -45,7 +45,7 @@ use Rattle.cells.proofs.Bound.{middleIn}
 use Rattle.cells.proofs.Middles.{middle-comm}
 use Rattle.table.specs.Refusals.{Refusal, Passes, numbered}
 use Rattle.table.proofs.Refusals.{not-0}
-use Rattle.sets.specs.Sets.{practiceSet}
+use Rattle.limits.specs.Sets.{practiceSet}
 use Rattle.call.specs.Call.{Lists, usedIn, Call, listsOf, over24, noTest, tests}
 use Rattle.call.specs.Divide.{CallAnswer, put, refusedOr, core, startOf, divide}
 use Rattle.call.specs.Demand.{Prepared, AcceptedCall, piecesOf, logOf, nodesFrom, cellsFrom}

@@ -10,7 +10,7 @@ use Rattle.vector.specs.Grid.{at}
 use Rattle.vector.specs.Plane.{inMm}
 use Rattle.marks.specs.declared.EdgeMark.the-variants.{Straight}
 use Rattle.marks.specs.Part.{Part, noPart}
-use Rattle.corner.specs.declared.Limits.{Limits}
+use Rattle.limits.specs.declared.Limits.{Limits}
 use Rattle.split.specs.Split.{Cut}
 use Rattle.cuts.specs.Provenance.{Side, firstPartOf, secondPartOf, diagonal, Under}
 use Rattle.nodes.specs.Nodes.{nodeAt, number}

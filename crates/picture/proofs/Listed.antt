@@ -9,7 +9,7 @@ use lib.Dec.{eqb}
 use lib.IntN.{ℤ}
 use lib.Ieee.{Float}
 use Rattle.laws.specs.Double.{naught}
-use Rattle.corner.specs.Limits.{delivered}
+use Rattle.limits.specs.Limits.{delivered}
 use Rattle.nodes.proofs.Flat.{length-in, length-over}
 use Rattle.call.specs.Call.{noTest, listsOf}
 use Rattle.call.specs.Divide.{startOf}

@@ -17,8 +17,8 @@ use lib.Dec.{T, eqb}
 use lib.Ieee.{Float}
 use borrow.Author.Tests.{le-ltb}
 use Rattle.marks.specs.Part.{Part}
-use Rattle.corner.specs.declared.Limits.{Limits}
-use Rattle.corner.specs.Limits.{delivered}
+use Rattle.limits.specs.declared.Limits.{Limits}
+use Rattle.limits.specs.Limits.{delivered}
 use Rattle.split.specs.Split.{Stack, splitBadVertices}
 use Rattle.nodes.specs.Flat.{over}
 use Rattle.quads.specs.declared.Cell.{Cell}
@@ -30,8 +30,8 @@ use Rattle.cells.specs.Rims.{rimsBy}
 use Rattle.table.specs.declared.Row.{Row}
 use Rattle.table.specs.Refusals.{Refusal, firstOf, Passes, turnsAway}
 use Rattle.table.proofs.Refusals.{not-8}
-use Rattle.sets.specs.Sets.{withCuts, practiceSet}
-use Rattle.sets.proofs.Taken.{delivered-taken, practice-taken}
+use Rattle.limits.specs.Sets.{withCuts, practiceSet}
+use Rattle.limits.proofs.Taken.{delivered-taken, practice-taken}
 use Rattle.call.specs.Call.{Lists, usedIn, Call, listsOf, countsOut, over24, unitsOut, listsOut, nodeReserve, cellReserve, roomOut}
 use Rattle.call.specs.Divide.{CallAnswer, put, refused, refusedOr, ringTests, asked, rimsLeft, answered, core, startOf}
 use Rattle.call.specs.Lent.{allCells, Lent, callOf, odd, testsBy, testsFor, divideLent, dividePractice}

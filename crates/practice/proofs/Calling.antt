@@ -9,11 +9,11 @@ use lib.ListN.{length}
 use lib.Dec.{T, eqb}
 use lib.Ieee.{Float}
 use Rattle.laws.proofs.Table.{length-tab}
-use Rattle.corner.specs.declared.Limits.{Limits}
+use Rattle.limits.specs.declared.Limits.{Limits}
 use Rattle.table.specs.declared.Row.{Row}
 use Rattle.table.specs.Answers.{refusedRow}
 use Rattle.table.specs.Refusals.{Refusal, firstOf}
-use Rattle.sets.specs.Sets.{limitsOut, practiceSet}
+use Rattle.limits.specs.Sets.{limitsOut, practiceSet}
 use Rattle.call.specs.Call.{Call, listsOf, countsOut, over24, unitsOut, listsOut, roomOut}
 use Rattle.call.specs.Divide.{CallAnswer, refused, core, startOf}
 use Rattle.call.specs.Demand.{AcceptedCall}

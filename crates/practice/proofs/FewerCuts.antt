@@ -14,14 +14,14 @@ use lib.Dec.{ltb}
 use borrow.Author.Tests.{ltb-false, lt-ltb, le-ltb}
 use Rattle.vector.specs.declared.GridPoint.{GridPoint}
 use Rattle.marks.specs.Part.{Part}
-use Rattle.corner.specs.declared.Limits.{Limits}
+use Rattle.limits.specs.declared.Limits.{Limits}
 use Rattle.corner.specs.Corner.{bad, measureAt, worst}
 use Rattle.judge.specs.Judge.{inRange}
 use Rattle.diagonal.specs.Diagonal.{meetsRule, better, bestTo}
 use Rattle.parts.specs.Cut.{rotate}
 use Rattle.split.specs.Split.{Stack, splitPolygonAt, cutAt, pop, pops, start, splitBadVertices}
 use Rattle.cuts.proofs.Machine.{emptied}
-use Rattle.sets.specs.Sets.{withCuts}
+use Rattle.limits.specs.Sets.{withCuts}
 
 -- ---- the best diagonal does not look at the number of cuts
 best-same : (L : Limits) (k : ℕ) (r : List GridPoint) (i : ℕ) → bestTo (withCuts k L) r i ≡ bestTo L r i

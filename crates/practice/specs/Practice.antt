@@ -4,13 +4,13 @@ use mathlib.Core.Path.{_≡_}
 use mathlib.Core.List.{List}
 use lib.ListN.{length, getD, replicate}
 use lib.Ieee.{Float}
-use Rattle.corner.specs.declared.Limits.{Limits}
-use Rattle.corner.specs.Limits.{delivered}
+use Rattle.limits.specs.declared.Limits.{Limits}
+use Rattle.limits.specs.Limits.{delivered}
 use Rattle.quads.specs.declared.Cell.{Cell}
 use Rattle.quads.specs.Quads.{noCell}
 use Rattle.table.specs.declared.Row.{Row}
 use Rattle.table.specs.Refusals.{Passes}
-use Rattle.sets.specs.Sets.{practiceSet}
+use Rattle.limits.specs.Sets.{practiceSet}
 use Rattle.call.specs.Call.{Lists, Call, listsOf, nodeReserve, cellReserve}
 use Rattle.call.specs.Divide.{CallAnswer, put, ringTests, cleanedRing, startOf}
 use Rattle.call.specs.Demand.{splitOf, AcceptedCall}

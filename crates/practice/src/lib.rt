@@ -50,7 +50,7 @@ pub fn divide_practice(
         };
     }
     divider::divide_set(
-        sets::practice(),
+        limits::practice(),
         ring,
         chain,
         size,

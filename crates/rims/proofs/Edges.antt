@@ -12,7 +12,7 @@ use Rattle.vector.specs.Grid.{at}
 use Rattle.marks.specs.declared.EdgeMark.{EdgeMark}
 use Rattle.marks.specs.declared.EdgeMark.the-variants.{Straight}
 use Rattle.marks.specs.Part.{Part, noPart}
-use Rattle.corner.specs.declared.Limits.{Limits}
+use Rattle.limits.specs.declared.Limits.{Limits}
 use Rattle.split.specs.Split.{Cut, splitBadVertices}
 use Rattle.cuts.specs.Counts.{Sound}
 use Rattle.cuts.specs.Provenance.{Side, diagonal}

@@ -16,8 +16,8 @@ use lib.IntN.{ℤ}
 use borrow.Author.Tests.{ltb-false, lt-ltb, le-ltb, eq-eqb, ne-eqb, eqb-true}
 use Rattle.laws.proofs.Table.{length-tab}
 use Rattle.laws.proofs.Booleans.{is-true, neither}
-use Rattle.corner.specs.declared.Limits.{Limits}
-use Rattle.corner.specs.Limits.{delivered}
+use Rattle.limits.specs.declared.Limits.{Limits}
+use Rattle.limits.specs.Limits.{delivered}
 use Rattle.table.specs.Refusals.{Refusal, firstOf, Passes}
 use Rattle.call.specs.Call.{listsOf}
 use Rattle.call.specs.Divide.{core, startOf}

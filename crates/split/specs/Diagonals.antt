@@ -6,7 +6,7 @@ use lib.ListN.{length}
 use lib.Dec.{T}
 use Rattle.laws.specs.Double.{_<f_, _≤f_}
 use Rattle.vector.specs.declared.GridPoint.{GridPoint}
-use Rattle.corner.specs.declared.Limits.{Limits}
+use Rattle.limits.specs.declared.Limits.{Limits}
 use Rattle.diagonal.specs.Diagonal.{meetsRule, score}
 
 -- of the diagonals from the corner 0 of r to 2 .. its corners less 2, the one to k is the best: it meets the rule, no other that does has a smaller larger

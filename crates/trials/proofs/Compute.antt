@@ -29,7 +29,7 @@ use Rattle.cells.specs.Cells as Cells
 use Rattle.cells.specs.Pieces as Pieces
 use Rattle.cells.specs.Asks as Asks
 use Rattle.cells.specs.Rims as Rims
-use Rattle.sets.specs.Sets as Sets
+use Rattle.limits.specs.Sets as Sets
 use Rattle.call.specs.Call as Call
 use Rattle.call.specs.Divide as Divide
 use Rattle.call.specs.Lent as Lent

@@ -8,10 +8,10 @@ use lib.Dec.{T, eqb, eqb→eq}
 use lib.Ieee.Fits.{and-l, and-r}
 use Rattle.laws.specs.All.{All}
 use Rattle.root.specs.Root.{rootBits}
-use Rattle.corner.specs.Limits.{delivered}
+use Rattle.limits.specs.Limits.{delivered}
 use Rattle.corner.specs.Corner.{measure, bad}
 use Rattle.nodes.specs.Nodes.{nodeAt}
-use Rattle.corner.specs.declared.Limits.{Limits}
+use Rattle.limits.specs.declared.Limits.{Limits}
 use Rattle.quads.specs.declared.Cell.{Cell}
 use Rattle.table.specs.Refusals.{turnsAway}
 use Rattle.call.specs.Call.{Call, listsOf, entry}

@@ -11,7 +11,7 @@ use lib.Ieee.{binary64, toBits, ofBits}
 use Rattle.vector.specs.declared.GridPoint.{GridPoint}
 use Rattle.vector.specs.declared.Point.{Point}
 use Rattle.root.specs.Root.{rootBits}
-use Rattle.corner.specs.Limits.{delivered}
+use Rattle.limits.specs.Limits.{delivered}
 use Rattle.corner.specs.Corner.{measure, bad}
 use Rattle.nodes.specs.Nodes.{noNode, nodeAt}
 use Rattle.quads.specs.declared.Cell.{Cell}

@@ -8,7 +8,7 @@ use mathlib.Core.List.{List, [], _∷_, _++_, map-append}
 use lib.ListN.{length}
 use lib.Dec.{T}
 use Rattle.laws.specs.All.{All}
-use Rattle.corner.specs.declared.Limits.{Limits}
+use Rattle.limits.specs.declared.Limits.{Limits}
 use Rattle.quads.specs.declared.Cell.{Cell}
 use Rattle.table.specs.Refusals.{Refusal, firstOf, Passes, numbered}
 use Rattle.table.proofs.Refusals.{not-0}

@@ -47,7 +47,7 @@ use Rattle.quads.proofs.Cell as T
 use Rattle.table.proofs.Row as R
 use Rattle.table.proofs.Row.Laws as R′
 use Rattle.cell_records.specs.declared.Laid.{Laid}
-use Rattle.corner.specs.Limits.{delivered}
+use Rattle.limits.specs.Limits.{delivered}
 use Rattle.call.specs.Lent.{LentRecords}
 use Rattle.cell_records.specs.Records.{Numbers, written}
 use Rattle.cell_records.proofs.Recorded.{promised}

@@ -5,8 +5,8 @@ use mathlib.Core.Bool.{Bool, _&&_, _||_, not}
 use lib.Dec.{ltb}
 use lib.Ieee.{Float}
 use Rattle.laws.specs.Double.{nat, _-f_, _<f_, _≤f_}
-use Rattle.corner.specs.declared.Limits.{Limits}
-use Rattle.corner.specs.Limits.{delivered}
+use Rattle.limits.specs.declared.Limits.{Limits}
+use Rattle.limits.specs.Limits.{delivered}
 
 -- "between .. ends allowed throughout". A NaN is not between, since it compares with nothing; -0.0 is 0
 unfoldable pub between : Float → Float → Float → Bool

@@ -1,8 +1,8 @@
 use mathlib.Core.Path.{_≡_, ap}
 use borrow.Author.Needs.{needs}
-use Rattle.sets.specs.Sets.{withCuts}
-use Rattle.sets.proofs.practice.Statement.{statement}
-use Rattle.sets.proofs.practice.Tie as tie
+use Rattle.limits.specs.Sets.{withCuts}
+use Rattle.limits.proofs.practice.Statement.{statement}
+use Rattle.limits.proofs.practice.Tie as tie
 
 on-delivery-requires : tie.Need-on-delivery-requires
 on-delivery-requires c κs = search needs

@@ -2,9 +2,9 @@
 use lib.Ieee.{ofBits, ofInt, round, sub, add, neg, sum}
 use borrow.Author.Needs.{needs}
 use borrow.Author.Tests.{lt-ltb, le-ltb}
-use Rattle.sets.specs.Sets as Sets
-use Rattle.sets.proofs.limits_out.Statement.{statement}
-use Rattle.sets.proofs.limits_out.Tie as tie
+use Rattle.limits.specs.Sets as Sets
+use Rattle.limits.proofs.limits_out.Statement.{statement}
+use Rattle.limits.proofs.limits_out.Tie as tie
 
 returns : tie.Need-returns
 unfolding Sets.limitsOut

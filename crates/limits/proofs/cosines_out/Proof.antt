@@ -1,9 +1,9 @@
 -- `cosines_out`: the code's constants are those of the definition, and each return is one of its cases.
 use lib.Ieee.{ofBits, ofInt, round, sub, add, neg, sum}
 use borrow.Author.Needs.{needs}
-use Rattle.sets.specs.Sets as Sets
-use Rattle.sets.proofs.cosines_out.Statement.{statement}
-use Rattle.sets.proofs.cosines_out.Tie as tie
+use Rattle.limits.specs.Sets as Sets
+use Rattle.limits.proofs.cosines_out.Statement.{statement}
+use Rattle.limits.proofs.cosines_out.Tie as tie
 
 between-requires : tie.Need-between-requires
 between-requires c κs = search needs

@@ -1,6 +1,6 @@
-use Rattle.sets.specs.Sets as Sets
-use Rattle.sets.proofs.between.Statement.{statement}
-use Rattle.sets.proofs.between.Tie as tie
+use Rattle.limits.specs.Sets as Sets
+use Rattle.limits.proofs.between.Statement.{statement}
+use Rattle.limits.proofs.between.Tie as tie
 
 returns : tie.Need-returns
 unfolding Sets.between

@@ -8,9 +8,9 @@ use lib.Ieee.{ofInt, round, add, sub, div, neg, sum, lt, le}
 use borrow.Author.Tests.{ltb-false}
 use Rattle.laws.specs.Double.{nat, lit}
 use Rattle.laws.proofs.Booleans.{neither}
-use Rattle.corner.specs.declared.Limits.{Limits}
-use Rattle.corner.specs.Limits.{delivered}
-use Rattle.sets.specs.Sets.{between, cosinesOut, limitsOut, practiceSet}
+use Rattle.limits.specs.declared.Limits.{Limits}
+use Rattle.limits.specs.Limits.{delivered}
+use Rattle.limits.specs.Sets.{between, cosinesOut, limitsOut, practiceSet}
 
 pub most-cuts : (L : Limits) → limitsOut L ≡ false → L .cuts ≤ 32
 unfolding limitsOut

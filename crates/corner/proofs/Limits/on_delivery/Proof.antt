@@ -1,9 +1,0 @@
-use Rattle.corner.proofs.Delivered.{code-is}
-use Rattle.corner.proofs.Limits.on_delivery.Statement.{statement}
-use Rattle.corner.proofs.Limits.on_delivery.Tie as tie
-
-returns : tie.Need-returns
-returns c = code-is
-
-pub on-delivery-spec : {M : Type 1} → statement M
-on-delivery-spec = tie.close (tie.spec returns)

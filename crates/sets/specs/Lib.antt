@@ -1,2 +1,0 @@
--- The sets of limits that a call takes.
-pub mod Sets
