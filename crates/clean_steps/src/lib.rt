@@ -2,12 +2,13 @@
 //
 // It stands between nearness, whose tests of a point these are, and clean, which makes passes of the steps until one drops none.
 // A step takes a choice of the ring's places and answers a smaller one: the code carries the places alone, a byte each. The steps
-// are defined in specs/Steps, of the points, and in specs/Choices, of their places.
+// are defined in specs/Steps, of the points, and in specs/Choices, of their places. Those that look at two points are here, and
+// the one that looks at three is `flat_points`.
 
 ghost use mathlib.Core.Path.{_≡_};
 ghost use Prim.Native.Nat.{_≤_};
 ghost use Rattle.clean_steps.specs.Steps as Steps;
-ghost use Rattle.clean_steps.specs.Choices.{among, spacedPlaces, bentPlaces, placesOf, chosen, ValidChoice};
+ghost use Rattle.clean_steps.specs.Choices.{among, spacedPlaces, placesOf, chosen, ValidChoice};
 use vector::GridPoint;
 use vector::MOST_POINTS;
 
@@ -53,30 +54,4 @@ pub fn opened(ring: [GridPoint; MOST_POINTS], r: Choice, tol: f64) -> usize
         k -= 1;
     }
     k
-}
-
-// The choice without the points that are flat in it, each judged in the ring as it stands.
-pub fn bent(ring: [GridPoint; MOST_POINTS], r: Choice, tol: f64) -> Choice
-    requires { ⌜ ValidChoice ring r ⌝ }
-    ensures { λ u. ⌜ ValidChoice ring u × (placesOf u ≡ among (placesOf r) (bentPlaces tol (chosen ring r) (r .count))) ⌝ }
-{
-    let n = r.count;
-    let mut out = r;
-    let mut k: usize = 0;
-    for i in 0..n {
-        let here = r.places[i];
-        let before = r.places[vector::prev(i, n)];
-        let after = r.places[vector::next(i, n)];
-        if !nearness::flat(
-            ring[before as usize],
-            ring[here as usize],
-            ring[after as usize],
-            tol,
-        ) {
-            out.places[k] = here;
-            k += 1;
-        }
-    }
-    out.count = k;
-    out
 }
