@@ -1,8 +1,8 @@
 // Parts: a part of a ring as a list of numbers, and parts one after the other.
 //
-// It stands under the split, whose stack and pieces are such lists; the two parts that a diagonal makes are `sub_polygons`. The ring's points and the marks of its edges are held
-// once, outside; a part has two bytes a corner, so that the whole state of the split is 600 bytes and goes by value.
-// specs/Vertices and specs/Layout say how numbers are read back as parts.
+// It stands under the split, whose stack and pieces are such lists; the two parts that a diagonal makes are `sub_polygons`. The
+// ring's points and the marks of its edges are held once, outside; a part has two bytes a corner, so that the whole state of the
+// split is 600 bytes and goes by value. specs/Vertices and specs/Layout say how numbers are read back as parts.
 
 ghost use mathlib.Core.Path.{_≡_};
 ghost use mathlib.Core.List.{List};
