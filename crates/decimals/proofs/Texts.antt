@@ -6,7 +6,7 @@ use mathlib.Core.List.{List, [], _∷_, _++_}
 use native.Mathlib.Omega.{arith}
 use lib.ListN.{length, length-append}
 use lib.Ieee.{Float}
-use Rattle.text.specs.Text.{bytes, decimal, marks, part, filledTo, filled}
+use Rattle.text.specs.Text.{bytes, decimal, marks, filledTo, filledBy, part, takes, filled}
 use Rattle.text.proofs.Decimal.{one-digit, at-most-20}
 use Rattle.decimals.specs.Rounded.{tenThousandths, minus}
 use Rattle.decimals.specs.Shown.{decimals, shown}
@@ -24,7 +24,7 @@ digit n = (48 + n) ∷ []
 filled-is : (m : Bool) (a b c d e : ℕ)
     → filled (cond m (bytes "-#.####") (bytes "#.####")) (a ∷ b ∷ c ∷ d ∷ e ∷ [])
     ≡ sign m ++ decimal a ++ point ++ decimal b ++ decimal c ++ decimal d ++ decimal e
-unfolding filled filledTo marks part bytes
+unfolding filledBy filledTo marks part takes bytes
 filled-is true a b c d e = refl
 filled-is false a b c d e = refl
 

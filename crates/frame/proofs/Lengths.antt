@@ -7,8 +7,8 @@ use native.Mathlib.Omega.{arith}
 use lib.ListN.{length, length-append}
 use lib.Dec.{ltb}
 use borrow.Author.Tests.{lt-ltb, le-ltb}
-use Rattle.text.specs.Text.{bytes}
-use Rattle.svg.specs.Form.{formed, marks, takes}
+use Rattle.text.specs.Text.{bytes, marks}
+use Rattle.svg.specs.Form.{formed, takes}
 use Rattle.svg.proofs.Forms.{length-formed}
 use Rattle.frame.specs.declared.Frame.{Frame}
 use Rattle.frame.specs.declared.View.{View}

@@ -8,7 +8,7 @@ use lib.Ieee.{Float}
 use Rattle.text.specs.Text.{bytes, Written}
 use Rattle.table.specs.declared.Row.{Row}
 use Rattle.svg.specs.Form.{formed}
-use Rattle.svg.proofs.Chain.{room-first, room-second, room-third, three, front-three}
+use Rattle.text.proofs.Chain.{room-first, room-second, room-third, three, front-three}
 use Rattle.scene.specs.Scene.{pointsText, quadsText, dividedText, mostRing}
 use Rattle.scene.proofs.Lengths.{divided-length}
 

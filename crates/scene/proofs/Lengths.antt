@@ -10,10 +10,10 @@ use lib.Dec.{eqb}
 use lib.IntN.{ℤ}
 use lib.Ieee.{Float}
 use borrow.Author.Tests.{eq-eqb, ne-eqb}
-use Rattle.text.specs.Text.{bytes}
+use Rattle.text.specs.Text.{bytes, marks}
 use Rattle.table.specs.declared.Row.{Row}
 use Rattle.svg.specs.Place.{pointPlace}
-use Rattle.svg.specs.Form.{formed, marks, takes}
+use Rattle.svg.specs.Form.{formed, takes}
 use Rattle.svg.proofs.Forms.{length-formed}
 use Rattle.scene.specs.declared.Spot.{Spot}
 use Rattle.scene.specs.declared.Quad.{Quad}

@@ -1,21 +1,19 @@
--- A form filled with numbers, byte by byte, and how long it is: 25 more for each mark than the mark itself, whatever the numbers.
-use Prim.Native.Nat.{ℕ, zero, suc, _+_, _-_, _*_, _/_, _%_, _≤_, _<_}
-use mathlib.Core.Path.{_≡_, refl, _∙_}
+-- What each byte of a form stands for, case by case, and how long a form is: 25 more for each mark than the mark itself, whatever the numbers.
+use Prim.Native.Nat.{ℕ, _+_, _-_, _*_, _/_, _%_, _≤_, _<_}
+use mathlib.Core.Path.{_≡_}
 use mathlib.Core.Bool.{Bool, true, false, _||_, cond}
 use mathlib.Core.List.{List, [], _∷_, _++_}
-use native.Mathlib.Nat.{mul-add}
-use native.Mathlib.Numerals.{add-one}
 use native.Mathlib.Omega.{arith}
-use lib.ListN.{length, getD, length-append}
+use lib.ListN.{length, getD}
 use lib.Dec.{ltb, eqb}
 use borrow.Author.Tests.{eq-eqb, ne-eqb, lt-ltb, le-ltb}
-use Rattle.text.specs.Text.{decimal, Written}
-use Rattle.text.proofs.Writing.{turn-room, turn-written}
+use Rattle.text.specs.Text.{decimal, marks}
 use Rattle.text.proofs.Decimal.{at-most-20}
+use Rattle.text.proofs.Forms.{length-by}
 use Rattle.decimals.specs.Shown.{decimals}
 use Rattle.decimals.proofs.Texts.{decimals-most}
 use Rattle.svg.specs.Place.{origin}
-use Rattle.svg.specs.Form.{exact, plain, part, takes, marks, formedTo, formed}
+use Rattle.svg.specs.Form.{exact, plain, part, takes, formed}
 
 -- ---- by cases
 pub exact-below : (n : ℕ) → n < origin → exact n ≡ decimals true (origin - n)
@@ -105,31 +103,5 @@ part-most b n = go (eqb b 35) (eqb b 64) (eqb b 126)
     go false false true = omega (arith, plain-most n)
     go false false false = omega arith
 
-module _ (f ns : List ℕ) where
-  step : (i : ℕ) → formedTo f ns (suc i) ≡ formedTo f ns i ++ part (getD f i 0) (getD ns (marks f i) 0)
-  unfolding formedTo
-  step i = refl
-
-  pub marks-more : (i k b : ℕ) → k ≡ marks f i → b ≡ takes (getD f i 0) → k + b ≡ marks f (i + 1)
-  unfolding marks
-  marks-more i k b e d = (λ j. e j + d j) ∙ rw (add-one i)
-
-  -- a turn of the loop that fills the form: the next part has room, and is written
-  module _ (l : List ℕ) (at i : ℕ) (h : at + length (formed f ns) ≤ length l) (k : i < length f) (next : ℕ) (left : List ℕ)
-      (w : Written l at (formedTo f ns i) next left) (n : ℕ) (e : n ≡ getD ns (marks f i) 0) where
-    pub part-room : next + length (part (getD f i 0) n) ≤ length left
-    unfolding formed
-    part-room = rw e (turn-room (formedTo f ns) (λ j. part (getD f j 0) (getD ns (marks f j) 0)) step l at i (length f) h k next left w)
-
-    pub part-written : (r : ℕ) (m : List ℕ) → Written left next (part (getD f i 0) n) r m → Written l at (formedTo f ns (i + 1)) r m
-    unfolding formed
-    part-written r m v = turn-written (formedTo f ns) (λ j. part (getD f j 0) (getD ns (marks f j) 0)) step l at i (length f) h k next left w r m (rw e at v)
-
-  length-to : (i : ℕ) → length (formedTo f ns i) ≤ i + 25 * marks f i
-  unfolding formedTo marks
-  length-to zero = omega arith
-  length-to (suc i) = rw (length-append, mul-add) (omega (arith, length-to i, part-most (getD f i 0) (getD ns (marks f i) 0)))
-
-  pub length-formed : length (formed f ns) ≤ length f + 25 * marks f (length f)
-  unfolding formed
-  length-formed = length-to (length f)
+pub length-formed : (f ns : List ℕ) → length (formed f ns) ≤ length f + 25 * marks takes f (length f)
+length-formed f ns = length-by part takes f ns 25 (λ b k. part-most b (getD ns k 0))

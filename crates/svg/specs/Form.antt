@@ -1,10 +1,9 @@
--- A form is a text in which each mark stands for the next number of a list. Definitions only.
-use Prim.Native.Nat.{ℕ, zero, suc, _+_, _-_, _/_, _%_}
+-- The marks of a picture's forms: a form is a text in which each mark stands for the next number of a list. Definitions only.
+use Prim.Native.Nat.{ℕ, _-_, _/_, _%_}
 use mathlib.Core.Bool.{true, false, _||_, cond}
-use mathlib.Core.List.{List, [], _∷_, _++_}
-use lib.ListN.{length, getD}
+use mathlib.Core.List.{List, [], _∷_}
 use lib.Dec.{ltb, eqb}
-use Rattle.text.specs.Text.{decimal}
+use Rattle.text.specs.Text.{decimal, filledBy}
 use Rattle.decimals.specs.Shown.{decimals}
 use Rattle.svg.specs.Place.{origin}
 
@@ -22,18 +21,10 @@ plain n =
 unfoldable pub part : ℕ → ℕ → List ℕ
 part b n = cond (eqb b 35) (decimal n) (cond (eqb b 64) (exact n) (cond (eqb b 126) (plain n) (b ∷ [])))
 
--- how many numbers it takes, and how many the first i bytes of a form take
+-- how many numbers it takes
 unfoldable pub takes : ℕ → ℕ
 takes b = cond (eqb b 35 || eqb b 64 || eqb b 126) 1 0
 
-unfoldable pub marks : List ℕ → ℕ → ℕ
-marks f zero = 0
-marks f (suc i) = marks f i + takes (getD f i 0)
-
--- the first i bytes of a form with the numbers ns put in, and the whole
-unfoldable pub formedTo : List ℕ → List ℕ → ℕ → List ℕ
-formedTo f ns zero = []
-formedTo f ns (suc i) = formedTo f ns i ++ part (getD f i 0) (getD ns (marks f i) 0)
-
-unfoldable pub formed : List ℕ → List ℕ → List ℕ
-formed f ns = formedTo f ns (length f)
+-- the form f with the numbers ns put in
+abbrev pub formed : List ℕ → List ℕ → List ℕ
+formed f ns = filledBy part takes f ns

@@ -9,7 +9,6 @@ ghost use Prim.Native.Nat.{_+_, _≤_, _<_};
 ghost use lib.ListN.{length, getD};
 ghost use lib.Ieee.{nan};
 ghost use Rattle.text.specs.Text.{Written};
-ghost use Rattle.blocks.specs.Writing as Writing;
 ghost use Rattle.svg.specs.Place as Place;
 ghost use Rattle.svg.specs.Form as Form;
 
@@ -59,22 +58,12 @@ fn unit_place(n: u32) -> u64
     ORIGIN - rounded(4294967296 - n as u64)
 }
 
-// The 32 bits of a signed number, as a job block has them.
-fn bits(x: i32) -> u32
-    ensures { λ r. ⌜ r ≡ Writing.bits x ⌝ }
-{
-    if x < 0 {
-        return 4294967295 - (-1 - x) as u32;
-    }
-    x as u32
-}
-
 // The place of coordinate k of a ring's points, the origin where there is none.
 pub fn point_place(points: &[i32], k: usize) -> u64
     ensures { λ r. ⌜ (r ≡ Place.pointPlace (now (points .entry)) k) × (r ≤ 30240001) ⌝ }
 {
     if k < points.len() {
-        return unit_place(bits(points[k]));
+        return unit_place(blocks::bits(points[k]));
     }
     ORIGIN
 }
@@ -138,15 +127,6 @@ fn takes(b: u8) -> usize
     0
 }
 
-fn number(numbers: &[u64], k: usize) -> u64
-    ensures { λ r. ⌜ r ≡ getD (now (numbers .entry)) k 0 ⌝ }
-{
-    if k < numbers.len() {
-        return numbers[k];
-    }
-    0
-}
-
 // The form with the numbers in place of its marks, in order.
 pub fn put_form(out: &mut [u8], at: usize, form: &[u8], numbers: &[u64]) -> usize
     requires { ⌜ at + length (Form.formed (now form) (now numbers)) ≤ length (now out) ⌝ }
@@ -156,7 +136,7 @@ pub fn put_form(out: &mut [u8], at: usize, form: &[u8], numbers: &[u64]) -> usiz
     let mut k = 0;
     for i in 0..form.len() {
         let b = form[i];
-        next = put_part(out, next, b, number(numbers, k));
+        next = put_part(out, next, b, text::number(numbers, k));
         k += takes(b);
     }
     next

@@ -5,12 +5,10 @@
 // it leaves in every place of the list; proofs/Writing has the laws of texts written one after the other.
 
 ghost use mathlib.Core.Path.{_≡_};
-ghost use mathlib.Core.Bool.{cond};
 ghost use mathlib.Core.List.{[], _∷_};
 ghost use Prim.Native.Nat.{_+_, _≤_, _<_};
 ghost use lib.ListN.{length, getD};
-ghost use lib.Dec.{eqb};
-ghost use Rattle.text.specs.Text.{decimal, part, filled, Written};
+ghost use Rattle.text.specs.Text.{decimal, part, takes, filled, Written};
 
 pub fn put_byte(out: &mut [u8], at: usize, b: u8) -> usize
     requires { ⌜ at < length (now out) ⌝ }
@@ -52,7 +50,7 @@ fn put_part(out: &mut [u8], at: usize, b: u8, n: u64) -> usize
 
 // How many numbers a byte of a form takes.
 fn taken(b: u8) -> usize
-    ensures { λ r. ⌜ (r ≡ cond (eqb b 35) 1 0) × (r ≤ 1) ⌝ }
+    ensures { λ r. ⌜ (r ≡ takes b) × (r ≤ 1) ⌝ }
 {
     if b == b'#' {
         return 1;
@@ -60,7 +58,8 @@ fn taken(b: u8) -> usize
     0
 }
 
-fn number(numbers: &[u64], k: usize) -> u64
+// Number k of a form's numbers, 0 past them.
+pub fn number(numbers: &[u64], k: usize) -> u64
     ensures { λ r. ⌜ r ≡ getD (now (numbers .entry)) k 0 ⌝ }
 {
     if k < numbers.len() {

@@ -105,7 +105,7 @@ in-divider = tt
 unfoldable pub in-program : Unit {0}
 unfolding Table.tab Fields.pair Fields.word Fields.signed Fields.coordinate Fields.checkTo Fields.anyUsed Blocks.headWrong Blocks.sizeWrong
     Blocks.unusedWrong Blocks.refusal Blocks.refusedBlock Blocks.acceptedBlock Blocks.readBlock NodesFlat.nodesIn QuadsFlat.overCells Lent.divideLent
-    Text.bytes Text.digits Text.decimal Text.marks Text.part Text.filledTo Text.filled Report.hundredths Report.ringLine Report.nodesLine
+    Text.bytes Text.digits Text.decimal Text.marks Text.filledTo Text.filledBy Text.part Text.takes Report.hundredths Report.ringLine Report.nodesLine
     Report.quadLine Report.quadLines Report.ringText Report.refusedRing Report.refusedBlock Told.rowText Told.toldText Step.ends Step.waits Step.divides
     Step.taken Step.stepOf Run.onward Run.ran Run.readTo Run.wholeRun Run.printed
 in-program = tt

@@ -1,8 +1,7 @@
 -- `put_head`: four texts one after the other, which have room by proofs/Lengths.
 use mathlib.Core.List.{_++_}
-use Rattle.text.proofs.Writing.{shorter, room, join}
-use Rattle.svg.proofs.Sums.{room-as, written-as}
-use Rattle.svg.proofs.Chain.{room-second, room-third, three}
+use Rattle.text.proofs.Writing.{shorter, room, join, room-as, written-as}
+use Rattle.text.proofs.Chain.{room-second, room-third, three}
 use Rattle.frame.proofs.Lengths.{head-length}
 use Prim.Native.Nat.{_+_, _-_, _≤_}
 use mathlib.Core.Path.{ap}

@@ -1,11 +1,10 @@
 -- `put_lead`: nothing of a ring's block or of a refused one, and the line of a chain's.
 use Prim.Native.Nat.{_≤_}
 use mathlib.Core.Path.{_∙_, subst}
-use Rattle.text.proofs.Writing.{nothing}
+use Rattle.text.proofs.Writing.{nothing, room-as, written-as}
 use Rattle.blocks.specs.declared.Block.{Block}
 use Rattle.blocks.specs.Blocks.{points}
 use Rattle.blocks.proofs.Counts.{few-points}
-use Rattle.svg.proofs.Sums.{room-as, written-as}
 use Rattle.picture.proofs.Drawing.{lead-of-ring, lead-of-chain, lead-of-refused, same-lead}
 use native.Mathlib.Omega.{arith}
 use borrow.Author.Needs.{needs}

@@ -4,7 +4,7 @@ use mathlib.Core.Path.{refl, ap}
 use lib.ListN.{length, length-take}
 use Rattle.laws.proofs.Lists.{part-length}
 use Rattle.scene.specs.Scene.{ringText}
-use Rattle.svg.proofs.Sums.{written-as}
+use Rattle.text.proofs.Writing.{written-as}
 use Rattle.picture.proofs.Drawing.{cells-some, cells-none}
 use native.Mathlib.Omega.{arith}
 use borrow.Author.Needs.{needs}

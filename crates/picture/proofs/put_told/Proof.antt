@@ -1,7 +1,6 @@
 -- `put_told`: nothing, a ring, or the line of a refused block.
-use Rattle.text.proofs.Writing.{nothing}
+use Rattle.text.proofs.Writing.{nothing, written-as}
 use Rattle.told.proofs.Rows.{can-show}
-use Rattle.svg.proofs.Sums.{written-as}
 use Rattle.picture.proofs.Drawing.{draws-nothing, draws-ring, draws-block}
 use native.Mathlib.Omega.{arith}
 use borrow.Author.Needs.{needs}

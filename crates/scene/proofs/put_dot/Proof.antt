@@ -1,6 +1,6 @@
 -- `put_dot`: the form of a node inside, or on a rim, filled with its place and its number.
 use Rattle.text.specs.Text.{bytes}
-use Rattle.svg.proofs.Sums.{written-as}
+use Rattle.text.proofs.Writing.{written-as}
 use Rattle.scene.proofs.Lengths.{dot-inside, dot-rim, inside-length, rim-length}
 use native.Mathlib.Omega.{arith}
 use borrow.Author.Needs.{needs}

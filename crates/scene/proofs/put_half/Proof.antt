@@ -1,6 +1,6 @@
 -- `put_half`: the form of a cut, or of a ring's edge, filled with the two places.
 use Rattle.text.specs.Text.{bytes}
-use Rattle.svg.proofs.Sums.{room-as, written-as}
+use Rattle.text.proofs.Writing.{room-as, written-as}
 use Rattle.scene.proofs.Lengths.{half-cut, half-rim}
 use borrow.Author.Needs.{needs}
 use Rattle.scene.proofs.put_half.Statement.{statement}

@@ -3,10 +3,9 @@ use mathlib.Core.Path.{_∙_}
 use mathlib.Core.List.{[]}
 use lib.ListN.{length}
 use Rattle.text.specs.Text.{bytes}
-use Rattle.text.proofs.Writing.{nothing}
+use Rattle.text.proofs.Writing.{nothing, room-as, written-as}
 use Rattle.svg.specs.Form.{formed}
-use Rattle.svg.proofs.Sums.{room-as, written-as}
-use Rattle.svg.proofs.Chain.{room-first, room-second, room-third, three}
+use Rattle.text.proofs.Chain.{room-first, room-second, room-third, three}
 use Rattle.scene.specs.Scene as Scene
 use Rattle.scene.proofs.Lengths.{lead-none, lead-some}
 use native.Mathlib.Omega.{arith}

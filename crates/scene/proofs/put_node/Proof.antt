@@ -1,5 +1,5 @@
 -- `put_node`: the node's place and mark, looked up.
-use Rattle.svg.proofs.Sums.{written-as}
+use Rattle.text.proofs.Writing.{written-as}
 use Rattle.scene.specs.Scene as Scene
 use borrow.Author.Needs.{needs}
 use Rattle.scene.proofs.put_node.Statement.{statement}

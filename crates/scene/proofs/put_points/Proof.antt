@@ -2,10 +2,9 @@
 use Prim.Native.Nat.{ℕ, _+_, _-_, _≤_}
 use mathlib.Core.Path.{_≡_, refl, _∙_, subst}
 use lib.ListN.{length}
-use Rattle.text.proofs.Writing.{nothing, turn-room, turn-written}
+use Rattle.text.proofs.Writing.{nothing, turn-room, turn-written, room-as, written-as}
 use Rattle.text.specs.Text.{Written}
 use Rattle.scene.specs.Scene as Scene
-use Rattle.svg.proofs.Sums.{room-as, written-as}
 use borrow.Author.Needs.{needs}
 use native.Mathlib.Omega.{arith}
 use Rattle.scene.proofs.put_points.Statement.{statement}

@@ -2,7 +2,7 @@
 use mathlib.Core.List.{_++_}
 use mathlib.Core.Path.{_∙_}
 use Rattle.text.proofs.Writing.{join, room, shorter}
-use Rattle.svg.proofs.Chain.{room-first, room-second, room-third, three}
+use Rattle.text.proofs.Chain.{room-first, room-second, room-third, three}
 use Rattle.scene.specs.Scene as Scene
 use Rattle.scene.proofs.put_quad.Statement.{statement}
 use Rattle.scene.proofs.put_quad.Tie as tie

@@ -5,10 +5,10 @@ use mathlib.Core.List.{[], _∷_, _++_}
 use lib.ListN.{length}
 use Rattle.text.specs.Text.{bytes}
 use Rattle.svg.specs.Form.{formed}
-use Rattle.svg.proofs.Sums.{room-as, written-as}
+use Rattle.text.proofs.Writing.{room-as, written-as}
 use Rattle.scene.specs.Scene as Scene
 use Rattle.scene.proofs.Lengths.{refused-length}
-use Rattle.svg.proofs.Chain.{room-first, room-second, room-third, three}
+use Rattle.text.proofs.Chain.{room-first, room-second, room-third, three}
 use native.Mathlib.Omega.{arith}
 use borrow.Author.Needs.{needs}
 use Rattle.scene.proofs.put_refused.Statement.{statement}

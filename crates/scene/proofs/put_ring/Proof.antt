@@ -1,5 +1,5 @@
 -- `put_ring`: divided, or refused.
-use Rattle.svg.proofs.Sums.{written-as}
+use Rattle.text.proofs.Writing.{written-as}
 use Rattle.scene.proofs.Lengths.{ring-divided, ring-refused}
 use borrow.Author.Needs.{needs}
 use Rattle.scene.proofs.put_ring.Statement.{statement}

@@ -1,8 +1,7 @@
 -- `put_snap`: the sign, or nothing.
 use mathlib.Core.Path.{sym, _∙_}
 use Rattle.text.specs.Text.{bytes}
-use Rattle.text.proofs.Writing.{nothing}
-use Rattle.svg.proofs.Sums.{room-as, written-as}
+use Rattle.text.proofs.Writing.{nothing, room-as, written-as}
 use Rattle.scene.proofs.Lengths.{snap-sign, snap-none}
 use native.Mathlib.Omega.{arith}
 use borrow.Author.Needs.{needs}

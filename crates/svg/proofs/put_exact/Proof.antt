@@ -1,6 +1,6 @@
 -- `put_exact`: the decimals with a minus below the origin, and without one from it on.
 use Rattle.svg.proofs.Forms.{exact-below, exact-above}
-use Rattle.svg.proofs.Sums.{room-as, written-as}
+use Rattle.text.proofs.Writing.{room-as, written-as}
 use mathlib.Core.Path.{sym}
 use borrow.Author.Needs.{needs}
 use Rattle.svg.proofs.put_exact.Statement.{statement}

@@ -2,7 +2,7 @@
 use Prim.Native.Nat.{_-_}
 use mathlib.Core.Path.{sym}
 use Rattle.svg.proofs.Forms.{part-number, part-exact, part-plain, part-byte}
-use Rattle.svg.proofs.Sums.{room-as, written-as}
+use Rattle.text.proofs.Writing.{room-as, written-as}
 use native.Mathlib.Omega.{arith}
 use borrow.Author.Needs.{needs}
 use Rattle.svg.proofs.put_part.Statement.{statement}

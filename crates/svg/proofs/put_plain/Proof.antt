@@ -3,10 +3,9 @@ use Prim.Native.Nat.{_-_, _/_}
 use mathlib.Core.Path.{sym, _∙_}
 use mathlib.Core.List.{[], _∷_}
 use Rattle.text.specs.Text.{decimal}
-use Rattle.text.proofs.Writing.{join, room, shorter}
 use Rattle.svg.specs.Place.{origin}
 use Rattle.svg.proofs.Forms.{plain-part, plain-below, plain-above}
-use Rattle.svg.proofs.Sums.{room-as, written-as}
+use Rattle.text.proofs.Writing.{room-as, written-as, join, room, shorter}
 use native.Mathlib.Omega.{arith}
 use borrow.Author.Needs.{needs}
 use Rattle.svg.proofs.put_plain.Statement.{statement}
