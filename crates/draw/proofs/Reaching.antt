@@ -1,7 +1,7 @@
 -- The loop of `draw`: it begins with no byte read, a byte more keeps the invariant and brings the end nearer, and where it ends the run is finished.
 use Prim.Native.Nat.{ℕ, suc, _+_, _-_, _*_, _≤_, _<_}
-use mathlib.Core.Path.{_≡_, refl, sym, ap, _∙_}
-use mathlib.Core.Bool.{Bool, true, false, _||_, cond}
+use mathlib.Core.Path.{_≡_, refl, sym, ap, subst, _∙_}
+use mathlib.Core.Bool.{Bool, true, false, true≢false, _&&_, _||_, cond}
 use mathlib.Core.List.{List, [], _∷_, _++_}
 use native.Mathlib.Omega.{arith}
 use lib.ListN.{length, length-append}
@@ -11,7 +11,8 @@ use borrow.Author.Tests.{eq-eqb, ne-eqb, eqb-true, eqb-false}
 use Rattle.drawing.specs.declared.State.{State}
 use Rattle.drawing.specs.Page.{Page, page, goneOn, stops, lineEnds, fed, ends, begun, blankPage, Run, onward, ran, finished, Kept, Moves}
 use Rattle.draw.specs.declared.Ended.{Ended}
-use Rattle.draw.specs.Reached.{Reached, Sendable, written, ending, Ends}
+use Rattle.draw.specs.declared.Taken.{Taken}
+use Rattle.draw.specs.Reached.{Reached, LineEnded, Sendable, written, ending, Ends}
 
 pub begun-so : (s : State) (text : List ℕ) (ring chain : List ℤ) (out : List ℕ) → s ≡ begun → length text ≡ 80 → length ring ≡ 120 → length chain ≡ 120
     → length out ≡ 1024 → Reached s text ring chain out 0
@@ -54,8 +55,11 @@ unfolding ends
 blind-end s text ring chain out = refl
 
 -- ---- the end comes nearer with each byte
-abbrev pub nearer : State → ℕ
-nearer s = cond (eqb (s .draft .wrong) 0) (suc (s .left)) 0
+abbrev near : State → ℕ
+near s = cond (eqb (s .draft .wrong) 0) (suc (s .left)) 0
+
+abbrev pub nearer : Taken → ℕ
+nearer t = cond (t .sent) (near (t .state)) 0
 
 at-most : (t : Bool) (n m : ℕ) → n < m → cond t (suc n) 0 < suc m
 at-most true n m h = omega arith
@@ -63,7 +67,7 @@ at-most false n m h = omega arith
 
 -- a byte fewer may come, or the run has ended; and it writes one pair at most
 fed-step : (b : ℕ) (p : Page)
-    → (nearer (fed b p .state) < suc (p .state .left))
+    → (near (fed b p .state) < suc (p .state .left))
     × (length (fed b p .out) ≤ 1024 → length (fed b p .out) + 1024 * fed b p .state .left ≤ 1024 * p .state .left)
 unfolding fed stops lineEnds
 fed-step b p = go (eqb (p .state .left) 0) (eqb b 10) (p .state .comment || eqb b 35) (eqb (p .state .length) 80) refl
@@ -83,7 +87,7 @@ fed-step b p = go (eqb (p .state .left) 0) (eqb b 10) (p .state .comment || eqb 
     less e = let n = eqb-false (s .left) 0 e in omega (arith, n)
 
     go : (t u v w : Bool) → eqb (s .left) 0 ≡ t
-        → (nearer (pages t u v w .state) < suc (s .left))
+        → (near (pages t u v w .state) < suc (s .left))
         × (length (pages t u v w .out) ≤ 1024 → length (pages t u v w .out) + 1024 * pages t u v w .state .left ≤ 1024 * s .left)
     go true u v w e = (omega arith, λ h. omega arith)
     go false true v w e = (at-most (eqb (lineEnds p .state .draft .wrong) 0) (s .left - 1) (s .left) (less e), λ h. omega (arith, less e))
@@ -91,11 +95,33 @@ fed-step b p = go (eqb (p .state .left) 0) (eqb b 10) (p .state .comment || eqb 
     go false false false true e = (omega arith, λ h. omega arith)
     go false false false false e = (at-most (eqb (s .draft .wrong) 0) (s .left - 1) (s .left) (less e), λ h. omega (arith, less e))
 
-pub falls : (b : ℕ) {s r : State} {text text' : List ℕ} {ring chain ring' chain' : List ℤ} {out' : List ℕ} → s .draft .wrong ≡ 0
-    → Moves (fed b) s text ring chain r text' ring' chain' out' → nearer r < nearer s
-falls b {s} {r} {text} {text'} {ring} {chain} {ring'} {chain'} {out'} e m =
-    let a : r ≡ fed b (page s text ring chain []) .state = ap (λ (p : Page). p .state) (m .same) in
-    rw (a, eq-eqb (s .draft .wrong) 0 e) (fed-step b (page s text ring chain []) .0)
+pub falls : (b : ℕ) (t u : Taken) {text text' : List ℕ} {ring chain ring' chain' : List ℤ} {out' : List ℕ} → t .sent ≡ true → t .state .draft .wrong ≡ 0
+    → Moves (fed b) (t .state) text ring chain (u .state) text' ring' chain' out' → nearer u < nearer t
+falls b t u {text} {text'} {ring} {chain} {ring'} {chain'} {out'} e w m =
+    let q : nearer t ≡ suc (t .state .left) = λ j. cond (e j) (cond (eqb (w j) 0) (suc (t .state .left)) 0) 0 in
+    subst (λ (n : ℕ). nearer u < n) (sym q) (go (u .sent))
+  where
+    near-by : near (u .state) < suc (t .state .left)
+    near-by =
+        let a : u .state ≡ fed b (page (t .state) text ring chain []) .state = ap (λ (p : Page). p .state) (m .same) in
+        rw a (fed-step b (page (t .state) text ring chain []) .0)
+
+    go : (k : Bool) → cond k (near (u .state)) 0 < suc (t .state .left)
+    go true = near-by
+    go false = omega arith
+
+-- ---- whether a run goes on
+both : (a b : Bool) → (a && b) ≡ true → (a ≡ true) × (b ≡ true)
+both true b e = (refl, e)
+both false b e = absurd (true≢false (sym e))
+
+pub goes : (t : Taken) {r : Bool} → r ≡ (t .sent && eqb (t .state .draft .wrong) 0) → r ≡ true → (t .sent ≡ true) × (t .state .draft .wrong ≡ 0)
+goes t e h = let q = both (t .sent) (eqb (t .state .draft .wrong) 0) (sym e ∙ h) in (q .0, eqb-true (t .state .draft .wrong) 0 (q .1))
+
+pub halts : (t : Taken) {r : Bool} → r ≡ (t .sent && eqb (t .state .draft .wrong) 0) → r ≡ false → t .sent ≡ true → t .state .draft .wrong ≡ 0 → ⊥
+halts t {r} e h d z =
+    let q : (t .sent && eqb (t .state .draft .wrong) 0) ≡ true = λ j. d j && eqb (z j) 0 in
+    true≢false (sym q ∙ sym e ∙ h)
 
 -- ---- what a run has reached
 part-short : (t : Bool) (out : List ℕ) → length out ≡ 1024 → length (cond t out []) ≤ 1024
@@ -141,6 +167,11 @@ module _ {s : State} {text : List ℕ} {ring chain : List ℤ} {out : List ℕ} 
           count = let n = ap length all ∙ length-append (ran (q .input) .blocks) (written r out') in omega (arith, n, q .count);
           bound = omega (arith, bounded);
         }
+
+    -- the byte ended the last line
+    pub line-ended : b ≡ 10 → (sent' : ℕ) → sent' ≡ sent + length (written r out') → LineEnded r text' ring' chain' out' sent'
+    unfolding turned
+    line-ended n sent' z = record { reached = turned sent' z; before = q .input; last = λ j. n j ∷ q .input }
 
     pub sendable : Sendable r out' sent
     sendable =

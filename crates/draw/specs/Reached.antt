@@ -3,7 +3,7 @@
 use Prim.Native.Nat.{ℕ, _+_, _*_, _≤_}
 use mathlib.Core.Path.{_≡_}
 use mathlib.Core.Bool.{Bool, false, cond}
-use mathlib.Core.List.{List, []}
+use mathlib.Core.List.{List, [], _∷_}
 use lib.ListN.{length}
 use lib.Dec.{ltb, eqb}
 use lib.IntN.{ℤ}
@@ -23,6 +23,12 @@ pub record Reached (s : State) (text : List ℕ) (ring chain : List ℤ) (out : 
   pub count : sent ≡ length (ran input .blocks)
   -- a byte writes one pair at most
   pub bound : sent + 1024 * s .left ≤ 17179869184
+
+-- the last of these bytes ended the last line
+pub record LineEnded (s : State) (text : List ℕ) (ring chain : List ℤ) (out : List ℕ) (sent : ℕ) : Type 0 where
+  pub reached : Reached s text ring chain out sent
+  pub before : List ℕ
+  pub last : reached .input ≡ 10 ∷ before
 
 -- what is written after a step are the blocks of that step, of a run that goes on or has ended
 pub record Sendable (s : State) (out : List ℕ) (sent : ℕ) : Type 0 where

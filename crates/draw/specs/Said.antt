@@ -12,7 +12,18 @@ abbrev pub cameTo : ℤ → ℕ → ℕ
 cameTo (pos k) most = clamped (pos k) most
 cameTo (negsuc k) most = 2
 
--- 1 and 12 are the writer's, 21 to 29 those of a line and of a text, 30 and 31 of standard input and output
+-- 25 to 29 are those of too much, 30 and 31 of standard input and output
+unfoldable pub saidMore : ℕ → List ℕ
+saidMore n =
+    cond (eqb n 25) (bytes "expected no more than 60 points in a ring\n")
+    (cond (eqb n 26) (bytes "expected no more than 60 points in a chain\n")
+    (cond (eqb n 27) (bytes "expected no more than one `chain` in a ring\n")
+    (cond (eqb n 28) (bytes "expected no more than 80 characters beside a comment\n")
+    (cond (eqb n 29) (bytes "expected no more than 16777216 characters in a drawing\n")
+    (cond (eqb n 30) (bytes "draw: standard input failed\n")
+    (bytes "draw: standard output failed\n"))))))
+
+-- 1 and 12 are the writer's, 21 to 24 those of a line
 unfoldable pub said : ℕ → List ℕ
 said n =
     cond (eqb n 1) (bytes "expected 3 to 60 points in the ring that begins here\n")
@@ -21,10 +32,4 @@ said n =
     (cond (eqb n 22) (bytes "expected a sheet size after `ring`, a whole number from 1 to 2048\n")
     (cond (eqb n 23) (bytes "expected coordinates from -1024 to 1024 mm\n")
     (cond (eqb n 24) (bytes "expected `ring SIZE` before the first point or `chain`\n")
-    (cond (eqb n 25) (bytes "expected no more than 60 points in a ring\n")
-    (cond (eqb n 26) (bytes "expected no more than 60 points in a chain\n")
-    (cond (eqb n 27) (bytes "expected no more than one `chain` in a ring\n")
-    (cond (eqb n 28) (bytes "expected no more than 80 characters beside a comment\n")
-    (cond (eqb n 29) (bytes "expected no more than 16777216 characters in a drawing\n")
-    (cond (eqb n 30) (bytes "draw: standard input failed\n")
-    (bytes "draw: standard output failed\n"))))))))))))
+    (saidMore n))))))

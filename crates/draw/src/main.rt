@@ -6,13 +6,13 @@
 // lists are those of the bytes read so far.
 
 ghost use mathlib.Core.Path.{_≡_};
-ghost use mathlib.Core.Bool.{true, false};
+ghost use mathlib.Core.Bool.{true, false, _&&_};
 ghost use Prim.Native.Nat.{_+_};
 ghost use lib.ListN.{length};
 ghost use lib.Dec.{eqb};
 ghost use Rattle.drawing.specs.Page as Page;
-ghost use Rattle.draw.specs.Reached.{Reached, Sendable, Ends, ending, written};
-ghost use Rattle.draw.specs.Said.{cameTo, said};
+ghost use Rattle.draw.specs.Reached.{Reached, LineEnded, Sendable, Ends, ending, written};
+ghost use Rattle.draw.specs.Said.{cameTo, said, saidMore};
 use drawing::State;
 use libc::STDERR_FILENO;
 use libc::STDIN_FILENO;
@@ -31,10 +31,10 @@ struct Ended {
     sent: u64,
 }
 
-// How many bytes were written in all; and whether writing has failed.
-struct Sent {
-    bytes: u64,
-    failed: bool,
+// What a step came to: the state after it, and whether the pair that it completed was written, if it did complete one.
+struct Taken {
+    state: State,
+    sent: bool,
 }
 
 // The end of a run in this state. What the writer refuses is said of the line that its ring begins at.
@@ -55,6 +55,16 @@ fn end_of(s: State, sent: u64) -> Ended
         wrong: d.wrong,
         line: s.line,
         sent,
+    }
+}
+
+// A run of which nothing is read.
+fn begin() -> Taken
+    ensures { λ r. ⌜ (r .state ≡ Page.begun) × (r .sent ≡ true) ⌝ }
+{
+    Taken {
+        state: State::new(),
+        sent: true,
     }
 }
 
@@ -88,36 +98,78 @@ fn read_byte(byte: &mut [u8]) -> usize
     came_to(got, byte)
 }
 
+// How a run ends after its last step.
+fn end_after(t: Taken, sent: u64) -> Ended
+    ensures { λ r. ⌜ (r .failed ≡ false → (t .sent ≡ true) × (r ≡ ending (t .state) sent)) ⌝ }
+{
+    if t.sent {
+        return end_of(t.state, sent);
+    }
+    cut_short(WRITING)
+}
+
+fn send_pair(s: State, out: &[u8], sent: &mut u64) -> bool
+    requires { ⌜ Sendable s (now out) (now sent) ⌝ }
+    ensures { λ r. ⌜ (r ≡ true → now (sent .exit) ≡ now (sent .entry) + length (now (out .entry))) ⌝ }
+{
+    stream::write_counted(STDOUT_FILENO, out, sent)
+}
+
 // Writes the pair that the last step completed, if it did, after `sent` bytes.
-fn send(s: State, out: &[u8], sent: u64) -> Sent
-    requires { ⌜ Sendable s (now out) sent ⌝ }
-    ensures { λ r. ⌜ (r .failed ≡ false → r .bytes ≡ sent + length (written s (now (out .entry)))) ⌝ }
+fn send(s: State, out: &[u8], sent: &mut u64) -> bool
+    requires { ⌜ Sendable s (now out) (now sent) ⌝ }
+    ensures { λ r. ⌜ (r ≡ true → now (sent .exit) ≡ now (sent .entry) + length (written s (now (out .entry)))) ⌝ }
 {
     let d = s.draft;
-    if !d.wrote {
-        return Sent {
-            bytes: sent,
-            failed: false,
-        };
+    if d.wrote {
+        return send_pair(s, out, sent);
     }
-    let mut bytes = sent;
-    if stream::write_counted(STDOUT_FILENO, out, &mut bytes) {
-        return Sent {
-            bytes,
-            failed: false,
-        };
-    }
-    Sent {
-        bytes,
-        failed: true,
+    true
+}
+
+// Steps over one byte, and writes the pair that it completes.
+fn take(
+    s: State,
+    b: u8,
+    text: &mut [u8],
+    ring: &mut [i32],
+    chain: &mut [i32],
+    out: &mut [u8],
+    sent: &mut u64,
+) -> Taken
+    requires { ⌜ Reached s (now text) (now ring) (now chain) (now out) (now sent) × (s .draft .wrong ≡ 0) ⌝ }
+    ensures { λ r. ⌜ Page.Moves (Page.fed b) s (now (text .entry)) (now (ring .entry)) (now (chain .entry)) (r .state) (now (text .exit)) (now (ring .exit))
+        (now (chain .exit)) (now (out .exit))
+        × (r .sent ≡ true → now (sent .exit) ≡ now (sent .entry) + length (written (r .state) (now (out .exit)))) ⌝ }
+{
+    let state = drawing::feed(s, b, text, ring, chain, out);
+    let written = send(state, out, sent);
+    Taken {
+        state,
+        sent: written,
     }
 }
 
-fn goes_on(s: State) -> bool
-    ensures { λ r. ⌜ r ≡ eqb (s .draft .wrong) 0 ⌝ }
+fn goes_on(t: Taken) -> bool
+    ensures { λ r. ⌜ r ≡ (t .sent && eqb (t .state .draft .wrong) 0) ⌝ }
 {
+    let s = t.state;
     let d = s.draft;
-    d.wrong == 0
+    t.sent & (d.wrong == 0)
+}
+
+// The last line has ended, and with it the text.
+fn close(a: State, text: &[u8], ring: &[i32], chain: &[i32], out: &mut [u8], sent: &mut u64) -> Ended
+    requires { ⌜ LineEnded a (now text) (now ring) (now chain) (now out) (now sent) × (a .draft .wrong ≡ 0) ⌝ }
+    ensures { λ r. ⌜ (r .failed ≡ false → Ends r) ⌝ }
+{
+    let b = drawing::finish(a, text, ring, chain, out);
+    let written = send(b, out, sent);
+    let t = Taken {
+        state: b,
+        sent: written,
+    };
+    end_after(t, *sent)
 }
 
 // All is read: the last line ends, and then the text.
@@ -127,25 +179,16 @@ fn finish(
     ring: &mut [i32],
     chain: &mut [i32],
     out: &mut [u8],
-    sent: u64,
+    sent: &mut u64,
 ) -> Ended
-    requires { ⌜ Reached s (now text) (now ring) (now chain) (now out) sent × (s .draft .wrong ≡ 0) ⌝ }
+    requires { ⌜ Reached s (now text) (now ring) (now chain) (now out) (now sent) × (s .draft .wrong ≡ 0) ⌝ }
     ensures { λ r. ⌜ (r .failed ≡ false → Ends r) ⌝ }
 {
-    let a = drawing::feed(s, b'\n', text, ring, chain, out);
-    let first = send(a, out, sent);
-    if first.failed {
-        return cut_short(WRITING);
+    let t = take(s, b'\n', text, ring, chain, out, sent);
+    if goes_on(t) {
+        return close(t.state, text, ring, chain, out, sent);
     }
-    if !goes_on(a) {
-        return end_of(a, first.bytes);
-    }
-    let b = drawing::finish(a, text, ring, chain, out);
-    let last = send(b, out, first.bytes);
-    if last.failed {
-        return cut_short(WRITING);
-    }
-    end_of(b, last.bytes)
+    end_after(t, *sent)
 }
 
 // The whole run.
@@ -157,24 +200,20 @@ fn draw() -> Ended
     let mut chain = [0i32; 120];
     let mut out = [0u8; 1024];
     let mut byte = [0u8; 1];
-    let mut s = State::new();
+    let mut t = begin();
     let mut sent: u64 = 0;
-    while goes_on(s) {
+    while goes_on(t) {
         let got = read_byte(&mut byte);
         if got == 2 {
             return cut_short(READING);
         }
+        let s = t.state;
         if got == 0 {
-            return finish(s, &mut text, &mut ring, &mut chain, &mut out, sent);
+            return finish(s, &mut text, &mut ring, &mut chain, &mut out, &mut sent);
         }
-        s = drawing::feed(s, byte[0], &mut text, &mut ring, &mut chain, &mut out);
-        let now = send(s, &out, sent);
-        if now.failed {
-            return cut_short(WRITING);
-        }
-        sent = now.bytes;
+        t = take(s, byte[0], &mut text, &mut ring, &mut chain, &mut out, &mut sent);
     }
-    end_of(s, sent)
+    end_after(t, sent)
 }
 
 // Hands over the words of a number, and answers the number.
@@ -186,7 +225,29 @@ fn say(wrong: u32, words: &[u8]) -> u32
     wrong
 }
 
-// Says what is wrong.
+// Says of what there is too much, or why the run was cut short.
+fn say_more(wrong: u32) -> u32
+    requires { ⌜ said wrong ≡ saidMore wrong ⌝ }
+    ensures { λ r. ⌜ r ≡ wrong ⌝ }
+{
+    match wrong {
+        25 => say(wrong, b"expected no more than 60 points in a ring\n"),
+        26 => say(wrong, b"expected no more than 60 points in a chain\n"),
+        27 => say(wrong, b"expected no more than one `chain` in a ring\n"),
+        28 => say(
+            wrong,
+            b"expected no more than 80 characters beside a comment\n",
+        ),
+        29 => say(
+            wrong,
+            b"expected no more than 16777216 characters in a drawing\n",
+        ),
+        READING => say(wrong, b"draw: standard input failed\n"),
+        _ => say(wrong, b"draw: standard output failed\n"),
+    }
+}
+
+// Says what is wrong with a ring, or with a line alone.
 fn say_wrong(wrong: u32) -> u32
     ensures { λ r. ⌜ r ≡ wrong ⌝ }
 {
@@ -209,19 +270,7 @@ fn say_wrong(wrong: u32) -> u32
             wrong,
             b"expected `ring SIZE` before the first point or `chain`\n",
         ),
-        25 => say(wrong, b"expected no more than 60 points in a ring\n"),
-        26 => say(wrong, b"expected no more than 60 points in a chain\n"),
-        27 => say(wrong, b"expected no more than one `chain` in a ring\n"),
-        28 => say(
-            wrong,
-            b"expected no more than 80 characters beside a comment\n",
-        ),
-        29 => say(
-            wrong,
-            b"expected no more than 16777216 characters in a drawing\n",
-        ),
-        READING => say(wrong, b"draw: standard input failed\n"),
-        _ => say(wrong, b"draw: standard output failed\n"),
+        _ => say_more(wrong),
     }
 }
 

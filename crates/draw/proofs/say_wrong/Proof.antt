@@ -2,7 +2,7 @@
 use mathlib.Core.Path.{refl}
 use Rattle.text.specs.Text.{bytes}
 use Rattle.draw.specs.Said.{said}
-use Rattle.draw.proofs.Saying.{for-number, other-words}
+use Rattle.draw.proofs.Saying.{for-number, more-words}
 use native.Mathlib.Omega.{arith}
 use borrow.Author.Needs.{needs}
 use Rattle.draw.proofs.say_wrong.Statement.{statement}
@@ -50,58 +50,10 @@ say-requires-6 : tie.Need-say-requires-6
 unfolding said bytes
 say-requires-6 c κs = for-number _ 24 _ (c .before .match .keys6) refl
 
-slice-aggregate-say-7 : tie.Need-slice-aggregate-say-7
-slice-aggregate-say-7 c = search needs
-
-say-requires-7 : tie.Need-say-requires-7
-unfolding said bytes
-say-requires-7 c κs = for-number _ 25 _ (c .before .match .keys7) refl
-
-slice-aggregate-say-8 : tie.Need-slice-aggregate-say-8
-slice-aggregate-say-8 c = search needs
-
-say-requires-8 : tie.Need-say-requires-8
-unfolding said bytes
-say-requires-8 c κs = for-number _ 26 _ (c .before .match .keys8) refl
-
-slice-aggregate-say-9 : tie.Need-slice-aggregate-say-9
-slice-aggregate-say-9 c = search needs
-
-say-requires-9 : tie.Need-say-requires-9
-unfolding said bytes
-say-requires-9 c κs = for-number _ 27 _ (c .before .match .keys9) refl
-
-slice-aggregate-say-10 : tie.Need-slice-aggregate-say-10
-slice-aggregate-say-10 c = search needs
-
-say-requires-10 : tie.Need-say-requires-10
-unfolding said bytes
-say-requires-10 c κs = for-number _ 28 _ (c .before .match .keys10) refl
-
-slice-aggregate-say-11 : tie.Need-slice-aggregate-say-11
-slice-aggregate-say-11 c = search needs
-
-say-requires-11 : tie.Need-say-requires-11
-unfolding said bytes
-say-requires-11 c κs = for-number _ 29 _ (c .before .match .keys11) refl
-
-slice-aggregate-say-12 : tie.Need-slice-aggregate-say-12
-slice-aggregate-say-12 c = search needs
-
-say-requires-12 : tie.Need-say-requires-12
-unfolding said bytes
-say-requires-12 c κs = for-number _ 30 _ (c .before .match .keys12) refl
-
-slice-aggregate-say-13 : tie.Need-slice-aggregate-say-13
-slice-aggregate-say-13 c = search needs
-
-say-requires-13 : tie.Need-say-requires-13
-unfolding bytes
-say-requires-13 c κs =
-    let r = c .before .match .rest in
-    other-words _ (r .0 .0 .0 .0 .0 .0 .0 .0 .0 .0 .0 .1) (r .0 .0 .0 .0 .0 .0 .0 .0 .0 .0 .1) (r .0 .0 .0 .0 .0 .0 .0 .0 .0 .1)
-    (r .0 .0 .0 .0 .0 .0 .0 .0 .1) (r .0 .0 .0 .0 .0 .0 .0 .1) (r .0 .0 .0 .0 .0 .0 .1) (r .0 .0 .0 .0 .0 .1) (r .0 .0 .0 .0 .1) (r .0 .0 .0 .1) (r .0 .0 .1)
-    (r .0 .1) (r .1)
+say-more-requires : tie.Need-say-more-requires
+say-more-requires c κs =
+    let r = c .match .rest in
+    more-words _ (r .0 .0 .0 .0 .0 .1) (r .0 .0 .0 .0 .1) (r .0 .0 .0 .1) (r .0 .0 .1) (r .0 .1) (r .1)
 
 returns : tie.Need-returns
 returns c = search needs
@@ -124,24 +76,6 @@ returns-6 c = search needs
 returns-7 : tie.Need-returns-7
 returns-7 c = search needs
 
-returns-8 : tie.Need-returns-8
-returns-8 c = search needs
-
-returns-9 : tie.Need-returns-9
-returns-9 c = search needs
-
-returns-10 : tie.Need-returns-10
-returns-10 c = search needs
-
-returns-11 : tie.Need-returns-11
-returns-11 c = search needs
-
-returns-12 : tie.Need-returns-12
-returns-12 c = search needs
-
-returns-13 : tie.Need-returns-13
-returns-13 c = search needs
-
 pub say-wrong-spec : {M : Type 1} → statement M
 say-wrong-spec =
     tie.close
@@ -158,30 +92,11 @@ say-wrong-spec =
     say-requires-5
     slice-aggregate-say-6
     say-requires-6
-    slice-aggregate-say-7
-    say-requires-7
-    slice-aggregate-say-8
-    say-requires-8
-    slice-aggregate-say-9
-    say-requires-9
-    slice-aggregate-say-10
-    say-requires-10
-    slice-aggregate-say-11
-    say-requires-11
-    slice-aggregate-say-12
-    say-requires-12
-    slice-aggregate-say-13
-    say-requires-13
+    say-more-requires
     returns
     returns-2
     returns-3
     returns-4
     returns-5
     returns-6
-    returns-7
-    returns-8
-    returns-9
-    returns-10
-    returns-11
-    returns-12
-    returns-13)
+    returns-7)

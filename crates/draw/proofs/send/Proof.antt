@@ -1,23 +1,23 @@
-use mathlib.Core.Bool.{true≢false}
-use borrow.Author.Tests.{not-true, not-false}
+-- `send`: a pair, or nothing.
+use mathlib.Core.Path.{_≡_}
+use mathlib.Core.Bool.{true, false}
 use native.Mathlib.Omega.{arith}
 use borrow.Author.Needs.{needs}
 use Rattle.draw.proofs.send.Statement.{statement}
 use Rattle.draw.proofs.send.Tie as tie
 
-returns : tie.Need-returns
-returns c = λ _. rw (not-true (c .before .before .before .before .args .s .draft .wrote) (c .if1 .taken)) (omega arith)
+send-pair-requires : tie.Need-send-pair-requires
+send-pair-requires c κs = search needs
 
-write-counted-requires : tie.Need-write-counted-requires
-write-counted-requires c κs = search needs
+returns : tie.Need-returns
+returns c =
+    let w : c .before .before .before .before .before .args .s .draft .wrote ≡ true = c .before .before .if1 .taken in
+    λ e. rw w (c .send-pair .ensures e)
 
 returns-2 : tie.Need-returns-2
 returns-2 c =
-    λ _. rw (not-false (c .before .before .before .before .before .before .before .args .s .draft .wrote) (c .before .before .before .if1 .left))
-    (c .before .write-counted .ensures (c .if2 .taken))
-
-returns-3 : tie.Need-returns-3
-returns-3 c = λ e. absurd (true≢false e)
+    let w : c .before .before .before .args .s .draft .wrote ≡ false = c .if1 .left in
+    λ _. rw w (omega arith)
 
 pub send-spec : {M : Type 1} → statement M
-send-spec = tie.close (tie.spec returns write-counted-requires returns-2 returns-3)
+send-spec = tie.close (tie.spec send-pair-requires returns returns-2)
