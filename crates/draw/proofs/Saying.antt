@@ -1,4 +1,5 @@
--- What a read came to, by the sign of what it gave, and the words of a number: of one in the tables (`for-number`, `for-more`), and of any other (`more-words`, `last-words`).
+-- What a read came to, by the sign of what it gave, and the words of a number: of one in the tables (`for-number`, `for-more`), and of any other
+-- (`more-words`, `last-words`).
 use Prim.Native.Nat.{ℕ}
 use mathlib.Core.Path.{_≡_, refl, sym, _∙_}
 use mathlib.Core.Bool.{true, false, true≢false}

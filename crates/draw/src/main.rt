@@ -159,7 +159,14 @@ fn goes_on(t: Taken) -> bool
 }
 
 // The last line has ended, and with it the text.
-fn close(a: State, text: &[u8], ring: &[i32], chain: &[i32], out: &mut [u8], sent: &mut u64) -> Ended
+fn close(
+    a: State,
+    text: &[u8],
+    ring: &[i32],
+    chain: &[i32],
+    out: &mut [u8],
+    sent: &mut u64,
+) -> Ended
     requires { ⌜ LineEnded a (now text) (now ring) (now chain) (now out) (now sent) × (a .draft .wrong ≡ 0) ⌝ }
     ensures { λ r. ⌜ (r .failed ≡ false → Ends r) ⌝ }
 {
@@ -211,7 +218,15 @@ fn draw() -> Ended
         if got == 0 {
             return finish(s, &mut text, &mut ring, &mut chain, &mut out, &mut sent);
         }
-        t = take(s, byte[0], &mut text, &mut ring, &mut chain, &mut out, &mut sent);
+        t = take(
+            s,
+            byte[0],
+            &mut text,
+            &mut ring,
+            &mut chain,
+            &mut out,
+            &mut sent,
+        );
     }
     end_after(t, sent)
 }

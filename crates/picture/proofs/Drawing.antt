@@ -1,9 +1,9 @@
--- What is drawn of each thing told; the parts of a picture, each of which stands at the front of all that comes after it (`Starts`), and so is owed when as
+-- The parts of a picture, each of which stands at the front of all that comes after it (`Starts`), and so is owed when as
 -- many bytes were written as stand before it (`owes-head`, `due`, `owes-node`, `owes-foot`); and one more block of a job (`turned`, `drew`). Where the run has
 -- ended, all rings are drawn (`rings-drawn`).
 use Prim.Native.Nat.{ℕ, zero, suc, _+_, _-_, _*_, _/_, _≤_, _<_}
 use mathlib.Core.Path.{_≡_, refl, sym, ap, subst, _∙_}
-use mathlib.Core.Bool.{true, false, cond}
+use mathlib.Core.Bool.{true, false}
 use mathlib.Core.Logic.{_⊎_, inl, inr, ⊎-elim}
 use mathlib.Core.List.{List, [], _++_, append-assoc, append-nil}
 use native.Mathlib.Nat.{eq-or-lt-of-le}
@@ -13,37 +13,24 @@ use lib.ListN.{length, take, drop, replicate, length-append, length-take, length
 use lib.Seq.{take-at}
 use lib.IntN.{ℤ}
 use lib.Ieee.{Float, binary64, ofBits}
-use borrow.Author.Tests.{eq-eqb, ne-eqb}
 use Rattle.text.specs.Text.{bytes, put, Written}
-use Rattle.text.proofs.Writing.{join, room}
-use lib.Dec.{eqb}
 use Rattle.laws.specs.Double.{naught}
-use Rattle.table.specs.declared.Row.{Row}
-use Rattle.blocks.specs.declared.Block.{Block}
-use Rattle.blocks.specs.declared.Block.the-variants.{Ring, Chain, Refused}
-use Rattle.blocks.specs.declared.Reading.{Reading}
-use Rattle.blocks.specs.Blocks.{points, readBlock}
-use Rattle.blocks.proofs.Counts.{few-points}
-use Rattle.told.specs.Text.{CanTell}
-use Rattle.told.specs.declared.Told.{Told}
-use Rattle.told.specs.declared.Told.the-variants as Told
 use Rattle.job.specs.declared.State.{State}
 use Rattle.job.specs.declared.Stepped.{Stepped}
 use Rattle.job.specs.Step.{Step, stepOf, Steps, CanStep}
 use Rattle.job.specs.Run.{Course, start, noPoints, noNodes, noRims, ran, readTo, wholeRun, blockAt}
 use Rattle.job.proofs.Runs.{Went, outcome, not-both, stays, goes, ran-held}
 use Rattle.job.proofs.Printed.{one-more, settles}
-use Rattle.scene.specs.Scene.{ringText, leadText, nodeText, nodesText, mostRing}
-use Rattle.scene.proofs.Lengths.{ring-length, lead-length}
+use Rattle.scene.specs.Scene.{nodeText, nodesText}
 use Rattle.frame.specs.declared.Frame.{Frame}
 use Rattle.frame.specs.Bounds.{extentOf, frameOf}
-use Rattle.frame.specs.Head.{headText, endedText, footText}
-use Rattle.frame.proofs.Lengths.{ended-length}
-use Rattle.picture.specs.Picture.{cellsOf, drawn, leadOf, leadAt, stepDrawn, drawnTo}
-use Rattle.picture.specs.Picture.{ringsDrawn, nodesDrawn, allDrawn, pictured, mostStep, mostRings, mostPicture}
+use Rattle.frame.specs.Head.{headText, footText}
+use Rattle.sketch.specs.Drawn.{drawn, leadAt, mostStep}
+use Rattle.picture.specs.Picture.{stepDrawn, drawnTo}
+use Rattle.picture.specs.Picture.{ringsDrawn, nodesDrawn, allDrawn, pictured, mostRings, mostPicture}
 use Rattle.picture.specs.declared.End.{End}
 use Rattle.picture.specs.declared.End.the-variants.{TooLong, Unwritten}
-use Rattle.picture.specs.Picture.{Wrote, Owed, Sends, Left, said}
+use Rattle.picture.specs.Picture.{Wrote, Owed, Sends, Reached, Drew, Left, said}
 use Rattle.picture.proofs.Listed.{few-nodes}
 
 -- a text that was written fits
@@ -72,91 +59,6 @@ said-long x count e = rw e
 pub said-unwritten : (x : End) → x ≡ Unwritten → bytes "picture: standard output failed\n" ≡ said x
 unfolding said
 said-unwritten x e = rw e
-
--- what is drawn of a block and its lead line, written one after the other
-module _ (e : List ℕ) {l d m : List ℕ} {n : ℕ} (k : length l ≡ mostStep) (a : length d ≤ mostRing) (b : length e ≤ 3275) (w : Written l 0 d n m) where
-  both-fit : 0 + length (d ++ e) ≤ length l
-  both-fit = omega (arith, k, a, b, length-append d e)
-
-  pub lead-room : n + length e ≤ length m
-  lead-room = room l 0 d e both-fit w
-
-  module _ {r : ℕ} {o : List ℕ} (v : Written m n e r o) where
-    pub both : Written l 0 (d ++ e) r o
-    both = join l 0 d e both-fit w v
-
-    pub both-short : length (d ++ e) ≤ mostStep
-    both-short = omega (arith, k, both-fit)
-
-    pub both-end : r ≤ mostStep
-    both-end = omega (arith, both .place, both-short)
-
-pub cells-some : (v : Row) (cs : List ℕ) → v .code ≡ 0 → take (v .cells * 4) cs ≡ cellsOf v cs
-cells-some v cs h = rw (eq-eqb (v .code) 0 h)
-
-pub cells-none : (v : Row) (cs : List ℕ) → (v .code ≡ 0 → ⊥) → take 0 cs ≡ cellsOf v cs
-cells-none v cs h = rw (ne-eqb (v .code) 0 h)
-
-module _ (f : Frame) (t : Told) (count : ℕ) (ps : List ℤ) (l : List Float) (rs cs : List ℕ) where
-  pub draws-nothing : t ≡ Told.Nothing → [] ≡ drawn f t count ps l rs cs
-  unfolding drawn
-  draws-nothing e = rw e
-
-  pub draws-ring : (n used : ℕ) (v : Row) → t ≡ Told.Ring n used v → ringText n v ps count l rs (cellsOf v cs) ≡ drawn f t count ps l rs cs
-  unfolding drawn
-  draws-ring n used v e = rw e
-
-  pub draws-block : (n code : ℕ) → t ≡ Told.Block n code → endedText f n code ≡ drawn f t count ps l rs cs
-  unfolding drawn
-  draws-block n code e = rw e
-
-  -- it is no longer than a ring's
-  pub drawn-length : CanTell t cs → count ≤ 60 → length (drawn f t count ps l rs cs) ≤ mostRing
-  unfolding drawn
-  drawn-length h k = go t
-    where
-      go : (u : Told) → length (drawn f u count ps l rs cs) ≤ mostRing
-      go Told.Nothing = omega arith
-      go (Told.Ring n used v) =
-          let z = cond (eqb (v .code) 0) (v .cells * 4) 0 in
-          ring-length n v ps count k l rs (cellsOf v cs) (omega (arith, length-take z cs, h .few))
-      go (Told.Block n code) = omega (arith, ended-length f n code)
-
--- ---- the lead line of a block
-module _ (ps : List ℤ) (b : Block) where
-  pub lead-of-ring : (count size : ℕ) → b ≡ Ring count size → [] ≡ leadOf ps b
-  unfolding leadOf
-  lead-of-ring count size e = rw e
-
-  pub lead-of-chain : (count : ℕ) → b ≡ Chain count → leadText ps count ≡ leadOf ps b
-  unfolding leadOf
-  lead-of-chain count e = rw e
-
-  pub lead-of-refused : (code n : ℕ) → b ≡ Refused code n → [] ≡ leadOf ps b
-  unfolding leadOf
-  lead-of-refused code n e = rw e
-
-  lead-of-length : points b ≤ 60 → length (leadOf ps b) ≤ 3275
-  unfolding leadOf
-  lead-of-length h = go b h
-    where
-      go : (d : Block) → points d ≤ 60 → length (leadOf ps d) ≤ 3275
-      go (Ring count size) k = omega arith
-      go (Chain count) k = lead-length ps count k
-      go (Refused code n) k = omega arith
-
-module _ (job : List ℕ) (i : ℕ) where
-  pub lead-length-at : length (leadAt job i) ≤ 3275
-  unfolding leadAt
-  lead-length-at =
-      let r = readBlock (blockAt job i) i in
-      lead-of-length (r .points) (r .block) (few-points (blockAt job i) i r refl)
-
-  -- what was read of the block
-  module _ (b : List ℕ) (r : Reading) (eb : b ≡ blockAt job i) (e : r ≡ readBlock b i) where
-    pub same-lead : leadOf (r .points) (r .block) ≡ leadAt job i
-    unfolding leadAt
-    same-lead = let d = e ∙ ap (λ (z : List ℕ). readBlock z i) eb in λ j. leadOf (d j .points) (d j .block)
 
 -- what is drawn of a step, and of a run that goes on
 abbrev pub drawnOf : Frame → Step → List ℕ
@@ -224,8 +126,8 @@ module _ (job : List ℕ) where
   unfolding drawnTo
   head-first = after-rings (starts (drawnTo frame job) stepText one-drawn 0 (length job / 512 + 1) (omega arith))
 
-  pub owes-head : (f : Frame) → f ≡ frameOf (extentOf job) → Owed job 0 (headText f)
-  owes-head f e = owed-as (ap headText e) (owes {before = []} (record { count = refl; bound = omega arith }) head-first)
+  pub owes-head : (f : Frame) (sent : ℕ) → f ≡ frameOf (extentOf job) → sent ≡ 0 → Owed job sent (headText f)
+  owes-head f sent e z = owed-as (ap headText e) (owes {before = []} (record { count = z; bound = omega (arith, z) }) head-first)
 
   owes-step : (i sent : ℕ) → i < length job / 512 + 1 → Wrote (drawnTo frame job i) sent → Owed job sent (stepText i)
   owes-step i sent h w = owes w (after-rings (next-part (drawnTo frame job) stepText one-drawn i (length job / 512 + 1) h))
@@ -295,20 +197,7 @@ module _ (job : List ℕ) where
     unfolding allDrawn
     all-nodes i sent e q b = record { count = q ∙ ap (λ (k : ℕ). length (nodesDrawn job k)) (e ∙ h .count); bound = b }
 
--- ---- what the first i blocks of a job reach
-pub record Reached (job : List ℕ) (i : ℕ) (s : State) (ps : List ℤ) (l : List Float) (rs : List ℕ) : Type 0 where
-  pub state : s ≡ ran (readTo job i) .state
-  pub points : ps ≡ ran (readTo job i) .points
-  pub nodes : l ≡ ran (readTo job i) .nodes
-  pub rims : rs ≡ ran (readTo job i) .rims
-  pub within : s .ended ≡ false → 512 * i ≤ length job
-  pub turns : i ≤ length job / 512 + 1
-
--- and what is drawn of them has so many bytes: no head is longer than 8,192, and nothing drawn of a block than 84,000
-pub record Drew (job : List ℕ) (i sent : ℕ) : Type 0 where
-  pub count : sent ≡ length (drawnTo (frameOf (extentOf job)) job i)
-  pub bound : sent ≤ 8192 + 84000 * i
-
+-- ---- what the first i blocks of a job reach, and what is drawn of them
 pub drew-head : (job : List ℕ) (f : Frame) (sent : ℕ) → f ≡ frameOf (extentOf job) → sent ≡ length (headText f) → sent ≤ 8192 → Drew job 0 sent
 unfolding drawnTo
 drew-head job f sent e q b = record { count = q ∙ ap (λ (g : Frame). length (headText g)) e; bound = omega (arith, b) }

@@ -5,43 +5,19 @@ use mathlib.Core.Path.{_≡_}
 use mathlib.Core.Bool.{true, false, cond}
 use mathlib.Core.List.{List, [], _++_}
 use lib.ListN.{length, take}
-use lib.Dec.{eqb}
 use lib.IntN.{ℤ}
 use lib.Ieee.{Float}
 use Rattle.text.specs.Text.{bytes}
-use Rattle.blocks.specs.declared.Block.{Block}
-use Rattle.blocks.specs.declared.Block.the-variants.{Ring, Chain, Refused}
-use Rattle.blocks.specs.Blocks.{readBlock}
-use Rattle.table.specs.declared.Row.{Row}
-use Rattle.told.specs.declared.Told.{Told}
-use Rattle.told.specs.declared.Told.the-variants as Told
+use Rattle.job.specs.declared.State.{State}
 use Rattle.job.specs.Step.{Step, stepOf}
 use Rattle.job.specs.Run.{Course, ran, readTo, wholeRun, blockAt}
-use Rattle.scene.specs.Scene.{ringText, leadText, nodesText}
+use Rattle.scene.specs.Scene.{nodesText}
 use Rattle.frame.specs.declared.Frame.{Frame}
 use Rattle.frame.specs.Bounds.{extentOf, frameOf}
-use Rattle.frame.specs.Head.{headText, endedText, footText}
+use Rattle.frame.specs.Head.{headText, footText}
+use Rattle.sketch.specs.Drawn.{drawn, leadAt, mostStep}
 use Rattle.picture.specs.declared.End.{End}
 use Rattle.picture.specs.declared.End.the-variants.{Drawn, TooLong, Unwritten}
-
--- the cells of a row in a ring's list: none of a refused one
-abbrev pub cellsOf : Row → List ℕ → List ℕ
-cellsOf v cs = take (cond (eqb (v .code) 0) (v .cells * 4) 0) cs
-
--- what is drawn of what a step tells: nothing of a ring that waits, the ring itself, or the line of a refused block
-unfoldable pub drawn : Frame → Told → ℕ → List ℤ → List Float → List ℕ → List ℕ → List ℕ
-drawn f Told.Nothing count ps l rs cs = []
-drawn f (Told.Ring n used v) count ps l rs cs = ringText n v ps count l rs (cellsOf v cs)
-drawn f (Told.Block n code) count ps l rs cs = endedText f n code
-
--- the lead line of a block with the points ps, where it is a chain; and of block i of a job
-unfoldable pub leadOf : List ℤ → Block → List ℕ
-leadOf ps (Ring count size) = []
-leadOf ps (Chain count) = leadText ps count
-leadOf ps (Refused code n) = []
-
-unfoldable pub leadAt : List ℕ → ℕ → List ℕ
-leadAt l i = let r = readBlock (blockAt l i) i in leadOf (r .points) (r .block)
 
 -- of the run r, one block on, the lead line over its ring; of a run that has ended, nothing
 unfoldable pub stepDrawn : Frame → Course → List ℕ → List ℕ → List ℕ
@@ -69,10 +45,7 @@ allDrawn l = nodesDrawn l (wholeRun l .state .used)
 unfoldable pub pictured : List ℕ → List ℕ
 pictured l = allDrawn l ++ footText
 
--- what is drawn of a block is no longer; a job of less than 4 GB has no more bytes of head and rings, and no longer a picture
-abbrev pub mostStep : ℕ
-mostStep = 84000
-
+-- a job of less than 4 GB has no more bytes of head and rings, and no longer a picture
 abbrev pub mostRings : ℕ
 mostRings = 1000000000000
 
@@ -95,6 +68,20 @@ pub record Owed (job : List ℕ) (sent : ℕ) (t : List ℕ) : Type 0 where
 pub record Sends (sent : ℕ) (t : List ℕ) (n : ℕ) : Type 0 where
   pub count : n ≡ sent + length t
   pub short : length t ≤ mostStep
+
+-- what the first i blocks of a job reach
+pub record Reached (job : List ℕ) (i : ℕ) (s : State) (ps : List ℤ) (l : List Float) (rs : List ℕ) : Type 0 where
+  pub state : s ≡ ran (readTo job i) .state
+  pub points : ps ≡ ran (readTo job i) .points
+  pub nodes : l ≡ ran (readTo job i) .nodes
+  pub rims : rs ≡ ran (readTo job i) .rims
+  pub within : s .ended ≡ false → 512 * i ≤ length job
+  pub turns : i ≤ length job / 512 + 1
+
+-- and what is drawn of them has so many bytes: no head is longer than 8,192, and nothing drawn of a block than 84,000
+pub record Drew (job : List ℕ) (i sent : ℕ) : Type 0 where
+  pub count : sent ≡ length (drawnTo (frameOf (extentOf job)) job i)
+  pub bound : sent ≤ 8192 + 84000 * i
 
 -- the run of a job has ended, and left so many nodes in the list l with the rim marks rs
 pub record Left (job : List ℕ) (used : ℕ) (l : List Float) (rs : List ℕ) : Type 0 where

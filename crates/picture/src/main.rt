@@ -12,14 +12,11 @@ ghost use mathlib.Core.Bool.{true, false};
 ghost use mathlib.Core.List.{_++_};
 ghost use Prim.Native.Nat.{_+_, _*_, _%_, _≤_, _<_};
 ghost use lib.ListN.{length};
-ghost use Rattle.text.specs.Text.{Written};
-ghost use Rattle.told.specs.Text.{CanTell, Shown};
-ghost use Rattle.scene.specs.Scene.{ringText, mostRing};
+ghost use Rattle.told.specs.Text.{CanTell};
+ghost use Rattle.sketch.specs.Drawn.{drawn, leadAt, mostStep};
 ghost use Rattle.frame.specs.Bounds.{extentOf, frameOf};
 ghost use Rattle.frame.specs.Head.{headText, mostHead};
-ghost use Rattle.picture.specs.Picture.{cellsOf, drawn, leadAt, ringsDrawn, allDrawn, pictured, mostStep, mostRings};
-ghost use Rattle.picture.specs.Picture.{Wrote, Owed, Sends, Left, Ends, said};
-use blocks::Block;
+ghost use Rattle.picture.specs.Picture.{ringsDrawn, allDrawn, pictured, mostRings, Wrote, Owed, Sends, Reached, Drew, Left, Ends, said};
 use frame::Frame;
 use frame::MOST_HEAD;
 use job::State;
@@ -27,20 +24,22 @@ use libc::STDERR_FILENO;
 use libc::STDIN_FILENO;
 use libc::STDOUT_FILENO;
 use nodes::NodeNumber;
-use run::Sent;
-use table::Row;
+use sketch::MOST_STEP;
 use told::Told;
 
 // The blocks of 256 rings.
 const MOST_JOB: usize = 262144;
 
-// No block's drawing is longer: a ring's text and its lead line.
-const MOST_STEP: usize = 84000;
-
 // What was read: so many bytes, and whether a read failed. Then they end within a block, so that the run is refused there.
 pub struct Input {
     pub count: usize,
     pub failed: bool,
+}
+
+// The run one block on, and whether what is drawn of the block was written.
+struct Moved {
+    state: State,
+    sent: bool,
 }
 
 // How the program ended: so many bytes were read, a picture of so many was written; there were too many to read; or they could
@@ -100,88 +99,12 @@ fn read_job(bytes: &mut [u8]) -> Input
     all_read(done)
 }
 
-// A ring with the cells of its row.
-fn put_row(
-    out: &mut [u8],
-    ring: u64,
-    v: Row,
-    points: &[i32],
-    count: usize,
-    nodes: &[f64],
-    rims: &[u8],
-    cells: &[NodeNumber],
-) -> usize
-    requires { ⌜ ((v .code ≡ 0 → v .cells * 4 ≤ length (now cells))) × (length (now cells) ≤ 496) × (count ≤ 60) × (mostRing ≤ length (now out)) ⌝ }
-    ensures { λ r. ⌜ Written (now (out .entry)) 0
-        (ringText ring v (now (points .entry)) count (now (nodes .entry)) (now (rims .entry)) (cellsOf v (now (cells .entry)))) r (now (out .exit)) ⌝ }
-{
-    if v.code == 0 {
-        let end = v.cells as usize * 4;
-        return scene::put_ring(out, ring, v, points, count, nodes, rims, &cells[..end]);
-    }
-    scene::put_ring(out, ring, v, points, count, nodes, rims, &cells[..0])
-}
-
-// What is drawn of what a step tells.
-fn put_told(
-    out: &mut [u8],
-    f: Frame,
-    told: Told,
-    points: &[i32],
-    count: usize,
-    nodes: &[f64],
-    rims: &[u8],
-    cells: &[NodeNumber],
-) -> usize
-    requires { ⌜ CanTell told (now cells) × (count ≤ 60) × (mostRing ≤ length (now out)) ⌝ }
-    ensures { λ r. ⌜ Written (now (out .entry)) 0
-        (drawn f told count (now (points .entry)) (now (nodes .entry)) (now (rims .entry)) (now (cells .entry))) r (now (out .exit)) ⌝ }
-{
-    match told {
-        Told::Nothing => 0,
-        Told::Ring { ring, used, row } => put_row(
-            out,
-            ring,
-            row,
-            points,
-            count,
-            nodes,
-            rims,
-            cells,
-        ),
-        Told::Block { number, code } => frame::put_ended(out, f, number as u64, code as u64),
-    }
-}
-
-// The lead line of block i, where it is a chain.
-fn put_lead(out: &mut [u8], at: usize, job: &[u8], i: usize) -> usize
-    requires { ⌜ (512 * i ≤ length (now job)) × (i < 4294967296) × (at + length (leadAt (now job) i) ≤ length (now out)) ⌝ }
-    ensures { λ r. ⌜ Written (now (out .entry)) at (leadAt (now (job .entry)) i) r (now (out .exit)) ⌝ }
-{
-    let reading = blocks::read_block(frame::block_at(job, i), i as u32);
-    let block = reading.block;
-    match block {
-        Block::Ring { count, size } => at,
-        Block::Chain { count } => scene::put_lead(out, at, &reading.points, count),
-        Block::Refused { code, block } => at,
-    }
-}
-
 // Writes the text that is owed after `sent` bytes.
-fn send(job: &[u8], text: &[u8], sent: u64) -> Sent
-    requires { ⌜ Owed (now job) sent (now text) × (length (now text) ≤ mostStep) ⌝ }
-    ensures { λ r. ⌜ (r .failed ≡ false → r .bytes ≡ sent + length (now (text .entry))) ⌝ }
+fn send(job: &[u8], text: &[u8], sent: &mut u64) -> bool
+    requires { ⌜ Owed (now job) (now sent) (now text) × (length (now text) ≤ mostStep) ⌝ }
+    ensures { λ r. ⌜ (r ≡ true → now (sent .exit) ≡ now (sent .entry) + length (now (text .entry))) ⌝ }
 {
-    if stream::write_all(STDOUT_FILENO, text) {
-        return Sent {
-            bytes: sent + text.len() as u64,
-            failed: false,
-        };
-    }
-    Sent {
-        bytes: sent,
-        failed: true,
-    }
+    stream::write_counted(STDOUT_FILENO, text, sent)
 }
 
 // Writes what is drawn of a step, that of block i.
@@ -195,68 +118,100 @@ fn draw_step(
     rims: &[u8],
     cells: &[NodeNumber],
     i: usize,
-    sent: u64,
-) -> Sent
-    requires { ⌜ Owed (now job) sent (drawn f told count (now points) (now nodes) (now rims) (now cells) ++ leadAt (now job) i)
+    sent: &mut u64,
+) -> bool
+    requires { ⌜ Owed (now job) (now sent) (drawn f told count (now points) (now nodes) (now rims) (now cells) ++ leadAt (now job) i)
         × CanTell told (now cells) × (count ≤ 60) × (512 * i ≤ length (now job)) × (i < 4294967296) ⌝ }
-    ensures { λ r. ⌜ (r .failed ≡ false → Sends sent
-        (drawn f told count (now (points .entry)) (now (nodes .entry)) (now (rims .entry)) (now (cells .entry)) ++ leadAt (now (job .entry)) i) (r .bytes)) ⌝ }
+    ensures { λ r. ⌜ (r ≡ true → Sends (now (sent .entry))
+        (drawn f told count (now (points .entry)) (now (nodes .entry)) (now (rims .entry)) (now (cells .entry)) ++ leadAt (now (job .entry)) i)
+        (now (sent .exit))) ⌝ }
 {
     let mut text = [0u8; MOST_STEP];
-    let n = put_told(&mut text, f, told, points, count, nodes, rims, cells);
-    let m = put_lead(&mut text, n, job, i);
-    send(job, &text[..m], sent)
+    let n = sketch::put_step(
+        &mut text,
+        f,
+        told,
+        points,
+        count,
+        nodes,
+        rims,
+        cells,
+        job,
+        i,
+    );
+    send(job, &text[..n], sent)
+}
+
+// The run after block i, which is drawn when it is told, and whether that was written.
+fn turn(
+    job: &[u8],
+    f: Frame,
+    i: usize,
+    s: State,
+    ring: &mut [i32],
+    nodes: &mut [f64],
+    rims: &mut [u8],
+    cells: &mut [NodeNumber],
+    sent: &mut u64,
+) -> Moved
+    requires { ⌜ Reached (now job) i s (now ring) (now nodes) (now rims) × Drew (now job) i (now sent) × (s .ended ≡ false) × (f ≡ frameOf (extentOf (now job)))
+        × (length (now cells) ≡ 496) × (length (now job) < 4294967296) ⌝ }
+    ensures { λ r. ⌜ Reached (now (job .entry)) (i + 1) (r .state) (now (ring .exit)) (now (nodes .exit)) (now (rims .exit))
+        × (r .sent ≡ true → Drew (now (job .entry)) (i + 1) (now (sent .exit))) ⌝ }
+{
+    let stepped = job::step(s, frame::block_at(job, i), ring, nodes, rims, cells);
+    let told = stepped.told;
+    let state = stepped.state;
+    let written = draw_step(job, f, told, ring, state.count, nodes, rims, cells, i, sent);
+    Moved {
+        state,
+        sent: written,
+    }
 }
 
 // Writes the nodes that a run has left, after the head and the rings.
-fn draw_nodes(job: &[u8], nodes: &[f64], rims: &[u8], used: usize, rings: u64) -> Sent
-    requires { ⌜ Left (now job) used (now nodes) (now rims) × (rings ≡ length (ringsDrawn (now job))) × (rings ≤ mostRings) ⌝ }
-    ensures { λ r. ⌜ (r .failed ≡ false → Wrote (allDrawn (now (job .entry))) (r .bytes)) ⌝ }
+fn draw_nodes(job: &[u8], nodes: &[f64], rims: &[u8], used: usize, sent: &mut u64) -> bool
+    requires { ⌜ Left (now job) used (now nodes) (now rims) × (now sent ≡ length (ringsDrawn (now job))) × (now sent ≤ mostRings) ⌝ }
+    ensures { λ r. ⌜ (r ≡ true → Wrote (allDrawn (now (job .entry))) (now (sent .exit))) ⌝ }
 {
-    let mut sent = rings;
     for i in 0..used {
         let mut text = [0u8; 256];
         let n = scene::put_node(&mut text, nodes, rims, i);
-        let out = send(job, &text[..n], sent);
-        if out.failed {
-            return out;
+        let written = send(job, &text[..n], sent);
+        if !written {
+            return false;
         }
-        sent = out.bytes;
     }
-    Sent {
-        bytes: sent,
-        failed: false,
-    }
+    true
 }
 
 // Runs the job over an empty node list, and draws each ring when it is told, then the nodes. The head stands before them.
-fn draw(job: &[u8], f: Frame, head: u64) -> Sent
-    requires { ⌜ (length (now job) < 4294967296) × (f ≡ frameOf (extentOf (now job))) × (head ≡ length (headText f)) × (head ≤ mostHead) ⌝ }
-    ensures { λ r. ⌜ (r .failed ≡ false → Wrote (allDrawn (now (job .entry))) (r .bytes)) ⌝ }
+fn draw(job: &[u8], f: Frame, sent: &mut u64) -> bool
+    requires { ⌜ (length (now job) < 4294967296) × (f ≡ frameOf (extentOf (now job))) × (now sent ≡ length (headText f)) × (now sent ≤ mostHead) ⌝ }
+    ensures { λ r. ⌜ (r ≡ true → Wrote (allDrawn (now (job .entry))) (now (sent .exit))) ⌝ }
 {
     let mut ring = [0i32; 120];
     let mut nodes = [0.0f64; 3072];
     let mut rims = [0u8; 1536];
     let mut cells = [0; 496];
     let mut s = State::new();
-    let mut sent = head;
     let mut i: usize = 0;
     while run::goes_on(s) {
-        let stepped = job::step(
+        let t = turn(
+            job,
+            f,
+            i,
             s,
-            frame::block_at(job, i),
             &mut ring,
             &mut nodes,
             &mut rims,
             &mut cells,
+            sent,
         );
-        let told = stepped.told;
-        s = stepped.state;
-        let out = draw_step(job, f, told, &ring, s.count, &nodes, &rims, &cells, i, sent);
-        if out.failed {
-            return out;
+        if !t.sent {
+            return false;
         }
-        sent = out.bytes;
+        s = t.state;
         i += 1;
     }
     let used = s.used;
@@ -264,23 +219,23 @@ fn draw(job: &[u8], f: Frame, head: u64) -> Sent
 }
 
 // The whole picture of a job.
-fn picture(job: &[u8]) -> Sent
-    requires { ⌜ length (now job) < 4294967296 ⌝ }
-    ensures { λ r. ⌜ (r .failed ≡ false → r .bytes ≡ length (pictured (now (job .entry)))) ⌝ }
+fn picture(job: &[u8], sent: &mut u64) -> bool
+    requires { ⌜ (length (now job) < 4294967296) × (now sent ≡ 0) ⌝ }
+    ensures { λ r. ⌜ (r ≡ true → now (sent .exit) ≡ length (pictured (now (job .entry)))) ⌝ }
 {
     let mut text = [0u8; MOST_HEAD];
     let f = frame::frame_of(frame::extent_of(job));
     let n = frame::put_head(&mut text, f);
-    let head = send(job, &text[..n], 0);
-    if head.failed {
-        return head;
+    let head = send(job, &text[..n], sent);
+    if !head {
+        return false;
     }
-    let drawn = draw(job, f, head.bytes);
-    if drawn.failed {
-        return drawn;
+    let drawn = draw(job, f, sent);
+    if !drawn {
+        return false;
     }
     let m = frame::put_foot(&mut text);
-    send(job, &text[..m], drawn.bytes)
+    send(job, &text[..m], sent)
 }
 
 // The whole program: reads a job and draws it.
@@ -293,14 +248,15 @@ fn draw_job(bytes: &mut [u8]) -> End
     if MOST_JOB < count {
         return End::TooLong { count };
     }
-    let sent = picture(&bytes[..count]);
-    if sent.failed {
+    let mut sent: u64 = 0;
+    let written = picture(&bytes[..count], &mut sent);
+    if !written {
         return End::Unwritten;
     }
     End::Drawn {
         count,
         failed: input.failed,
-        sent: sent.bytes,
+        sent,
     }
 }
 

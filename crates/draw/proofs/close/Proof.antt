@@ -23,7 +23,8 @@ returns : tie.Need-returns
 returns c =
     let l = c .before .before .before .before .before .before .before .before .before .before .before .pre in
     λ e. let x = c .end-after .ensures e in
-    ends-so (l .0 .before) (l .0 .reached) (l .0 .last) (l .1) (c .before .before .before .before .before .before .before .finish .ensures) _ (c .before .before .send .ensures (x .0))
+    ends-so (l .0 .before) (l .0 .reached) (l .0 .last) (l .1) (c .before .before .before .before .before .before .before .finish .ensures) _ (c .before
+    .before .send .ensures (x .0))
     (c .end-after .result) (x .1)
 
 pub close-spec : {M : Type 1} → statement M

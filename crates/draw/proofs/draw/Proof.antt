@@ -51,19 +51,22 @@ slice-aggregate-finish-3 : tie.Need-slice-aggregate-finish-3 Inv-loop μ-loop
 slice-aggregate-finish-3 c = sym (c .before .before .before .before .before .before .before .before .before .before .before .loop .inv .0 .fine .chain-long)
 
 slice-aggregate-finish-4 : tie.Need-slice-aggregate-finish-4 Inv-loop μ-loop
-slice-aggregate-finish-4 c = sym (c .before .before .before .before .before .before .before .before .before .before .before .before .loop .inv .0 .fine .out-long)
+slice-aggregate-finish-4 c =
+    sym (c .before .before .before .before .before .before .before .before .before .before .before .before .loop .inv .0 .fine .out-long)
 
 finish-requires : tie.Need-finish-requires Inv-loop μ-loop
 finish-requires c κs =
     let l = c .before .before .before .before .before .before .before .before .before .before .before .before .before .loop in
-    let g = goes (l .t) (c .before .before .before .before .before .before .before .before .before .before .before .before .goes-on .ensures) (c .before .before .before .before .before .before .before .before .before .before .before .if1 .taken) in
+    let g = goes (l .t) (c .before .before .before .before .before .before .before .before .before .before .before .before .goes-on .ensures) (c .before
+    .before .before .before .before .before .before .before .before .before .before .if1 .taken) in
     (l .inv .1 (g .0), g .1)
 
 returns-2 : tie.Need-returns-2 Inv-loop μ-loop
 returns-2 c = c .before .before .before .before .finish .ensures
 
 array-read-take : tie.Need-array-read-take Inv-loop μ-loop
-array-read-take c = omega (arith, c .before .before .before .before .read-byte .kept .0, c .before .before .before .before .before .before .before .before .loop .inv .2)
+array-read-take c =
+    omega (arith, c .before .before .before .before .read-byte .kept .0, c .before .before .before .before .before .before .before .before .loop .inv .2)
 
 slice-aggregate-take : tie.Need-slice-aggregate-take Inv-loop μ-loop
 slice-aggregate-take c = sym (c .before .before .before .before .before .before .before .before .before .loop .inv .0 .text-long)
@@ -80,7 +83,8 @@ slice-aggregate-take-4 c = sym (c .before .before .before .before .before .befor
 take-requires : tie.Need-take-requires Inv-loop μ-loop
 take-requires c κs =
     let l = c .before .before .before .before .before .before .before .before .before .before .before .before .before .loop in
-    let g = goes (l .t) (c .before .before .before .before .before .before .before .before .before .before .before .before .goes-on .ensures) (c .before .before .before .before .before .before .before .before .before .before .before .if1 .taken) in
+    let g = goes (l .t) (c .before .before .before .before .before .before .before .before .before .before .before .before .goes-on .ensures) (c .before
+    .before .before .before .before .before .before .before .before .before .before .if1 .taken) in
     (l .inv .1 (g .0), g .1)
 
 loop-less : tie.Need-loop-less Inv-loop μ-loop

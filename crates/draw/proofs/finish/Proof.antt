@@ -16,7 +16,8 @@ close-requires : tie.Need-close-requires
 close-requires c κs =
     let t = c .before .before .before .before .before .before .before .before .before .before .before .before .before in
     let s = t .before .before .before .before .before .before .before .before in
-    let g = goes (t .take .result) (c .before .before .before .before .before .before .goes-on .ensures) (c .before .before .before .before .before .if1 .taken) in
+    let g = goes (t .take .result) (c .before .before .before .before .before .before .goes-on .ensures) (c .before .before .before .before .before .if1
+    .taken) in
     (line-ended (s .pre .0) 10 (s .pre .1) (t .take .ensures .0) refl _ (t .take .ensures .1 (g .0)), g .1)
 
 same-length : tie.Need-same-length

@@ -9,7 +9,9 @@ feed-requires : tie.Need-feed-requires
 feed-requires c κs = search needs
 
 send-requires : tie.Need-send-requires
-send-requires c κs = let s = c .before .before .before .before .before .before .before .before .before .before .before .before .before .before .before in sendable (s .pre .0) _ (s .pre .1) (c .before .before .before .before .before .before .before .before .feed .ensures)
+send-requires c κs =
+    let s = c .before .before .before .before .before .before .before .before .before .before .before .before .before .before .before in sendable (s .pre .0) _
+    (s .pre .1) (c .before .before .before .before .before .before .before .before .feed .ensures)
 
 same-length : tie.Need-same-length
 same-length c = search needs

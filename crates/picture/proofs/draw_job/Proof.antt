@@ -1,7 +1,8 @@
 -- `draw_job`: what was read is a job of less than 4 GB, and its picture is written.
 use Prim.Native.Nat.{ℕ}
-use mathlib.Core.Path.{_∙_}
+use mathlib.Core.Path.{refl, _∙_}
 use lib.ListN.{length, length-take}
+use borrow.Author.Tests.{not-false}
 use Rattle.laws.proofs.Lists.{part-length}
 use native.Mathlib.Omega.{arith}
 use borrow.Author.Needs.{needs}
@@ -26,7 +27,8 @@ slice-aggregate-picture c =
     part-length (q .result .count) 262145 _ (q .kept .0 ∙ c .before .before .before .before .before .before .before .pre) (q .ensures .0)
 
 picture-requires : tie.Need-picture-requires
-picture-requires c κs = let q = c .before .before .before .before .read-job in omega (arith, length-take (q .result .count) (q .last .0), q .ensures .0)
+picture-requires c κs =
+    let q = c .before .before .before .before .before .read-job in (omega (arith, length-take (q .result .count) (q .last .0), q .ensures .0), refl)
 
 same-length-2 : tie.Need-same-length-2
 same-length-2 c = search needs
@@ -39,8 +41,9 @@ same-length-3 c = search needs
 
 returns-3 : tie.Need-returns-3
 returns-3 c =
-    let q = c .before .before .before .before .before .before .read-job in
-    (c .before .picture .ensures (c .if2 .left), c .before .before .before .if1 .left, q .ensures .1)
+    let q = c .before .before .before .before .before .before .before .read-job in
+    let p = c .before .picture in
+    (p .ensures (not-false (p .result) (c .if2 .left)), c .before .before .before .before .if1 .left, q .ensures .1)
 
 pub draw-job-spec : {M : Type 1} → statement M
 draw-job-spec =

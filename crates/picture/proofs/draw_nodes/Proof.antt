@@ -1,9 +1,10 @@
 -- `draw_nodes`. The loop's invariant: as many bytes were written as the head, the rings and the first i nodes have.
 use Prim.Native.Nat.{ℕ, _+_, _-_, _*_, _≤_, _<_}
-use mathlib.Core.Path.{_≡_, ap, _∙_}
+use mathlib.Core.Path.{_≡_, sym, _∙_}
+use mathlib.Core.Bool.{true≢false}
 use lib.ListN.{length, length-replicate, length-take}
+use borrow.Author.Tests.{not-false}
 use Rattle.laws.proofs.Lists.{part-length}
-use Rattle.job.proofs.Runs.{not-both}
 use Rattle.picture.specs.Picture.{nodesDrawn, mostRings, Left}
 use Rattle.picture.proofs.Drawing.{fits, front, no-nodes, few-left, owes-node, more-nodes, all-nodes}
 use native.Mathlib.Omega.{arith}
@@ -12,11 +13,11 @@ use Rattle.picture.proofs.draw_nodes.Statement.{statement}
 use Rattle.picture.proofs.draw_nodes.Tie as tie
 
 abbrev Inv-loop : tie.InvT-loop
-Inv-loop job nodes rims used rings sent₀ i₀ sent i =
+Inv-loop job nodes rims used sent₀ i₀ sent i =
     (i ≤ used) × (sent ≡ length (nodesDrawn job i)) × (sent ≤ mostRings + 256 * i) × Left job used nodes rims
 
 abbrev μ-loop : tie.MeasureT-loop
-μ-loop job nodes rims used rings sent₀ i₀ sent i = used - i
+μ-loop job nodes rims used sent₀ i₀ sent i = used - i
 
 loop-holds : tie.Need-loop-holds Inv-loop μ-loop
 loop-holds c =
@@ -42,9 +43,9 @@ slice-aggregate-send c =
 
 send-requires : tie.Need-send-requires Inv-loop μ-loop
 send-requires c κs =
-    let p = c .before .before .put-node in
-    let h = c .before .before .before .before .loop-test .taken in
-    let l = c .before .before .before .before .before .loop in
+    let p = c .before .before .before .put-node in
+    let h = c .before .before .before .before .before .loop-test .taken in
+    let l = c .before .before .before .before .before .before .loop in
     let few = few-left _ _ _ _ (l .inv .3) in
     let n = length-replicate {A = ℕ} 256 0 in (
       owes-node _ _ _ _ (l .inv .3) (l .i) (l .sent) _ h (record { count = l .inv .1; bound = omega (arith, l .inv .2, h, few) }) (front (p .ensures)),
@@ -52,7 +53,7 @@ send-requires c κs =
     )
 
 returns : tie.Need-returns Inv-loop μ-loop
-returns c = λ e. not-both (c .before .send .result .failed) (c .if1 .taken) e
+returns c = λ e. absurd (true≢false (sym e))
 
 add-i : tie.Need-add-i Inv-loop μ-loop
 add-i c = search needs
@@ -62,12 +63,12 @@ loop-less c = search needs
 
 loop-again : tie.Need-loop-again Inv-loop μ-loop
 loop-again c =
-    let p = c .before .before .before .before .put-node in
-    let l = c .before .before .before .before .before .before .before .loop in
-    let q = c .before .send .ensures (c .if1 .left) in
+    let p = c .before .before .before .before .before .put-node in
+    let l = c .before .before .before .before .before .before .before .before .loop in
+    let q = c .before .send .ensures (not-false (c .before .send .result) (c .if1 .left)) in
     let n = length-replicate {A = ℕ} 256 0 in (
       search needs,
-      more-nodes _ _ _ _ (l .inv .3) (l .i) (l .sent) (c .before .send .result .bytes) _ (l .inv .1) (front (p .ensures)) q,
+      more-nodes _ _ _ _ (l .inv .3) (l .i) (l .sent) _ _ (l .inv .1) (front (p .ensures)) q,
       omega (arith, l .inv .2, q, length-take (p .result) (p .last .0), fits (p .ensures) (p .kept .0), n),
       l .inv .3,
     )

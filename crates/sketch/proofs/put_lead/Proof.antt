@@ -5,11 +5,11 @@ use Rattle.text.proofs.Writing.{nothing, room-as, written-as}
 use Rattle.blocks.specs.declared.Block.{Block}
 use Rattle.blocks.specs.Blocks.{points}
 use Rattle.blocks.proofs.Counts.{few-points}
-use Rattle.picture.proofs.Drawing.{lead-of-ring, lead-of-chain, lead-of-refused, same-lead}
+use Rattle.sketch.proofs.Parts.{lead-of-ring, lead-of-chain, lead-of-refused, same-lead}
 use native.Mathlib.Omega.{arith}
 use borrow.Author.Needs.{needs}
-use Rattle.picture.proofs.put_lead.Statement.{statement}
-use Rattle.picture.proofs.put_lead.Tie as tie
+use Rattle.sketch.proofs.put_lead.Statement.{statement}
+use Rattle.sketch.proofs.put_lead.Tie as tie
 
 block-at-requires : tie.Need-block-at-requires
 block-at-requires c κs = search needs

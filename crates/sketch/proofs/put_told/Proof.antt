@@ -1,11 +1,11 @@
 -- `put_told`: nothing, a ring, or the line of a refused block.
 use Rattle.text.proofs.Writing.{nothing, written-as}
 use Rattle.told.proofs.Rows.{can-show}
-use Rattle.picture.proofs.Drawing.{draws-nothing, draws-ring, draws-block}
+use Rattle.sketch.proofs.Parts.{draws-nothing, draws-ring, draws-block}
 use native.Mathlib.Omega.{arith}
 use borrow.Author.Needs.{needs}
-use Rattle.picture.proofs.put_told.Statement.{statement}
-use Rattle.picture.proofs.put_told.Tie as tie
+use Rattle.sketch.proofs.put_told.Statement.{statement}
+use Rattle.sketch.proofs.put_told.Tie as tie
 
 enum-told : tie.Need-enum-told
 enum-told c = search needs

@@ -5,11 +5,11 @@ use lib.ListN.{length, length-take}
 use Rattle.laws.proofs.Lists.{part-length}
 use Rattle.scene.specs.Scene.{ringText}
 use Rattle.text.proofs.Writing.{written-as}
-use Rattle.picture.proofs.Drawing.{cells-some, cells-none}
+use Rattle.sketch.proofs.Parts.{cells-some, cells-none}
 use native.Mathlib.Omega.{arith}
 use borrow.Author.Needs.{needs}
-use Rattle.picture.proofs.put_row.Statement.{statement}
-use Rattle.picture.proofs.put_row.Tie as tie
+use Rattle.sketch.proofs.put_row.Statement.{statement}
+use Rattle.sketch.proofs.put_row.Tie as tie
 
 mul-end : tie.Need-mul-end
 mul-end c = let s = c .before .before .before .before .before .before in let h = s .pre .0 (c .if1 .taken) in omega (arith, h, s .pre .1)

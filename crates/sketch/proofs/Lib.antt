@@ -1,0 +1,2 @@
+-- Laws of what is drawn of a block.
+pub mod Parts

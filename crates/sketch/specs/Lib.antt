@@ -1,0 +1,2 @@
+-- What is drawn of one block of a job.
+pub mod Drawn
