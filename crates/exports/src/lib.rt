@@ -10,7 +10,7 @@ ghost use Rattle.limits.specs.Limits.{delivered};
 ghost use Rattle.call.specs.Lent.{lent};
 ghost use Rattle.divider.specs.Promise.{Promise};
 ghost use Rattle.marked.specs.Promise.{MarkedPromise};
-ghost use Rattle.practice.specs.Practice as Practice;
+ghost use Rattle.paper.specs.Practice as Practice;
 ghost use Rattle.smallest.specs.Smallest as Rule;
 ghost use Rattle.writer.specs.Write as Write;
 use limits::Limits;

@@ -1,6 +1,5 @@
--- What is proved of a step, of runs, and of `printed`.
+-- What is proved of a ring that is divided, of runs, and of `printed`.
 pub mod Rows
-pub mod Answers
-pub mod Stepping
+pub mod Divided
 pub mod Runs
 pub mod Printed

@@ -99,30 +99,6 @@ pub record Steps (e : Step) (r : Stepped) (q : List ℤ) (m : List Float) (w p :
   pub told : r .told ≡ e .told
   pub tells : CanTell (r .told) p
 
--- of an answer: that it is a refusal, no chain, no ring; and how many points it has
-abbrev pub Refusal : Block → Type 0
-Refusal (Ring count size) = ⊥
-Refusal (Chain count) = ⊥
-Refusal (Refused code n) = Unit {0}
-
-abbrev pub NoChain : Block → Type 0
-NoChain (Ring count size) = Unit {0}
-NoChain (Chain count) = ⊥
-NoChain (Refused code n) = Unit {0}
-
-abbrev pub NoRing : Block → Type 0
-NoRing (Ring count size) = ⊥
-NoRing (Chain count) = Unit {0}
-NoRing (Refused code n) = Unit {0}
-
--- block number n was answered with a and the points qs: what its number and its two bytes allow
-pub record Answered (n : ℕ) (a : Block) (qs : List ℤ) : Type 0 where
-  pub even : n % 2 ≡ 0 → NoChain a
-  pub odd : n % 2 ≡ 1 → NoRing a
-  pub few : points a ≤ 60
-  pub places : length qs ≡ 120
-  pub number : (Refusal a → ⊥) → n < 65536
-
 -- a step can be made: the ring that waits has at most 60 points, in their places
 pub record CanStep (s : State) (ps : List ℤ) : Type 0 where
   pub few : s .count ≤ 60

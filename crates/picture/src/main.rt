@@ -159,7 +159,7 @@ fn turn(
     ensures { λ r. ⌜ Reached (now (job .entry)) (i + 1) (r .state) (now (ring .exit)) (now (nodes .exit)) (now (rims .exit))
         × (r .sent ≡ true → Drew (now (job .entry)) (i + 1) (now (sent .exit))) ⌝ }
 {
-    let stepped = job::step(s, frame::block_at(job, i), ring, nodes, rims, cells);
+    let stepped = step::step(s, frame::block_at(job, i), ring, nodes, rims, cells);
     let told = stepped.told;
     let state = stepped.state;
     let written = draw_step(job, f, told, ring, state.count, nodes, rims, cells, i, sent);

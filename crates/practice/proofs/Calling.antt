@@ -23,7 +23,7 @@ use Rattle.call.proofs.Course.{turned-away}
 use Rattle.divider.specs.Promise as Examination
 use Rattle.divider.specs.Promise.{Leaves}
 use Rattle.divider.proofs.Leaving.{refused-leaves}
-use Rattle.practice.specs.Practice.{PracticePromise}
+use Rattle.paper.specs.Practice.{PracticePromise}
 
 -- ---- 1 by either of its tests, then 16
 due : (o b q : Bool) (n : ℕ) → not (o || b) && q ≡ true → cond o 1 (cond b 1 (cond q 16 n)) ≡ 16

@@ -1,4 +1,2 @@
--- Card 8: fewer cuts allowed, the same split (FewerCuts); both entries divide alike (AsExamined); the call by its tests (Calling).
-pub mod FewerCuts
-pub mod AsExamined
+-- Card 8: the call by its tests (Calling).
 pub mod Calling

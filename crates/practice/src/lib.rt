@@ -1,32 +1,13 @@
 // Practice: the divider call of the practice paper, for rings and chains of at most 24 points and 12 cuts.
 //
-// It stands beside the examination's entry, over the same divider: it tests its own counts, 16, and hands the call over with
-// its own set of limits. specs/Practice has its promise and the claim that both entries divide alike.
+// It stands beside the examination's entry, over the same divider: it tests its own counts, 16, in paper, and hands the call
+// over with its own set of limits. paper's specs/Practice has its promise and the claim that both entries divide alike.
 
-ghost use mathlib.Core.Path.{_≡_};
-ghost use mathlib.Core.Bool.{_&&_, _||_, not};
-ghost use Prim.Native.Nat.{_/_, _%_};
-ghost use lib.Dec.{eqb};
 ghost use Rattle.table.specs.Answers as Answers;
-ghost use Rattle.call.specs.Call as Call;
 ghost use Rattle.call.specs.Lent.{lent};
-ghost use Rattle.practice.specs.Practice.{PracticePromise};
+ghost use Rattle.paper.specs.Practice.{PracticePromise};
 use nodes::NodeNumber;
 use table::Answer;
-
-// 16, where 1 does not come first. Of the ring's numbers and the chain's, two a point.
-fn over_paper(ring: usize, chain: usize) -> bool
-    ensures { λ r. ⌜ r ≡ (not (not (eqb (ring % 2) 0) || not (eqb (chain % 2) 0) || Call.countsOut (ring / 2) (chain / 2))
-        && Call.over24 (ring / 2) (chain / 2)) ⌝ }
-{
-    if lent_points::counts_out(ring, chain) {
-        return false;
-    }
-    if 24 < ring / 2 {
-        return true;
-    }
-    24 < chain / 2
-}
 
 // The divider call of the practice paper, over the lists that the caller lends.
 pub fn divide_practice(
@@ -42,7 +23,7 @@ pub fn divide_practice(
     ensures { λ a. ⌜ PracticePromise (lent (now (ring .entry)) (now (chain .entry)) size (now (nodes .entry)) «node_count» (now (rims .entry))
         (now (cells .entry)) «cell_count») (Answers.values a) (now (nodes .exit)) (now (rims .exit)) (now (cells .exit)) ⌝ }
 {
-    if over_paper(ring.len(), chain.len()) {
+    if paper::over_paper(ring.len(), chain.len()) {
         return Answer::Refused {
             code: 16,
             nodes: node_count,

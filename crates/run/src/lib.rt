@@ -1,5 +1,5 @@
 // Run: a job from one descriptor to another: reads a block, steps, writes the text of what the step told, until the run has
-// ended. It stands above job, and below the programs.
+// ended. It stands above step, and below the programs.
 //
 // The loop's invariant is that the state, the node list with its rim marks and the count of bytes written were reached by the
 // bytes read so far, and a run that ends has written `printed` of them. What is left to the calls of the operating system is
@@ -84,7 +84,7 @@ pub fn run(input: i32, output: i32) -> Sent
     let mut sent: u64 = 0;
     while goes_on(s) {
         let got = stream::read_block(input, &mut bytes);
-        let stepped = job::step(
+        let stepped = step::step(
             s,
             &bytes[..got],
             &mut ring,

@@ -68,7 +68,7 @@ fn list_job() -> Sent
     let mut s = State::new();
     while run::goes_on(s) {
         let got = stream::read_block(STDIN_FILENO, &mut bytes);
-        let stepped = job::step(
+        let stepped = step::step(
             s,
             &bytes[..got],
             &mut ring,

@@ -25,11 +25,12 @@ use Rattle.call.specs.Lent.{Lent, callOf, divideLent, odd, allCells, testsBy, p
 use Rattle.call.proofs.Tests.{passed}
 use Rattle.call.proofs.Course.{by-tests, refused-code}
 use Rattle.lone_ring.specs.Number.{points, trialLent, numberOf}
-use Rattle.smallest.specs.Choice.{chosen, trialOf}
-use Rattle.smallest.specs.Search.{IsLeast}
-use Rattle.smallest.specs.Smallest.{refused, choiceOf, found, smallestOf, smallestRefused, Shown}
-use Rattle.smallest.proofs.Searching.{is-least, ends}
-use Rattle.smallest.proofs.Digits.{chosen-length, chosen-all}
+use Rattle.choice.specs.Choice.{chosen}
+use Rattle.choice.specs.Search.{IsLeast}
+use Rattle.choice.proofs.Searching.{is-least, ends}
+use Rattle.choice.proofs.Digits.{chosen-length, chosen-all}
+use Rattle.least.specs.Trial.{trialOf, choiceOf}
+use Rattle.smallest.specs.Smallest.{refused, found, smallestOf, smallestRefused, Shown}
 
 module _ (ring chain : List ℤ) (size w : ℕ) where
   pub one : w ≡ 1 → refused 1 ≡ smallestOf ring chain size w

@@ -1,5 +1,5 @@
 -- 02, Card 13: what the entry returns for every ring, chain and sheet size, and what holds of it.
-use Prim.Native.Nat.{ℕ, _*_, _-_, _^_, _≤_, _<_}
+use Prim.Native.Nat.{ℕ, _*_, _^_, _≤_, _<_}
 use mathlib.Core.Path.{_≡_}
 use mathlib.Core.Bool.{_||_, cond}
 use mathlib.Core.List.{List}
@@ -9,15 +9,12 @@ use lib.Count.{ones}
 use lib.IntN.{ℤ}
 use Rattle.smallest.specs.declared.Smallest.{Smallest}
 use Rattle.lone_ring.specs.Number.{points, numberOf}
-use Rattle.smallest.specs.Choice.{chosen, trialOf}
-use Rattle.smallest.specs.Search.{leastOf, IsLeast}
+use Rattle.choice.specs.Choice.{chosen}
+use Rattle.choice.specs.Search.{IsLeast}
+use Rattle.least.specs.Trial.{trialOf, choiceOf}
 
 abbrev pub refused : ℕ → Smallest
 refused n = record { code = n; refusal = 0; choice = 0; points = 0 }
-
--- the smallest choice of 3 points or more that gets the number w; 2 ^ r if none does
-abbrev pub choiceOf : List ℤ → List ℤ → ℕ → ℕ → ℕ → ℕ
-choiceOf ring chain size r w = leastOf (trialOf ring chain size r) w (2 ^ r) (r - 2) 3
 
 abbrev pub found : ℕ → ℕ → Smallest
 found w c = record { code = 0; refusal = w; choice = c; points = ones c }

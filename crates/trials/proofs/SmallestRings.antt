@@ -7,8 +7,8 @@ use lib.Count.{ones, onesIn}
 use lib.IntN.{ℤ, pos, negsuc}
 use Rattle.call.specs.Lent.{divideLent}
 use Rattle.lone_ring.specs.Number.{numberOf}
-use Rattle.smallest.specs.Choice.{chosen}
-use Rattle.smallest.specs.Search.{firstOfCount, leastOf}
+use Rattle.choice.specs.Choice.{chosen}
+use Rattle.choice.specs.Search.{firstOfCount, leastOf}
 use Rattle.smallest.specs.Smallest.{refused, smallestOf, smallestRefused}
 use Rattle.trials.proofs.Compute.{computing}
 

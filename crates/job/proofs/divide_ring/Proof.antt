@@ -1,8 +1,8 @@
--- `divide_ring`: the promise of the divider call is the definition's step, and says that its row can be printed. Laws in proofs/Rows and Stepping.
+-- `divide_ring`: the promise of the divider call is the definition's step, and says that its row can be printed. The law is in proofs/Divided.
 use Prim.Native.Nat.{_*_}
 use lib.ListN.{take}
 use Rattle.laws.proofs.Lists.{part-length}
-use Rattle.job.proofs.Stepping.{divided}
+use Rattle.job.proofs.Divided.{divided}
 use native.Mathlib.Omega.{arith}
 use borrow.Author.Needs.{needs}
 use Rattle.job.proofs.divide_ring.Statement.{statement}
