@@ -14,7 +14,7 @@ use Rattle.table.specs.declared.Row.{Row}
 use Rattle.divider.specs.Promise.{Promise}
 use Rattle.told.specs.declared.Told.the-variants as Told
 use Rattle.told.specs.Text.{Shown}
-use Rattle.job.specs.declared.State.{State}
+use Rattle.state.specs.declared.State.{State}
 use Rattle.job.specs.Step.{noCells, lentBy, divides, Steps}
 use Rattle.job.proofs.Rows.{shown}
 

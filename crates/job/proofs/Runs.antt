@@ -18,7 +18,7 @@ use Rattle.blocks.specs.declared.Block.{Block}
 use Rattle.blocks.specs.declared.Block.the-variants.{Ring, Chain, Refused}
 use Rattle.blocks.specs.Fields.{pair}
 use Rattle.blocks.specs.Blocks.{countOf, sizeOf, refusal, refusedBlock, acceptedBlock, readBlock}
-use Rattle.job.specs.declared.State.{State}
+use Rattle.state.specs.declared.State.{State}
 use Rattle.told.specs.declared.Told.{Told}
 use Rattle.told.specs.declared.Told.the-variants as Told
 use Rattle.job.specs.Step.{Step, textOf, ends, waits, divides, taken, stepOf}

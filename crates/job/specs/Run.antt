@@ -6,7 +6,7 @@ use lib.ListN.{length, getD, take, drop, replicate}
 use lib.IntN.{ℤ, pos}
 use lib.Ieee.{Float}
 use Rattle.laws.specs.Double.{naught}
-use Rattle.job.specs.declared.State.{State}
+use Rattle.state.specs.declared.State.{State}
 use Rattle.job.specs.Step.{stepOf, textOf}
 
 -- a list of bytes

@@ -18,7 +18,7 @@ use Rattle.blocks.specs.Blocks.{points, readBlock}
 use Rattle.told.specs.declared.Told.{Told}
 use Rattle.told.specs.declared.Told.the-variants as Told
 use Rattle.told.specs.Text.{toldText, CanTell}
-use Rattle.job.specs.declared.State.{State}
+use Rattle.state.specs.declared.State.{State}
 use Rattle.job.specs.declared.Stepped.{Stepped}
 
 -- what a step leaves: the state, the points of the ring that waits for its chain, in all 60 places, the nodes and their rim marks, and the cells; and what it

@@ -1,5 +1,5 @@
-// Job: a run over a job's blocks: its state between two of them, and the ring that waits for its chain divided when the chain
-// is there. It stands above divider, and below step, which takes a block's bytes.
+// Job: the ring of a job that waits for its chain, divided when the chain is there. It stands above state and divider, and
+// below step, which takes a block's bytes.
 //
 // specs/Step says what one step leaves and tells, and specs/Run what the program prints as one definition, `printed`, from the
 // bytes that go in to those that come out.
@@ -7,55 +7,16 @@
 ghost use mathlib.Core.Path.{_≡_};
 ghost use Prim.Native.Nat.{_*_, _≤_, _<_};
 ghost use lib.ListN.{length, take};
-ghost use Rattle.job.specs.Step.{closed, noCells, divides, Steps, CanStep};
-ghost use Rattle.job.specs.Run.{start};
+ghost use Rattle.job.specs.Step.{noCells, divides, Steps, CanStep};
 use nodes::NodeNumber;
+use state::State;
 use table::Row;
 use told::Told;
-
-// The state between two blocks: the number of the next one; the count and the sheet size of the ring that waits for its chain,
-// where that number is odd; the nodes listed; and whether the run has ended. The ring's points stand beside it in a list that
-// the caller lends, 60 places, x and y in turn.
-pub struct State {
-    pub block: u32,
-    pub count: usize,
-    pub size: u32,
-    pub used: usize,
-    pub ended: bool,
-}
 
 // The state after a step, and what it tells of its block.
 pub struct Stepped {
     pub state: State,
     pub told: Told,
-}
-
-impl State {
-    // Before the first block.
-    pub fn new() -> State
-        ensures { λ r. ⌜ r ≡ start ⌝ }
-    {
-        State {
-            block: 0,
-            count: 0,
-            size: 0,
-            used: 0,
-            ended: false,
-        }
-    }
-
-    // The same, with the run at its end.
-    pub fn closed(self) -> State
-        ensures { λ r. ⌜ r ≡ closed self ⌝ }
-    {
-        State {
-            block: self.block,
-            count: self.count,
-            size: self.size,
-            used: self.used,
-            ended: true,
-        }
-    }
 }
 
 // Divides the ring that waits, with the first `run` points of a chain, over the node list and the empty cell list.

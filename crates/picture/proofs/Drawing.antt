@@ -15,7 +15,7 @@ use lib.IntN.{ℤ}
 use lib.Ieee.{Float, binary64, ofBits}
 use Rattle.text.specs.Text.{bytes, put, Written}
 use Rattle.laws.specs.Double.{naught}
-use Rattle.job.specs.declared.State.{State}
+use Rattle.state.specs.declared.State.{State}
 use Rattle.job.specs.declared.Stepped.{Stepped}
 use Rattle.job.specs.Step.{Step, stepOf, Steps, CanStep}
 use Rattle.job.specs.Run.{Course, start, noPoints, noNodes, noRims, ran, readTo, wholeRun, blockAt}

@@ -20,7 +20,7 @@ use Rattle.blocks.specs.declared.Block.{Block}
 use Rattle.blocks.specs.declared.Block.the-variants.{Ring, Chain, Refused}
 use Rattle.blocks.specs.Blocks.{readBlock}
 use Rattle.told.specs.declared.Told.the-variants as Told
-use Rattle.job.specs.declared.State.{State}
+use Rattle.state.specs.declared.State.{State}
 use Rattle.job.specs.Step.{Step, ends, waits, divides, taken, lentBy, stepOf}
 use Rattle.job.specs.Run.{Course, onward, ran}
 

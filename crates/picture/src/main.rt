@@ -19,12 +19,12 @@ ghost use Rattle.frame.specs.Head.{headText, mostHead};
 ghost use Rattle.picture.specs.Picture.{ringsDrawn, allDrawn, pictured, mostRings, Wrote, Owed, Sends, Reached, Drew, Left, Ends, said};
 use frame::Frame;
 use frame::MOST_HEAD;
-use job::State;
 use libc::STDERR_FILENO;
 use libc::STDIN_FILENO;
 use libc::STDOUT_FILENO;
 use nodes::NodeNumber;
 use sketch::MOST_STEP;
+use state::State;
 use told::Told;
 
 // The blocks of 256 rings.
@@ -196,7 +196,7 @@ fn draw(job: &[u8], f: Frame, sent: &mut u64) -> bool
     let mut cells = [0; 496];
     let mut s = State::new();
     let mut i: usize = 0;
-    while run::goes_on(s) {
+    while state::goes_on(s) {
         let t = turn(
             job,
             f,

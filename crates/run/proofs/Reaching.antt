@@ -13,13 +13,13 @@ use lib.IntN.{ℤ}
 use lib.Ieee.{Float, binary64, ofBits}
 use Rattle.laws.specs.Double.{naught}
 use Rattle.told.specs.Text.{toldText}
-use Rattle.job.specs.declared.State.{State}
+use Rattle.state.specs.declared.State.{State}
 use Rattle.job.specs.declared.Stepped.{Stepped}
 use Rattle.job.specs.Step.{textOf, stepOf, Steps, CanStep}
 use Rattle.job.specs.Run.{Bytes, start, noPoints, noNodes, noRims, Course, onward, ran, blockAt, readTo, printed}
 use Rattle.job.proofs.Runs.{Went, Held, outcome, number-below, not-both, goes, ran-held, read-more, read-added, joined-bytes}
 use Rattle.job.proofs.Printed.{one-more, prints, counted, in-time}
-use Rattle.run.specs.Reached.{Reached, Wrote, Owed, Sends, Finished, EndedWith}
+use Rattle.telling.specs.Reached.{Reached, Wrote, Owed, Sends, Finished, EndedWith}
 
 -- before the first block
 begun : Reached start noPoints noNodes noRims

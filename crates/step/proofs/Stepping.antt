@@ -15,7 +15,7 @@ use Rattle.blocks.specs.Blocks.{readBlock}
 use Rattle.told.specs.declared.Told.{Told}
 use Rattle.told.specs.declared.Told.the-variants as Told
 use Rattle.told.specs.Text.{CanTell}
-use Rattle.job.specs.declared.State.{State}
+use Rattle.state.specs.declared.State.{State}
 use Rattle.job.specs.declared.Stepped.{Stepped}
 use Rattle.job.specs.Step.{Step, closed, ends, waits, noCells, divides, taken, stepOf, Steps}
 use Rattle.job.proofs.Divided.{few-cells}

@@ -5,20 +5,18 @@
 // every rim mark and every number of the cell list.
 
 ghost use mathlib.Core.Path.{_≡_};
-ghost use mathlib.Core.Bool.{_&&_};
 ghost use mathlib.Core.List.{List};
 ghost use Prim.Native.Nat.{ℕ, _%_};
 ghost use lib.ListN.{length};
-ghost use lib.Dec.{eqb};
 ghost use lib.IntN.{ℤ};
 ghost use lib.Ieee.{Float};
 ghost use Rattle.job.specs.Step.{noCells, taken, stepOf, Steps, CanStep};
 ghost use Rattle.job.specs.Run.{Bytes};
 ghost use Rattle.step.specs.Answered.{Refusal, Answered};
 use blocks::Block;
-use job::State;
 use job::Stepped;
 use nodes::NodeNumber;
+use state::State;
 use told::Told;
 
 // Empties the cell list.
@@ -104,16 +102,6 @@ fn chain_block(
     job::divide_ring(s, ring, points, count, nodes, rims, cells)
 }
 
-// Whether the input has ended where a ring block would begin. After a ring block that is part of a block.
-fn at_end(block: u32, bytes: &[u8]) -> bool
-    ensures { λ r. ⌜ r ≡ (eqb (block % 2) 0 && eqb (length (now (bytes .entry))) 0) ⌝ }
-{
-    if block % 2 == 0 {
-        return bytes.len() == 0;
-    }
-    false
-}
-
 // One step: the bytes of the next block, or what is left of the input, or none where it has ended. The cell list is left with
 // the cells of the ring that was divided, or empty. That the bytes are bytes is for the caller's proof.
 pub fn step(
@@ -129,7 +117,7 @@ pub fn step(
         (now (nodes .exit)) (now (rims .exit)) (now (cells .exit)) × Bytes (now (bytes .entry)) ⌝ }
 {
     clear(cells);
-    if at_end(s.block, bytes) {
+    if state::at_end(s.block, bytes) {
         return Stepped {
             state: s.closed(),
             told: Told::Nothing,

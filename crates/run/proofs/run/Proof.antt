@@ -7,7 +7,7 @@ use borrow.Author.Tests.{not-true, not-false}
 use Rattle.report.specs.Report.{mostText}
 use Rattle.laws.proofs.Lists.{part-length}
 use Rattle.job.proofs.Runs.{not-both}
-use Rattle.run.specs.Reached.{Wrote}
+use Rattle.telling.specs.Reached.{Wrote}
 use Rattle.run.proofs.Reaching.{begun-unwritten, can-step, finished, falls, owes, wrote}
 use borrow.Author.Needs.{needs}
 use native.Mathlib.Omega.{arith}

@@ -6,9 +6,9 @@ use mathlib.Core.Bool.{cond}
 use lib.ListN.{length, take, length-take}
 use borrow.Author.Tests.{not-true, not-false}
 use Rattle.laws.proofs.Lists.{part-length}
-use Rattle.run.specs.Reached.{Reached}
+use Rattle.telling.specs.Reached.{Reached}
 use Rattle.run.proofs.Reaching.{begun-so, can-step, listed, falls, turned}
-use Rattle.sheet.proofs.Lines.{finished}
+use Rattle.sheet_lines.proofs.Lines.{finished}
 use borrow.Author.Needs.{needs}
 use native.Mathlib.Omega.{arith}
 use Rattle.sheet.proofs.list_job.Statement.{statement}

@@ -14,8 +14,8 @@ use Rattle.listing.specs.Sheet.{line, lines}
 use Rattle.listing.proofs.Texts.{line-long, lines-long}
 use Rattle.job.specs.Run.{Course, wholeRun}
 use Rattle.job.proofs.Printed.{settles}
-use Rattle.run.specs.Reached.{EndedWith}
-use Rattle.sheet.specs.Sheeted.{sheeted, Finished}
+use Rattle.telling.specs.Reached.{EndedWith}
+use Rattle.sheet_lines.specs.Sheeted.{sheeted, Finished}
 
 -- the line fills a list of 65 bytes
 pub whole-line : (l : List Float) (i : ℕ) → i < 1000000 → (out : List ℕ) (r : ℕ) (m : List ℕ) → Written out 0 (line l i) r m → length m ≡ 65 → m ≡ line l i

@@ -4,8 +4,8 @@ use lib.ListN.{length}
 use Rattle.told.proofs.Rows.{tells-nothing}
 use native.Mathlib.Omega.{arith}
 use borrow.Author.Needs.{needs}
-use Rattle.run.proofs.tell.Statement.{statement}
-use Rattle.run.proofs.tell.Tie as tie
+use Rattle.telling.proofs.tell.Statement.{statement}
+use Rattle.telling.proofs.tell.Tie as tie
 
 enum-told : tie.Need-enum-told
 enum-told c = search needs

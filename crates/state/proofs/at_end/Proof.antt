@@ -2,8 +2,8 @@ use Prim.Native.Nat.{_%_}
 use borrow.Author.Tests.{eq-eqb, ne-eqb}
 use borrow.Author.Needs.{needs}
 use native.Mathlib.Omega.{arith}
-use Rattle.step.proofs.at_end.Statement.{statement}
-use Rattle.step.proofs.at_end.Tie as tie
+use Rattle.state.proofs.at_end.Statement.{statement}
+use Rattle.state.proofs.at_end.Tie as tie
 
 returns : tie.Need-returns
 returns c = rw (eq-eqb (c .before .args .block % 2) 0 (c .if1 .taken))

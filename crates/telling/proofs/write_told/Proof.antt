@@ -6,11 +6,11 @@ use lib.ListN.{length}
 use Rattle.report.specs.Report.{mostText}
 use Rattle.laws.proofs.Lists.{part-length}
 use Rattle.told.proofs.Rows.{in-front}
-use Rattle.run.specs.Reached.{Owed}
+use Rattle.telling.specs.Reached.{Owed}
 use native.Mathlib.Omega.{arith}
 use borrow.Author.Needs.{needs}
-use Rattle.run.proofs.write_told.Statement.{statement}
-use Rattle.run.proofs.write_told.Tie as tie
+use Rattle.telling.proofs.write_told.Statement.{statement}
+use Rattle.telling.proofs.write_told.Tie as tie
 
 slice-aggregate-print : tie.Need-slice-aggregate-print
 slice-aggregate-print c = search needs

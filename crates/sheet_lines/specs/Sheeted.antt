@@ -9,7 +9,7 @@ use lib.Ieee.{Float}
 use Rattle.nodes.specs.Nodes.{mostPlaces}
 use Rattle.listing.specs.Sheet.{line, lines}
 use Rattle.job.specs.Run.{Bytes, wholeRun}
-use Rattle.run.specs.Reached.{EndedWith}
+use Rattle.telling.specs.Reached.{EndedWith}
 
 -- the lines of the nodes that the run of an input leaves, in the order of their numbers
 unfoldable pub sheeted : List ℕ → List ℕ

@@ -8,7 +8,7 @@ use lib.ListN.{length}
 use lib.IntN.{ℤ}
 use lib.Ieee.{Float}
 use Rattle.report.specs.Report.{mostText}
-use Rattle.job.specs.declared.State.{State}
+use Rattle.state.specs.declared.State.{State}
 use Rattle.job.specs.Step.{stepOf, textOf}
 use Rattle.job.specs.Run.{Bytes, ran, readTo, printed}
 

@@ -2,8 +2,8 @@
 use mathlib.Core.Path.{refl}
 use borrow.Author.Tests.{not-false}
 use borrow.Author.Needs.{needs}
-use Rattle.run.proofs.send.Statement.{statement}
-use Rattle.run.proofs.send.Tie as tie
+use Rattle.telling.proofs.send.Statement.{statement}
+use Rattle.telling.proofs.send.Tie as tie
 
 write-counted-requires : tie.Need-write-counted-requires
 write-counted-requires c κs = search needs

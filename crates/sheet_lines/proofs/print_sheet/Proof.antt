@@ -8,12 +8,12 @@ use Rattle.nodes.specs.Flat.{Usable}
 use Rattle.listing.specs.Sheet.{lines}
 use Rattle.listing.proofs.Tests.{usable}
 use Rattle.job.proofs.Runs.{not-both}
-use Rattle.run.specs.Reached.{EndedWith}
-use Rattle.sheet.proofs.Lines.{whole-line, none-written, more-lines, few-bytes}
+use Rattle.telling.specs.Reached.{EndedWith}
+use Rattle.sheet_lines.proofs.Lines.{whole-line, none-written, more-lines, few-bytes}
 use borrow.Author.Needs.{needs}
 use native.Mathlib.Omega.{arith}
-use Rattle.sheet.proofs.print_sheet.Statement.{statement}
-use Rattle.sheet.proofs.print_sheet.Tie as tie
+use Rattle.sheet_lines.proofs.print_sheet.Statement.{statement}
+use Rattle.sheet_lines.proofs.print_sheet.Tie as tie
 
 abbrev Inv-loop : tie.InvT-loop
 Inv-loop nodes used sent₀ i₀ sent i = (i ≤ used) × Usable nodes used × (sent ≡ length (lines nodes i)) × EndedWith used nodes
