@@ -8,7 +8,7 @@ use lib.ListN.{length, take}
 use lib.IntN.{ℤ}
 use lib.Ieee.{Float}
 use Rattle.text.specs.Text.{bytes}
-use Rattle.job.specs.declared.State.{State}
+use Rattle.state.specs.declared.State.{State}
 use Rattle.job.specs.Step.{Step, stepOf}
 use Rattle.job.specs.Run.{Course, ran, readTo, wholeRun, blockAt}
 use Rattle.scene.specs.Scene.{nodesText}
