@@ -211,15 +211,6 @@ pub fn refused(code: u32, nodes: usize, cells: usize) -> Answer
     }
 }
 
-// How far from the middle of an edge a snap point is taken, as a share of the chord: a chain of fewer than two points snaps
-// no edge.
-fn reach(limits: Limits, chain: usize) -> f64 {
-    if chain < 4 {
-        return 0.0;
-    }
-    limits.share
-}
-
 // The caller's cell list, of which the tests look at the number of places and at how many are used; and the place where
 // the ring's cells go in a list of numbers, which is that list or another.
 pub struct CellRoom {
@@ -259,7 +250,7 @@ pub fn divide_with(
         return refused(code, node_count, room.at);
     }
     let own = ring.len() / 2;
-    let w = extent::window(ring, reach(limits, chain.len()));
+    let w = extent::window(ring, chain);
     let mut numbers = [0; MOST_NEARBY];
     let mut xs = [0.0; MOST_NEARBY];
     let test = entry::lists_refusal(

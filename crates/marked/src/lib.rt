@@ -123,7 +123,7 @@ pub fn divide_marked_set(
         return divider::refused(code, node_count, cell_count);
     }
     let own = ring.len() / 2;
-    let w = extent::window(ring, limits.share);
+    let w = extent::window_with_marks(ring, limits.share);
     let mut numbers = [0; MOST_NEARBY];
     let mut xs = [0.0; MOST_NEARBY];
     let test = entry::lists_refusal(

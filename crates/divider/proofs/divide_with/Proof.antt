@@ -42,7 +42,7 @@ passed c =
 
 -- ---- the lists were tested: the number of the whole call
 abbrev onward : tie.After-struct-known → tie.Else1
-onward c = c .before .before .before .before .before .before .before .before .before .before
+onward c = c .before .before .before .before .before .before .before .before .before
 
 code-is : (c : tie.After-struct-known) (cs : List Cell) → let s = begin (onward c .before) in length cs ≡ s .args .room .places
     → c .before .before .before .lists-refusal .result .code ≡ refusal (s .args .limits) (lent s cs)
@@ -69,11 +69,8 @@ returns c cs e =
     (call-refused (a .limits) (lent s cs) (a .cells .now) (a .room .at) (n .result)
     (early (a .limits) (lent s cs) (n .result) (n .ensures) (k .if1 .taken)) (k .if1 .taken))
 
-reach-requires : tie.Need-reach-requires
-reach-requires c κs = search needs
-
 window-requires : tie.Need-window-requires
-window-requires c κs = passed (c .before) .1
+window-requires c κs = search needs
 
 slice-aggregate-lists-refusal : tie.Need-slice-aggregate-lists-refusal
 slice-aggregate-lists-refusal c = search needs
@@ -84,7 +81,7 @@ slice-aggregate-lists-refusal-2 c = search needs
 lists-refusal-requires : tie.Need-lists-refusal-requires
 lists-refusal-requires c κs =
     let w = c .before .before .before .before in
-    let n = passed (w .before .before) in
+    let n = passed (w .before) in
     (n .0, n .1, w .window .ensures, refl, refl)
 
 refused-requires-2 : tie.Need-refused-requires-2
@@ -163,7 +160,6 @@ divide-with-spec =
     points-refusal-requires
     refused-requires
     returns
-    reach-requires
     window-requires
     slice-aggregate-lists-refusal
     slice-aggregate-lists-refusal-2

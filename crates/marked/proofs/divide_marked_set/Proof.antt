@@ -67,8 +67,8 @@ returns c =
     (promised (s .args .limits) (lent s) _ _ _ _
     (call-refused (s .args .limits) (lent s) (n .result) (early (s .args .limits) (lent s) (n .result) (n .ensures) (k .if1 .taken)) (k .if1 .taken)))
 
-window-requires : tie.Need-window-requires
-window-requires c κs = passed c .1
+window-with-marks-requires : tie.Need-window-with-marks-requires
+window-with-marks-requires c κs = passed c .1
 
 slice-aggregate-lists-refusal : tie.Need-slice-aggregate-lists-refusal
 slice-aggregate-lists-refusal c = search needs
@@ -80,7 +80,7 @@ lists-refusal-requires : tie.Need-lists-refusal-requires
 lists-refusal-requires c κs =
     let w = c .before .before .before .before in
     let n = passed (w .before) in
-    (n .0, n .1, w .window .ensures, refl, refl)
+    (n .0, n .1, w .window-with-marks .ensures, refl, refl)
 
 refused-requires-2 : tie.Need-refused-requires-2
 refused-requires-2 c κs = search needs
@@ -147,7 +147,7 @@ divide-marked-set-spec =
     early-refusal-requires
     refused-requires
     returns
-    window-requires
+    window-with-marks-requires
     slice-aggregate-lists-refusal
     slice-aggregate-lists-refusal-2
     lists-refusal-requires
