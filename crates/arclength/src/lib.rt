@@ -15,7 +15,7 @@ ghost use Rattle.arclength.specs.Arclength as Arclength;
 use vector::{GridPoint, MOST_POINTS, Point, Ring};
 
 // The length of the step to each point of a chain, and of the chain up to it.
-#[derive(Drop)]
+#[derive(Clone, Copy)]
 pub struct Steps {
     pub step: [f64; MOST_POINTS],
     pub arc: [f64; MOST_POINTS],

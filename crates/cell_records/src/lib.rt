@@ -19,7 +19,7 @@ use table::{Answer, Row};
 
 // What a call comes to before its cells are in the list: their numbers, four a cell, the place that the first goes to,
 // how many there are, and the row of the table.
-#[derive(Drop)]
+#[derive(Clone, Copy)]
 pub struct Laid {
     pub numbers: [NodeNumber; 496],
     pub at: usize,

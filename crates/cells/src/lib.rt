@@ -6,7 +6,7 @@
 
 // What an attempt at a piece came to: the used nodes, the first cell that fails or the number of cells, and whether a
 // snap was too far.
-#[derive(Drop)]
+#[derive(Clone, Copy)]
 pub struct Tried {
     pub used: usize,
     pub fails: usize,

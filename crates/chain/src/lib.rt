@@ -16,7 +16,7 @@ use vector::{GridPoint, MOST_POINTS, Point, Ring};
 
 // A simplified chain: the points kept, in the places 0 to count, and in the places below count the snap point of the
 // stretch from each to the next.
-#[derive(Drop)]
+#[derive(Clone, Copy)]
 pub struct Simplified {
     pub points: [GridPoint; MOST_POINTS],
     pub snaps: [Point; MOST_POINTS],

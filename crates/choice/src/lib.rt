@@ -7,7 +7,7 @@ ghost use Rattle.std.specs.Prelude.{◌≡◌, ◌*◌, ◌^◌, ◌≤◌, leng
 ghost use Rattle.choice.specs.Choice.{chosen};
 
 // The chosen points, x and y in turn, in the first `count` places.
-#[derive(Drop)]
+#[derive(Clone, Copy)]
 pub struct ChosenPoints {
     pub points: [i32; 24],
     pub count: usize,

@@ -12,7 +12,7 @@ ghost use Rattle.clean_steps.specs.Choices.{among, spaced_places, places_of, cho
 use vector::{GridPoint, MOST_POINTS};
 
 // A choice of the ring's places: those in the first count places.
-#[derive(Drop)]
+#[derive(Clone, Copy)]
 pub struct Choice {
     pub places: [u8; MOST_POINTS],
     pub count: usize,

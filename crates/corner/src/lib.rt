@@ -14,7 +14,7 @@ use limits::Limits;
 use vector::{GridPoint, Ring};
 
 // A corner of a part: its place and its measure.
-#[derive(Drop)]
+#[derive(Clone, Copy)]
 pub struct Corner {
     pub at: usize,
     pub measure: f64,

@@ -16,7 +16,7 @@ use limits::Limits;
 use vector::Ring;
 
 // The corner where the best diagonal ends, or that none meets the rule.
-#[derive(Drop)]
+#[derive(Clone, Copy)]
 pub enum Diagonal {
     To(usize),
     Missing,

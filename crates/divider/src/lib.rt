@@ -27,7 +27,7 @@ use table::Answer;
 use vector::Ring;
 
 // What the tests of a cleaned ring found: the number of a refusal, or 0 and the ring's doubled area.
-#[derive(Drop)]
+#[derive(Clone, Copy)]
 struct RingTest {
     code: u32,
     area: u64,
@@ -188,7 +188,7 @@ pub fn refused(code: u32, nodes: usize, cells: usize) -> Answer
 
 // The caller's cell list, of which the tests look at the number of places and at how many are used; and the place where
 // the ring's cells go in a list of numbers, which is that list or another.
-#[derive(Drop)]
+#[derive(Clone, Copy)]
 pub struct CellRoom {
     pub places: usize,
     pub used: usize,

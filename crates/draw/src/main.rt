@@ -19,7 +19,7 @@ const READING: u32 = 30;
 const WRITING: u32 = 31;
 
 // How a run ended: cut short, and why; or what is wrong and in which line, 0 where nothing is, and how many bytes were written.
-#[derive(Drop)]
+#[derive(Clone, Copy)]
 struct Ended {
     failed: bool,
     wrong: u32,
@@ -28,7 +28,7 @@ struct Ended {
 }
 
 // What a step came to: the state after it, and whether the pair that it completed was written, if it did complete one.
-#[derive(Drop)]
+#[derive(Clone, Copy)]
 struct Taken {
     state: State,
     sent: bool,

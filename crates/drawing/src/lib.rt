@@ -35,7 +35,7 @@ pub const MOST_TEXT: u32 = 16777216;
 // The ring that is open: the line that it begins at; 0 where none is open, 1 where its points come, 2 where its chain's do; its
 // sheet size and how many points there are of both; the number of its block; what is wrong, or 0; and whether the last step
 // wrote a pair.
-#[derive(Drop)]
+#[derive(Clone, Copy)]
 pub struct Draft {
     pub began: u32,
     pub phase: u32,
@@ -250,7 +250,7 @@ fn take_heard(
 
 // The state between two bytes: how many may still come, the number of the line from 1, its bytes so far, whether its comment
 // has begun, and the open ring.
-#[derive(Drop)]
+#[derive(Clone, Copy)]
 pub struct State {
     pub left: u32,
     pub line: u32,

@@ -18,7 +18,7 @@ use limits::Limits;
 use nodes::{MOST_PLACES, Nearby, NodeNumber, Window};
 
 // What the tests of the lists found: the number of a refusal, or 0, and the nodes that were collected.
-#[derive(Drop)]
+#[derive(Clone, Copy)]
 pub struct ListTest {
     pub code: u32,
     pub near: Nearby,

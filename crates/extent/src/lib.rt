@@ -17,7 +17,7 @@ use vector::{GridPoint, Point};
 const UNIT: f64 = 0.0001220703125;
 
 // How far some points reach.
-#[derive(Drop)]
+#[derive(Clone, Copy)]
 struct Extent {
     lo_x: f64,
     hi_x: f64,

@@ -13,7 +13,7 @@ use blocks::Block;
 use svg::ORIGIN;
 
 // The box of all points so far, and whether the blocks go on.
-#[derive(Drop)]
+#[derive(Clone, Copy)]
 pub struct Extent {
     pub left: u64,
     pub right: u64,
@@ -24,7 +24,7 @@ pub struct Extent {
 
 // The box of a picture, its bottom and its top also as an SVG counts them, downward; the margin about it, the size of letters
 // and the step of the axes.
-#[derive(Drop)]
+#[derive(Clone, Copy)]
 pub struct Frame {
     pub left: u64,
     pub right: u64,
@@ -251,7 +251,7 @@ pub fn frame_of(e: Extent) -> Frame
 pub const MOST_HEAD: usize = 8192;
 
 // What the head's first line says: width and height, where the box begins, and the size of letters.
-#[derive(Drop)]
+#[derive(Clone, Copy)]
 pub struct View {
     pub wide: u64,
     pub tall: u64,
@@ -261,7 +261,7 @@ pub struct View {
 }
 
 // The places of the axes and their ticks, of the scale bar and of the key.
-#[derive(Drop)]
+#[derive(Clone, Copy)]
 pub struct Axes {
     pub under: u64,
     pub beside: u64,

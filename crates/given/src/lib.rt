@@ -15,7 +15,7 @@ use marks::{Edge, EdgeMark};
 use vector::{GridPoint, MOST_POINTS, Point, Ring};
 
 // An outline as it is sought: the points of its loops one after the other, and how many each of the first count loops has.
-#[derive(Drop)]
+#[derive(Clone, Copy)]
 struct LeadLine {
     points: [GridPoint; MOST_POINTS],
     loops: [usize; 20],

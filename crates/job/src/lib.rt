@@ -13,7 +13,7 @@ use table::Row;
 use told::Told;
 
 // The state after a step, and what it tells of its block.
-#[derive(Drop)]
+#[derive(Clone, Copy)]
 pub struct Stepped {
     pub state: State,
     pub told: Told,

@@ -32,7 +32,7 @@ fn larger(x: f64, y: f64) -> f64
 }
 
 // What the ends and the two cosines say of a diagonal.
-#[derive(Drop)]
+#[derive(Clone, Copy)]
 pub struct Judged {
     pub ok: bool,
     pub score: f64,

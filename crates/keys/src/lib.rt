@@ -9,7 +9,7 @@ ghost use Rattle.keys.specs.Keys as Keys;
 ghost use Rattle.keys.specs.Keys.{sought_key, key_of, Sought, near};
 
 // A key to look for, as a coordinate that has it: scaled, and itself. Most searches end before the key is worked out.
-#[derive(Drop)]
+#[derive(Clone, Copy)]
 pub struct SoughtKey {
     pub scaled: f64,
     pub own: f64,

@@ -26,6 +26,8 @@ magnitude (fin s m e) = fin false m e
 
 magnitude-value : (x : Float) (s : Bool) (a c : ℕ) → HasValue x s a c → HasValue (magnitude x) false a c
 magnitude-value (fin t m e) s a c h = (refl, h.1)
+magnitude-value nan s a c h = elim h [ ]
+magnitude-value (inf _) s a c h = elim h [ ]
 
 module _ (x : Float) (z : ℤ) (c : ℕ) (C : 0 < c) (h : IsZ x z c) (t : Float) (f : T (finite t)) (low : less t ≡ 0) (high : plus t * c < den t) where
   value : Val (magnitude x) (nat_abs z) 0 c

@@ -55,6 +55,8 @@ zero-over f x (fin t n d) c C h k N =
     let e = div-at f x (fin t n d) h.0 0 c t (n * up d) (down d) C (down_pos d) N v (refl, refl) in
     subst (λ (q : Float). IsZ q (pos 0) 1) (sym (e ∙ ap (λ (z : ℕ). round f (unlike h.0 t) z (n * up d * c)) (zero-mul (down d))))
     (zero-over-any (round f (unlike h.0 t) 0 (n * up d * c)) (n * up d * c) 1 (mul-pos N C) (round_zero f (unlike h.0 t) (n * up d * c) (mul-pos N C)))
+zero-over f x nan c C h k N = elim k [ ]
+zero-over f x (inf _) c C h k N = elim k [ ]
 
 pub clamp-zero : (lo hi x : Float) (a b : ℤ) → IsZ lo a 1 → IsZ hi b 1 → IsZ x (pos 0) 1 → lt_z (pos 0) a ≡ false → lt_z b (pos 0) ≡ false → clamp lo hi x ≡ x
 unfolding clamp

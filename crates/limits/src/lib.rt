@@ -8,7 +8,7 @@ ghost use Rattle.std.specs.Prelude.{◌≡◌};
 ghost use Rattle.limits.specs.Limits.{delivered};
 ghost use Rattle.limits.specs.Sets as Sets;
 
-#[derive(Drop)]
+#[derive(Clone, Copy)]
 pub struct Limits {
     // the most cuts
     pub cuts: usize,

@@ -26,14 +26,14 @@ pub const NO_SIZE: u32 = 22;
 pub const BEYOND: u32 = 23;
 
 // A coordinate as it is written: so many units with a sign.
-#[derive(Drop)]
+#[derive(Clone, Copy)]
 pub struct Coordinate {
     pub minus: bool,
     pub units: u64,
 }
 
 // What was heard of a line: one of the numbers above, a ring's sheet size, a point's coordinates.
-#[derive(Drop)]
+#[derive(Clone, Copy)]
 pub struct Heard {
     pub kind: u32,
     pub size: u32,

@@ -17,20 +17,20 @@ use chain::Simplified;
 use vector::{GridPoint, MOST_POINTS, Point, Ring};
 
 // An edge is straight, or carries the point it snaps to.
-#[derive(Drop)]
+#[derive(Clone, Copy)]
 pub enum EdgeMark {
     Straight,
     Snap(Point),
 }
 
 // A mark as an array holds it.
-#[derive(Drop)]
+#[derive(Clone, Copy)]
 pub struct Edge {
     pub mark: EdgeMark,
 }
 
 // A ring with the marks of its edges, one for each point: what is split and laid out, wherever the marks came from.
-#[derive(Drop)]
+#[derive(Clone, Copy)]
 pub struct MarkedRing {
     pub ring: Ring,
     pub edges: [Edge; MOST_POINTS],

@@ -18,7 +18,7 @@ pub type NodeNumber = u32;
 pub const MOST_PLACES: usize = 1000000;
 
 // A point's number, and how many places are then used.
-#[derive(Drop)]
+#[derive(Clone, Copy)]
 pub struct Placed {
     pub number: NodeNumber,
     pub used: usize,

@@ -18,7 +18,7 @@ use keys::SoughtKey;
 pub const MOST_NEARBY: usize = 256;
 
 // The coordinates from lo to hi; and the least and the most of the keys strictly between those of these two ends, as doubles.
-#[derive(Drop)]
+#[derive(Clone, Copy)]
 pub struct Span {
     pub lo: f64,
     pub hi: f64,
@@ -27,7 +27,7 @@ pub struct Span {
 }
 
 // A box.
-#[derive(Drop)]
+#[derive(Clone, Copy)]
 pub struct Window {
     pub x: Span,
     pub y: Span,
@@ -35,7 +35,7 @@ pub struct Window {
 
 // What was collected: of the nodes in the first `old` places those in the window, `count` of them. Where there are more
 // than MOST_NEARBY they are not all held, and `count` is one above that.
-#[derive(Drop)]
+#[derive(Clone, Copy)]
 pub struct Nearby {
     pub window: Window,
     pub old: usize,

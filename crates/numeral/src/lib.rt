@@ -8,7 +8,7 @@ ghost use Rattle.std.specs.Prelude.{◌≡◌, true, ◌+◌, ◌*◌, ◌^◌, 
 ghost use Rattle.numeral.specs.Numeral as Numeral;
 
 // What a word says: whether it is a number; and its sign, the digits as one number, and ten to the number of decimals.
-#[derive(Drop)]
+#[derive(Clone, Copy)]
 pub struct Said {
     pub number: bool,
     pub minus: bool,
@@ -17,7 +17,7 @@ pub struct Said {
 }
 
 // What was met in the first bytes of a word.
-#[derive(Drop)]
+#[derive(Clone, Copy)]
 pub struct Met {
     pub value: u64,
     pub scale: u64,

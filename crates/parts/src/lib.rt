@@ -20,7 +20,7 @@ use marks::{Edge, EdgeMark};
 use vector::{GridPoint, MOST_POINTS, Ring};
 
 // A corner of a part: the number of its point among the ring's, and that of the mark of the edge that starts there.
-#[derive(Drop)]
+#[derive(Clone, Copy)]
 pub struct Vertex {
     pub at: u8,
     pub edge: u8,
@@ -39,7 +39,7 @@ impl Vertex {
 
 // Parts one after the other: part j has the corners from ends[j] to ends[j + 1]. No more than 33 parts and 124 corners are
 // ever held.
-#[derive(Drop)]
+#[derive(Clone, Copy)]
 pub struct PartList {
     pub corners: [Vertex; 124],
     pub ends: [u8; 34],

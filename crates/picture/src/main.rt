@@ -25,14 +25,14 @@ use told::Told;
 const MOST_JOB: usize = 262144;
 
 // What was read: so many bytes, and whether a read failed. Then they end within a block, so that the run is refused there.
-#[derive(Drop)]
+#[derive(Clone, Copy)]
 pub struct Input {
     pub count: usize,
     pub failed: bool,
 }
 
 // The run one block on, and whether what is drawn of the block was written.
-#[derive(Drop)]
+#[derive(Clone, Copy)]
 struct Moved {
     state: State,
     sent: bool,
@@ -40,7 +40,7 @@ struct Moved {
 
 // How the program ended: so many bytes were read, a picture of so many was written; there were too many to read; or they could
 // not be written.
-#[derive(Drop)]
+#[derive(Clone, Copy)]
 pub enum End {
     Drawn {
         count: usize,

@@ -15,7 +15,7 @@ use nodes::{Nearby, NodeNumber};
 use vector::{MOST_POINTS, Point, Ring};
 
 // What adding edge middles came to: the used nodes, and whether a snap was too far.
-#[derive(Drop)]
+#[derive(Clone, Copy)]
 pub struct MiddlesAdded {
     pub used: usize,
     pub far: bool,

@@ -24,7 +24,7 @@ use vector::MOST_POINTS;
 
 // The count of nodes, and of the cells that all pieces have; or the corners of the piece and its first cell that fails,
 // and the count of nodes, which stay.
-#[derive(Drop)]
+#[derive(Clone, Copy)]
 pub enum Subdivision {
     Done {
         nodes: usize,

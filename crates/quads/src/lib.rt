@@ -15,7 +15,7 @@ use vector::Point;
 
 // Four node numbers.
 #[repr(C)]
-#[derive(Drop)]
+#[derive(Clone, Copy)]
 pub struct Cell {
     pub a: NodeNumber,
     pub b: NodeNumber,
@@ -24,7 +24,7 @@ pub struct Cell {
 }
 
 // Where the middle of an edge goes, and whether its snap point was too far.
-#[derive(Drop)]
+#[derive(Clone, Copy)]
 pub struct Middle {
     pub at: Point,
     pub far: bool,

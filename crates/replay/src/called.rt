@@ -4,7 +4,7 @@ use nodes::NodeNumber;
 use table::Row;
 
 // The kind of the record: 2 the examination, 7 with a set, and its five values, 8 the practice paper.
-#[derive(Drop)]
+#[derive(Clone, Copy)]
 pub struct Entry {
     pub kind: u32,
     pub corner: f64,

@@ -11,7 +11,7 @@ use words::Tally;
 
 // The lists of the calls that follow: the places for nodes, how many are used, and the places for rim marks; and the tally
 // so far.
-#[derive(Drop)]
+#[derive(Clone, Copy)]
 pub struct State {
     pub places: usize,
     pub used: usize,

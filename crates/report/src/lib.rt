@@ -13,7 +13,7 @@ pub const MOST_TEXT: usize = 6400;
 
 // What is printed of an accepted ring, its cells aside: its number, corners after cleaning and cuts, the turned area and
 // the ring's own, both doubled and in units squared, the nodes listed and those added.
-#[derive(Drop)]
+#[derive(Clone, Copy)]
 pub struct Divided {
     pub ring: u64,
     pub corners: u64,

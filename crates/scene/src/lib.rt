@@ -14,7 +14,7 @@ use table::Row;
 pub const MOST_RING: usize = 80000;
 
 // Where a node is, as places of a picture.
-#[derive(Drop)]
+#[derive(Clone, Copy)]
 pub struct Spot {
     pub x: u64,
     pub y: u64,
@@ -22,7 +22,7 @@ pub struct Spot {
 
 // A cell: where its centre, its corner and the middles before and behind the corner are, the next corner behind that middle,
 // and the rim marks of the middles.
-#[derive(Drop)]
+#[derive(Clone, Copy)]
 pub struct Quad {
     pub centre: Spot,
     pub ahead: Spot,

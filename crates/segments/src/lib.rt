@@ -54,7 +54,7 @@ pub fn segments_cross(a: GridPoint, b: GridPoint, c: GridPoint, d: GridPoint) ->
 }
 
 // How two segments meet. No pair is both touching and crossing.
-#[derive(Drop)]
+#[derive(Clone, Copy)]
 pub enum Crossing {
     Apart,
     Touching,

@@ -8,7 +8,7 @@ ghost use Rattle.smallest.specs.Smallest as Rule;
 
 // 0 with the number that both rings get, the choice and how many points it has; or 1, 2, 18, 19 and zeros.
 #[repr(C)]
-#[derive(Drop)]
+#[derive(Clone, Copy)]
 pub struct Smallest {
     pub code: u64,
     pub refusal: u64,

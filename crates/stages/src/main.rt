@@ -20,7 +20,7 @@ use parts::PartList;
 use vector::Ring;
 
 // What a block gives: the points of its ring or chain, the sheet size, 0 of a chain, and whether it was accepted.
-#[derive(Drop)]
+#[derive(Clone, Copy)]
 struct Came {
     accepted: bool,
     ring: Ring,

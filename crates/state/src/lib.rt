@@ -6,7 +6,7 @@ ghost use Rattle.std.specs.Prelude.{◌≡◌, false, true, not, ◌&&◌, ◌%�
 // The state between two blocks: the number of the next one; the count and the sheet size of the ring that waits for its chain,
 // where that number is odd; the nodes listed; and whether the run has ended. The ring's points stand beside it in a list that
 // the caller lends, 60 places, x and y in turn.
-#[derive(Drop)]
+#[derive(Clone, Copy)]
 pub struct State {
     pub block: u32,
     pub count: usize,

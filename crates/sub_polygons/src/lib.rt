@@ -57,7 +57,7 @@ fn reversed(vs: [Vertex; MOST_POINTS], m: usize) -> [Vertex; MOST_POINTS]
 }
 
 // A part that a cut makes, and the doubled area that was turned round in making it.
-#[derive(Drop)]
+#[derive(Clone, Copy)]
 pub struct SubPolygon {
     pub corners: [Vertex; MOST_POINTS],
     pub turned: u64,

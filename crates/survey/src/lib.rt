@@ -16,14 +16,14 @@ ghost use Rattle.survey.specs.Survey.{laid, survey_of, Gathered, GoesOn};
 use nodes::{MOST_NEARBY, Nearby, NodeNumber, Span, Window};
 
 // Whether all numbers of the nodes are held, and the nodes that were collected.
-#[derive(Drop)]
+#[derive(Clone, Copy)]
 pub struct NodeSurvey {
     pub held: bool,
     pub near: Nearby,
 }
 
 // The same while it is made: how many were collected.
-#[derive(Drop)]
+#[derive(Clone, Copy)]
 struct Judged {
     held: bool,
     count: usize,

@@ -7,7 +7,7 @@ ghost use Rattle.std.specs.Prelude.{◌≡◌};
 ghost use Rattle.table.specs.Answers as Answers;
 
 // A ring that was divided; one that was refused, with its number; or one with a piece that has a failing cell.
-#[derive(Drop)]
+#[derive(Clone, Copy)]
 pub enum Answer {
     Divided {
         corners: usize,
@@ -34,7 +34,7 @@ pub enum Answer {
 
 // A row of the table: the number, and every value that it may have.
 #[repr(C)]
-#[derive(Drop)]
+#[derive(Clone, Copy)]
 pub struct Row {
     pub code: u64,
     pub corners: u64,

@@ -13,7 +13,7 @@ use report::MOST_TEXT;
 use told::Told;
 
 // How many bytes were written in all; and whether writing has failed, in which case they may end within a text.
-#[derive(Drop)]
+#[derive(Clone, Copy)]
 pub struct Sent {
     pub bytes: u64,
     pub failed: bool,

@@ -11,7 +11,7 @@ use table::Row;
 
 // Nothing, where a ring waits for its chain or the input has ended; a ring's number and row, with the nodes that were listed
 // before it; or a refused block. A ring's cells stand beside it in a list that the caller lends.
-#[derive(Drop)]
+#[derive(Clone, Copy)]
 pub enum Told {
     Nothing,
     Ring { ring: u64, used: usize, row: Row },

@@ -9,7 +9,7 @@ ghost use Rattle.wear.specs.Wear as Rule;
 ghost use Rattle.wear.specs.Bytes as Bytes;
 
 // The cuts of up to 32 rings; how many it holds; and the place of the next, which is the oldest's where it holds 32.
-#[derive(Drop)]
+#[derive(Clone, Copy)]
 pub struct Record {
     pub cuts: [u8; 32],
     pub rings: u8,
@@ -17,7 +17,7 @@ pub struct Record {
 }
 
 // 0 or 20, the three values, and the record that comes back.
-#[derive(Drop)]
+#[derive(Clone, Copy)]
 pub struct Added {
     pub code: u64,
     pub total: u64,
@@ -28,7 +28,7 @@ pub struct Added {
 
 // The same where the record stays in the lent bytes.
 #[repr(C)]
-#[derive(Drop)]
+#[derive(Clone, Copy)]
 pub struct Wear {
     pub code: u64,
     pub total: u64,

@@ -7,7 +7,7 @@ ghost use Rattle.std.specs.Prelude.{◌<◌, ◌≤◌};
 use libc::STDOUT_FILENO;
 
 // How many calls and blocks were run, and on how many the two differ.
-#[derive(Drop)]
+#[derive(Clone, Copy)]
 pub struct Tally {
     pub ran: u64,
     pub differ: u64,

@@ -1,0 +1,63 @@
+-- `flat_divide`: the laws hold of every list of cells with that many places; where none is named, one of empty cells stands for it.
+use native.Mathlib.Omega.{arith}
+use mathlib.Core.Path.{refl}
+use mathlib.Core.List.{List}
+use lib.ListN.{replicate, length-replicate}
+use Rattle.limits.specs.Limits.{delivered}
+use Rattle.quads.specs.declared.Cell.{Cell}
+use Rattle.quads.specs.Quads.{no_cell}
+use Rattle.table.specs.Answers.{values}
+use Rattle.call.specs.Lent.{LentRecords}
+use Rattle.divider.proofs.Calling.{most-cuts}
+use Rattle.cell_records.proofs.Numbered.{has_room, counts_in, sum_fits, laid-numbers, laid-fits}
+use Rattle.cell_records.proofs.flat_divide.Goals as goal
+
+-- what was lent, with these cells
+abbrev lent : (s : goal.Start) → List Cell → LentRecords
+lent s cs =
+    let a = s.args in
+    record {
+      ring = a.ring.now;
+      chain = a.chain.now;
+      size = a.size;
+      nodes = a.nodes.now;
+      node_count_of = a.node_count;
+      rims = a.rims.now;
+      cells = cs;
+      cell_count_of = a.cell_count;
+    }
+
+pub divide_with-a-requires : goal.divide_with-a-requires
+divide_with-a-requires c =
+    let L = c.on_delivery-limits in has_room L.result (most-cuts L.result L.ensures) (replicate 496 0) refl _ refl
+
+pub placed-requires : goal.placed-requires
+placed-requires c =
+    let s = c.before.before.before.before.before.before.before.before.before.before.before.before in
+    let a = c.args in
+    let L = c.on_delivery-limits in
+    let d = c.divide_with-a in
+    let cs = replicate a.cell-places no_cell in
+    let n = length-replicate a.cell-places no_cell in
+    let f = most-cuts L.result L.ensures in (
+      sum_fits L.result f (replicate 496 0) refl (lent s cs) (values d.result) _ _ _ (d.ensures cs n) (omega (arith, n, c.ranges.cell-places))
+          c.ranges.cell_count.fits,
+      counts_in L.result f (replicate 496 0) refl (lent s cs) (values d.result) _ _ _ (d.ensures cs n),
+    )
+
+pub returns : goal.returns
+returns c =
+    let s = c.before.before.before.before.before.before.before.before.before.before.before.before.before in
+    let a = c.args in
+    let L = c.on_delivery-limits in
+    let d = c.divide_with-a in
+    let cs = replicate a.cell-places no_cell in
+    let n = length-replicate a.cell-places no_cell in
+    let f = most-cuts L.result L.ensures in
+    let g = laid-fits L.result f (replicate 496 0) refl (lent s cs) (values d.result) _ _ _ (d.ensures cs n) c.placed.result
+    c.placed.ensures in (
+      (λ cells e. laid-numbers L.result f (replicate 496 0) refl (lent s cells) (values d.result) _ _ _ (d.ensures cells e) c.placed.result
+          c.placed.ensures delivered L.ensures),
+      g.0,
+      (λ h. omega (arith, g.1 h, n)),
+    )

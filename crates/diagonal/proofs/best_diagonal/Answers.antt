@@ -1,0 +1,112 @@
+use Prim.Native.Nat.{◌+◌, ◌-◌, ◌≤◌}
+use mathlib.Core.Bool.{true, false, false≢true}
+use mathlib.Core.Logic.{⊎_elim}
+use mathlib.Core.Path.{◌≡◌, refl, sym, ap, ◌∙◌}
+use mathlib.Core.List.{List}
+use lib.ListN.{length}
+use Rattle.vector.specs.Rings.{points_of}
+use Rattle.vector.proofs.Rings as rings
+use Rattle.vector.specs.declared.GridPoint.{GridPoint}
+use Rattle.diagonal.specs.Diagonal.{score, best_to}
+use Rattle.diagonal.proofs.Choosing as choosing
+use Rattle.diagonal.proofs.Choosing.{held, fits}
+use borrow.Author.Rules.{rules}
+use native.Mathlib.Omega.{arith}
+use Rattle.diagonal.proofs.best_diagonal.Goals as goal
+
+-- what is known where the loop stands
+abbrev start : goal.At-loop-k → goal.Start
+start c = c.before.before.before.before.before.before.before.before
+
+room : (c : goal.At-loop-k) → c.args.part.count ≤ length c.args.part.points
+room c = rings.room c.args.part c.requires.0
+
+abbrev ring : goal.At-loop-k → List GridPoint
+ring c = points_of c.args.part
+
+fits-here : (c : goal.After-judge-j) → let l = c.before.before.before in c.judge-j.result.ok ≡ fits c.args.limits (ring l) c.loop-k.k
+fits-here c =
+    let l = c.before.before.before in
+    choosing.fits-is c.args.part.points c.args.part.count (room l) (omega arith) c.loop-k.k (omega arith) _ _
+    c.sub-a.ensures.0 c.sub-b.ensures.0 c.args.limits _ c.judge-j.ensures.0
+
+score-here : (c : goal.After-judge-j) → let l = c.before.before.before in c.judge-j.result.score ≡ score (ring l) c.loop-k.k
+score-here c =
+    let l = c.before.before.before in
+    choosing.score-is c.args.part.points c.args.part.count (room l) (omega arith) c.loop-k.k (omega arith) _ _
+    c.sub-a.ensures.0 c.sub-b.ensures.0 _ c.judge-j.ensures.1
+
+-- where the turn's branches meet: the diagonal won, an edge hides it, or it was passed over
+joined : (c : goal.Joined-improves)
+    → let l = c.before.before.before.before.before in
+    (held c.if-improves.found c.if-improves.at ≡ best_to c.args.limits (ring l) (c.loop-k.k + 1 - 2))
+    × (c.if-improves.found ≡ true → c.if-improves.least ≡ score (ring l) c.if-improves.at)
+joined c =
+    let j = c.before.before in
+    let l = c.before.before.before.before.before in
+    let L = c.args.limits in
+    let r = ring l in
+    let o = c.loop-k in
+    let ok = c.judge-j.result.ok in
+    let s = c.judge-j.result.score in
+    ⊎_elim
+    (λ v. (
+      (λ i. held (v.3 i) (v.4 i))
+          ∙ choosing.won L r o.k o.invariant.0 o.found o.at o.least o.invariant.3 o.invariant.4 ok s (fits-here j) (score-here j)
+          (sym c.improves.ensures ∙ v.0.taken) (sym v.1.ensures ∙ v.2.taken),
+      λ e. v.5 ∙ score-here j ∙ ap (score r) (sym v.4),
+    ))
+    (⊎_elim
+    (λ v. (
+      (λ i. held (v.3 i) (v.4 i))
+          ∙ choosing.hidden L r o.k o.invariant.0 o.found o.at o.least o.invariant.3 o.invariant.4 ok s (fits-here j) (score-here j)
+          (sym v.1.ensures ∙ v.2.left),
+      λ e. v.5 ∙ o.invariant.4 (sym v.3 ∙ e) ∙ ap (score r) (sym v.4),
+    ))
+    (λ v. (
+      (λ i. held (v.1 i) (v.2 i))
+          ∙ choosing.passed L r o.k o.invariant.0 o.found o.at o.least o.invariant.3 o.invariant.4 ok s (fits-here j) (score-here j)
+          (sym c.improves.ensures ∙ v.0.left),
+      λ e. v.3 ∙ o.invariant.4 (sym v.1 ∙ e) ∙ ap (score r) (sym v.2),
+    )))
+    c.if-improves.branch
+
+pub sub-a-requires : goal.sub-a-requires
+sub-a-requires c = let s = c.requires.0.points in (s _, s _)
+
+pub sub-b-requires : goal.sub-b-requires
+sub-b-requires c = let s = c.requires.0.points in (s _, s _)
+
+pub loop-k-init : goal.loop-k-init
+unfolding best_to
+loop-k-init c = (search rules, search rules, search rules, refl, λ (e : false ≡ true). absurd (false≢true e))
+
+pub judge-j-requires : goal.judge-j-requires
+judge-j-requires c =
+    let l = c.before.before in
+    let s = c.requires.0.points in (
+      s _,
+      s _,
+      c.sub-a.ensures.1,
+      c.sub-b.ensures.1,
+      c.grid_norm-na.ensures,
+      c.grid_norm-nb.ensures,
+    )
+
+pub is_unobstructed-requires : goal.is_unobstructed-requires
+is_unobstructed-requires c = (c.requires.0, search rules, omega arith)
+
+pub loop-k-preserved : goal.loop-k-preserved
+loop-k-preserved c = let j = joined c in (search rules, omega arith, search rules, j.0, j.1)
+
+pub returns-then-found : goal.returns-then-found
+returns-then-found c =
+    let l = c.before.before in
+    let e : c.loop-k.k - 2 ≡ c.args.part.count - 3 = omega arith in
+    (λ i. held (sym c.if-found.true i) c.loop-k.at) ∙ c.loop-k.invariant.3 ∙ ap (best_to c.args.limits (points_of c.args.part)) e
+
+pub returns : goal.returns
+returns c =
+    let l = c.before.before in
+    let e : c.loop-k.k - 2 ≡ c.args.part.count - 3 = omega arith in
+    (λ i. held (sym c.if-found.false i) c.loop-k.at) ∙ c.loop-k.invariant.3 ∙ ap (best_to c.args.limits (points_of c.args.part)) e

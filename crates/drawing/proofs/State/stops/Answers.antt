@@ -1,0 +1,9 @@
+use Rattle.drawing.specs.declared.Draft.{Draft}
+use mathlib.Core.Path.{ap}
+use Rattle.drawing.proofs.State.stops.Goals as goal
+
+-- src/lib.rt:293:5
+pub returns : goal.returns
+returns c =
+    let s = c.args.self in
+    ap (λ (x : Draft). record { left = s.left; line = s.line; length = s.length; comment = s.comment; draft = x }) c.fails.ensures

@@ -1,0 +1,9 @@
+-- `surviving_marks`: those laid with the outline that was read.
+use Rattle.given.proofs.Laying.{survive}
+use Rattle.given.proofs.surviving_marks.Goals as goal
+
+pub returns : goal.returns
+returns c =
+    survive c.args.ring c.args.clean
+    (record { kinds = c.args.kinds.now; snaps = c.args.snaps.now; outline = c.args.outline.now; loops = c.args.loops.now })
+    c.lead_line-lead.result c.requires.0 c.lead_line-lead.ensures c.marks_left.result c.marks_left.ensures

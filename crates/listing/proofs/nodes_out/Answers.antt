@@ -1,0 +1,18 @@
+-- `nodes_out`: each return is one of the three tests of 3.
+use mathlib.Core.Path.{ap}
+use mathlib.Core.Bool.{not}
+use borrow.Author.Tests.{lt-ltb, le-ltb}
+use Rattle.listing.specs.Sheet.{nodes_out}
+use Rattle.listing.proofs.nodes_out.Goals as goal
+
+pub returns-then-places-count : goal.returns-then-places-count
+unfolding nodes_out
+returns-then-places-count c = rw (lt-ltb _ _ c.if-places-count.true)
+
+pub returns-then-places-gt-MOST_PLACES : goal.returns-then-places-gt-MOST_PLACES
+unfolding nodes_out
+returns-then-places-gt-MOST_PLACES c = rw (le-ltb _ _ c.if-places-count.false, lt-ltb _ _ c.if-places-gt-MOST_PLACES.true)
+
+pub returns : goal.returns
+unfolding nodes_out
+returns c = rw (le-ltb _ _ c.if-places-count.false, le-ltb _ _ c.if-places-gt-MOST_PLACES.false) (ap not c.all_held.ensures)

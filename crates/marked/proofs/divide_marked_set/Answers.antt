@@ -1,0 +1,93 @@
+-- `divide_marked_set`: a refusal leaves everything as found, and else the core divides the ring that was prepared.
+use Prim.Native.Nat.{◌/◌, ◌≤◌}
+use mathlib.Core.Path.{◌≡◌, refl, ap}
+use lib.ListN.{length}
+use Rattle.table.specs.Answers.{values}
+use Rattle.table.specs.Refusals.{first_of}
+use Rattle.call.specs.Lent.{all_cells}
+use Rattle.call.specs.Marked.{LentMarked, marked_tests}
+use Rattle.divider.proofs.Calling.{cell-places}
+use Rattle.marked.proofs.Refusing.{counts_passed, early, late}
+use Rattle.marked.proofs.Calling.{call-refused, tested, can-divide, call-divided, promised}
+use Rattle.marked.proofs.divide_marked_set.Goals as goal
+
+-- what was lent
+abbrev lent : goal.Start → LentMarked
+lent s =
+    let a = s.args in
+    record {
+      ring = a.ring.now;
+      marking = record { kinds = a.kinds.now; snaps = a.snaps.now; outline = a.outline.now; loops = a.loops.now };
+      size = a.size;
+      nodes = a.nodes.now;
+      node_count_of = a.node_count;
+      rims = a.rims.now;
+      cells = a.cells.now;
+      cell_count_of = a.cell_count;
+    }
+
+abbrev begin : goal.After-early_refusal-code → goal.Start
+begin c = c.before.before.before.before.before.before.before
+
+-- ---- all but the lists passed
+passed : (c : goal.Else-code-ne0) → let r = c.args.ring.now in (3 ≤ length r / 2) × (length r / 2 ≤ 60)
+passed c =
+    let n = c.early_refusal-code in
+    let s = c.before.before.before.before.before.before.before.before in
+    counts_passed c.args.limits (lent s) n.result n.ensures c.if-code-ne0.false
+
+-- ---- the lists were tested: the number of the whole call
+abbrev onward : goal.After-struct_known-1 → goal.Else-code-ne0
+onward c = c.before.before.before.before.before.before.before.before.before
+
+code_is : (c : goal.After-struct_known-1) → let s = begin (onward c).before in
+    c.lists_refusal-test.result.code ≡ first_of (marked_tests s.args.limits (lent s))
+code_is c =
+    let s = c.before.before.before.before.before.before.before.before.before.before.before.before.before.before.before in
+    let n = c.early_refusal-code in
+    let m = c.lists_refusal-test in
+    let q = c.args.cells.now in
+    late c.args.limits (lent s) n.result n.ensures m.result.code c.if-code-ne0.false (m.ensures.0 (all_cells q) (cell-places q))
+
+pub returns-then-code-ne0 : goal.returns-then-code-ne0
+returns-then-code-ne0 c =
+    let s = c.before.before.before.before.before.before.before.before.before in
+    let n = c.early_refusal-code in
+    rw (ap values c.refused.ensures)
+    (promised c.args.limits (lent s) _ _ _ _
+    (call-refused c.args.limits (lent s) n.result (early c.args.limits (lent s) n.result n.ensures c.if-code-ne0.true) c.if-code-ne0.true))
+
+pub window_with_marks-w-requires : goal.window_with_marks-w-requires
+window_with_marks-w-requires c = (passed c).1
+
+pub lists_refusal-test-requires : goal.lists_refusal-test-requires
+lists_refusal-test-requires c =
+    let n = passed c.before.before.before.before.before in
+    (n.0, n.1, c.window_with_marks-w.ensures, refl, refl)
+
+pub returns-then-test-ne0 : goal.returns-then-test-ne0
+returns-then-test-ne0 c =
+    let k = c.before.before in
+    let s = begin (onward k).before in
+    rw (ap values c.refused-then-test-ne0.ensures)
+    (promised s.args.limits (lent s) _ _ _ _ (call-refused s.args.limits (lent s) _ (code_is k) c.if-test-ne0.true))
+
+pub marked_ring-marked-requires : goal.marked_ring-marked-requires
+marked_ring-marked-requires c =
+    let s = begin (onward c.before.before).before in
+    tested s.args.limits (lent s) _ (code_is c.before.before) c.if-test-ne0.false
+
+pub divide_core-requires : goal.divide_core-requires
+divide_core-requires c =
+    let s = begin (onward c.before.before.before.before.before.before.before.before).before in
+    let m = c.marked_ring-marked in (
+      can-divide s.args.limits (lent s) _ (code_is c.before.before.before.before.before.before.before.before) c.if-test-ne0.false m.result m.ensures,
+      c.lists_refusal-test.ensures.2 c.if-test-ne0.false,
+    )
+
+pub returns : goal.returns
+returns c =
+    let s = begin (onward c.before.before.before.before.before.before.before.before.before.before.before.before.before.before.before).before in
+    let m = c.marked_ring-marked in
+    promised s.args.limits (lent s) _ _ _ _
+    (call-divided s.args.limits (lent s) _ (code_is c.before.before.before.before.before.before.before.before.before.before.before.before.before.before.before) c.if-test-ne0.false m.result m.ensures _ _ _ _ c.divide_core.ensures)

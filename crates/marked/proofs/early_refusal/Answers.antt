@@ -1,0 +1,81 @@
+-- `early_refusal`: each test in its place.
+use Prim.Native.Nat.{◌/◌}
+use mathlib.Core.Path.{◌≡◌, sym, ◌∙◌}
+use mathlib.Core.Bool.{Bool, false, ◌||◌}
+use mathlib.Core.List.{[]}
+use lib.ListN.{length}
+use Rattle.laws.proofs.Booleans.{neither}
+use Rattle.call.specs.Call.{counts_out, units_out}
+use Rattle.call.specs.Lent.{odd}
+use Rattle.call.specs.Marked.{all_points, marks_out, outline_out}
+use Rattle.call.proofs.Tests.{counts_in}
+use Rattle.marked.specs.Steps.{early_refusal}
+use Rattle.marked.proofs.Refusing.{no_chain}
+use Rattle.marked.proofs.early_refusal.Goals as goal
+
+abbrev start : goal.After-counts_out → goal.Start
+start c = c.before.before.before.before
+
+-- ---- each test as the code made it
+abbrev counts : goal.Start → Bool
+counts s = let r = s.args.ring.now in odd r || counts_out (length r / 2) 0
+
+counts-are : (c : goal.After-counts_out) → c.counts_out.result ≡ counts (start c)
+counts-are c = let r = c.args.ring.now in c.counts_out.ensures ∙ no_chain (odd r) (counts_out (length r / 2) 0)
+
+counts-no : (c : goal.Else-counts_out) → counts (start c.before) ≡ false
+counts-no c = sym (counts-are c.before) ∙ c.if-counts_out.false
+
+units-no : (c : goal.Else-units_out) → let a = c.args in units_out (all_points a.ring.now) [] a.size ≡ false
+units-no c = sym c.units_out.ensures ∙ c.if-units_out.false
+
+marks-no : (c : goal.Else-marks_out) → let a =
+    c.args in marks_out a.kinds.now a.snaps.now (length a.ring.now / 2) ≡ false
+marks-no c = sym c.marks_out.ensures ∙ c.if-marks_out.false
+
+outline-no : (c : goal.Else-outline_out) → let a =
+    c.args in outline_out a.kinds.now a.outline.now a.loops.now ≡ false
+outline-no c = sym c.outline_out.ensures ∙ c.if-outline_out.false
+
+pub returns-then-counts_out : goal.returns-then-counts_out
+unfolding early_refusal
+returns-then-counts_out c = rw (sym (counts-are c.before) ∙ c.if-counts_out.true)
+
+pub returns-then-units_out : goal.returns-then-units_out
+unfolding early_refusal
+returns-then-units_out c = rw (counts-no c.before.before, sym c.units_out.ensures ∙ c.if-units_out.true)
+
+pub marks_out-requires : goal.marks_out-requires
+marks_out-requires c =
+    let k = c.before.before in
+    let r = c.args.ring.now in
+    (counts_in (length r / 2) 0 (neither (odd r) (counts_out (length r / 2) 0) (counts-no k)).1).1
+
+pub returns-then-marks_out : goal.returns-then-marks_out
+unfolding early_refusal
+returns-then-marks_out c =
+    let u = c.before.before in
+    rw (counts-no c.before.before.before.before, units-no u, sym c.marks_out.ensures ∙ c.if-marks_out.true)
+
+pub returns-then-outline_out : goal.returns-then-outline_out
+unfolding early_refusal
+returns-then-outline_out c =
+    let m = c.before.before in
+    let u = c.before.before.before.before in
+    rw (counts-no c.before.before.before.before.before.before, units-no u, marks-no m, sym c.outline_out.ensures ∙ c.if-outline_out.true)
+
+pub returns-then-limits_out : goal.returns-then-limits_out
+unfolding early_refusal
+returns-then-limits_out c =
+    let k = c.before.before in
+    let m = c.before.before.before.before in
+    let u = c.before.before.before.before.before.before in
+    rw (counts-no c.before.before.before.before.before.before.before.before, units-no u, marks-no m, outline-no k, sym c.limits_out.ensures ∙ c.if-limits_out.true)
+
+pub returns : goal.returns
+unfolding early_refusal
+returns c =
+    let k = c.before.before in
+    let m = c.before.before.before.before in
+    let u = c.before.before.before.before.before.before in
+    rw (counts-no c.before.before.before.before.before.before.before.before, units-no u, marks-no m, outline-no k, sym c.limits_out.ensures ∙ c.if-limits_out.false)

@@ -1,0 +1,84 @@
+use Prim.Native.Nat.{◌+◌, ◌-◌}
+use native.Mathlib.Omega.{arith}
+use native.Mathlib.Numerals.{add-one}
+use mathlib.Core.Path.{◌≡◌, sym, ◌∙◌}
+use mathlib.Core.Logic.{⊎_elim}
+use lib.ListN.{take, get_or}
+use borrow.Author.Rules.{rules}
+use Rattle.laws.proofs.Search as laws
+use Rattle.vector.specs.Grid.{origin}
+use Rattle.vector.specs.Rings.{points_of}
+use Rattle.vector.proofs.Rings as rings
+use Rattle.chain.specs.Chain.{no_stretch}
+use Rattle.chain.specs.Kept.{stretch_in, stretches_in}
+use Rattle.marks.specs.Marks.{joins, mark}
+use Rattle.marks.specs.Edges.{Marked}
+use Rattle.marks.proofs.Edges.{mark-snap, mark-straight, marked-none, marked-snap, marked-straight}
+use Rattle.marks.proofs.mark_edges.Goals as goal
+
+-- whether stretch j joins the ends of edge i
+judged : (k : goal.After-joins) →
+    let i = k.loop-i.i in
+    k.joins.result ≡ joins (get_or k.args.ring.points i origin) (get_or k.args.ring.points k.next.result origin)
+    (stretch_in k.args.chain.points k.args.chain.snaps k.search.j)
+judged k =
+    rw (add-one k.search.j) at (k.joins.ensures (get_or k.args.chain.snaps k.search.j no_stretch.snap))
+
+-- the marks after the turn, by whether a stretch was found
+joined : (c : goal.Left-search) →
+    Marked (stretches_in c.args.chain) (points_of c.args.ring) (c.loop-i.i + 1) c.search-test.edges
+joined c =
+    let q = c.before in
+    let o = c.search in
+    let i = c.loop-i.i in
+    let n = c.args.ring.count in
+    let ps = c.args.ring.points in
+    let h = rings.room c.args.ring c.requires.0 in
+    let chain = c.args.chain in
+    let ss = stretches_in chain in
+    let a = rings.at_in ps n h (omega arith) i (omega arith) in
+    let b = rings.at_next ps n h (omega arith) i _ c.next.ensures.0 in
+    ⊎_elim
+    (λ w.
+    let f = sym (laws.first-end _ chain.count o.j (omega arith)) ∙ o.invariant.6 in
+    rw w.1
+    (marked-straight ss (take n ps) i o.edges o.invariant.5 (omega arith)
+    ((λ j. mark ss (a j) (b j)) ∙ mark-straight chain _ _ chain.count f (omega arith))))
+    (λ w.
+    let j = judged (record {
+      before = record { before = record { before = record { before = q; search-test = w.0 }; joins-arg = w.1 }; joins-arg2 = w.2 };
+      joins = w.3;
+    }) in
+    let f = sym (laws.first_hit _ chain.count o.j w.0.taken (sym j ∙ w.4.taken)) ∙ o.invariant.6 in
+    rw w.6
+    (marked-snap ss (take n ps) i o.edges o.invariant.5 (omega arith) _
+    (sym ((λ j. mark ss (a j) (b j)) ∙ mark-snap chain _ _ o.j f w.0.taken))))
+    c.search-test.branch
+
+pub loop-i-init : goal.loop-i-init
+loop-i-init c = (search rules, search rules, search rules, search rules, marked-none _ _)
+
+pub search-init : goal.search-init
+search-init c =
+    let l = c.loop-i in (search rules, search rules, search rules, search rules, search rules, l.invariant.4, laws.first-start _ _)
+
+pub search-preserved : goal.search-preserved
+search-preserved c =
+    let o = c.search in (
+      search rules,
+      search rules,
+      search rules,
+      search rules,
+      search rules,
+      o.invariant.5,
+      sym (laws.first-pass _ _ o.j (omega arith) (sym (judged c.before) ∙ c.if-joins.false)) ∙ o.invariant.6,
+    )
+
+pub loop-i-preserved : goal.loop-i-preserved
+loop-i-preserved c = (search rules, search rules, search rules, search rules, joined c)
+
+pub returns : goal.returns
+returns c =
+    let l = c.loop-i in
+    let e : l.i ≡ c.args.ring.count = omega arith in
+    rw e at l.invariant.4

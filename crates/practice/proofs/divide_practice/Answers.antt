@@ -1,0 +1,29 @@
+-- `divide_practice` keeps its promise: 16 where it is due, and else the divider call with the practice set.
+use mathlib.Core.Path.{sym, ◌∙◌}
+use Rattle.call.specs.Lent.{Lent}
+use Rattle.practice.proofs.Calling.{practice-refused, practice-divided}
+use Rattle.practice.proofs.divide_practice.Goals as goal
+
+-- what was lent
+abbrev lent : goal.Start → Lent
+lent s =
+    let a = s.args in
+    record {
+      ring = a.ring.now;
+      chain = a.chain.now;
+      size = a.size;
+      nodes = a.nodes.now;
+      node_count_of = a.node_count;
+      rims = a.rims.now;
+      cells = a.cells.now;
+      cell_count_of = a.cell_count;
+    }
+
+pub returns-then-over_paper : goal.returns-then-over_paper
+returns-then-over_paper c = practice-refused (lent c.before.before.before.before.before) (sym c.over_paper.ensures ∙ c.if-over_paper.true)
+
+pub returns : goal.returns
+returns c =
+    let l = lent c.before.before.before.before.before.before.before.before.before.before.before.before.before.before.before.before in
+    practice-divided l (sym c.over_paper.ensures ∙ c.if-over_paper.false) _ c.practice.ensures _ _ _ _
+    c.divide_set.ensures

@@ -1,0 +1,20 @@
+use Rattle.quads.proofs.EdgeMiddles as edge
+use Rattle.quads.proofs.edge_middle.Goals as goal
+
+pub returns-in-Straight : goal.returns-in-Straight
+returns-in-Straight c =
+    let a = c.args in edge.plain a.share a.m a.a a.b _ c.halfway-c.ensures c.enum_told-1.given.1
+
+pub returns-then-d-share : goal.returns-then-d-share
+returns-then-d-share c =
+    let a = c.args in
+    let g = c.m-1.given in
+    edge.near a.share a.m a.a a.b _ g.0.0 _ _ c.halfway-c.ensures c.dist-d.ensures
+    c.dist-e.ensures g.1 c.if-d-share.true
+
+pub returns-else-d-share : goal.returns-else-d-share
+returns-else-d-share c =
+    let a = c.args in
+    let g = c.m-1.given in
+    edge.away a.share a.m a.a a.b _ g.0.0 _ _ c.halfway-c.ensures c.dist-d.ensures
+    c.dist-e.ensures g.1 c.if-d-share.false

@@ -1,0 +1,25 @@
+-- `print_refused_block`: the form filled with the numbers, where the text has room.
+use Rattle.text.specs.Text.{bytes}
+use Rattle.report.specs.Report as Report
+use Rattle.report.proofs.Lengths.{refused-block-length}
+use Rattle.report.proofs.Print.{unprinted, has_room, printed}
+use Rattle.report.proofs.print_refused_block.Goals as goal
+
+pub returns-then-out-lt-MOST_TEXT : goal.returns-then-out-lt-MOST_TEXT
+returns-then-out-lt-MOST_TEXT c =
+    let s = c.args in
+    unprinted s.out.now (Report.refused_block s.block s.code) c.if-out-lt-MOST_TEXT.true
+
+pub put_filled-requires : goal.put_filled-requires
+unfolding Report.refused_block bytes
+put_filled-requires c =
+    let s = c.args in
+    has_room s.out.now (Report.refused_block s.block s.code) c.if-out-lt-MOST_TEXT.false (refused-block-length s.block s.code)
+
+pub returns : goal.returns
+unfolding Report.refused_block bytes
+returns c =
+    let s = c.args in
+    let p = c.put_filled in
+    printed s.out.now (Report.refused_block s.block s.code) c.if-out-lt-MOST_TEXT.false
+    (refused-block-length s.block s.code) p.result p.new.0 p.ensures

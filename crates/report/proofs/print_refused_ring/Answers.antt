@@ -1,0 +1,26 @@
+-- `print_refused_ring`: the form filled with the numbers, where the text has room.
+use Rattle.text.specs.Text.{bytes}
+use Rattle.report.specs.Report as Report
+use Rattle.report.proofs.Lengths.{refused-ring-length}
+use Rattle.report.proofs.Print.{unprinted, has_room, printed}
+use Rattle.report.proofs.print_refused_ring.Goals as goal
+
+pub returns-then-out-lt-MOST_TEXT : goal.returns-then-out-lt-MOST_TEXT
+returns-then-out-lt-MOST_TEXT c =
+    let s = c.args in
+    unprinted s.out.now (Report.refused_ring s.ring s.code s.corners s.k) c.if-out-lt-MOST_TEXT.true
+
+pub put_filled-requires : goal.put_filled-requires
+unfolding Report.refused_ring bytes
+put_filled-requires c =
+    let s = c.args in
+    has_room s.out.now (Report.refused_ring s.ring s.code s.corners s.k) c.if-out-lt-MOST_TEXT.false
+    (refused-ring-length s.ring s.code s.corners s.k)
+
+pub returns : goal.returns
+unfolding Report.refused_ring bytes
+returns c =
+    let s = c.args in
+    let p = c.put_filled in
+    printed s.out.now (Report.refused_ring s.ring s.code s.corners s.k) c.if-out-lt-MOST_TEXT.false
+    (refused-ring-length s.ring s.code s.corners s.k) p.result p.new.0 p.ensures

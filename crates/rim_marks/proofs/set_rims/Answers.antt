@@ -1,0 +1,37 @@
+use mathlib.Core.Path.{◌≡◌, ap, ◌∙◌}
+use mathlib.Core.Logic.{⊎_elim}
+use Prim.Native.Nat.{◌-◌}
+use lib.ListN.{length}
+use Rattle.rim_marks.specs.Marking.{set_at}
+use Rattle.rim_marks.proofs.Marking.{set-none, set_on, set-off, set-length}
+use borrow.Author.Rules.{rules}
+use native.Mathlib.Omega.{arith}
+use Rattle.rim_marks.proofs.set_rims.Goals as goal
+
+-- the list is as long as it came
+long : (c : goal.At-loop-i) → length c.loop-i.rims ≡ length c.args.rims.now
+long c = ap length c.loop-i.invariant.1 ∙ set-length _ _ _ _
+
+pub loop-i-init : goal.loop-i-init
+loop-i-init c = (search rules, set-none _ _ _)
+
+pub bounds-rims-k : goal.bounds-rims-k
+bounds-rims-k c = let l = c.before.before in omega (arith, long l, c.requires.1 c.loop-i.i c.loop-i-test.true)
+
+pub loop-i-preserved : goal.loop-i-preserved
+loop-i-preserved c =
+    let l = c.loop-i in (
+      search rules,
+      ⊎_elim (λ w. w.1 ∙ set_on _ _ _ l.rims l.i l.invariant.1 w.0.taken) (λ w. w.1 ∙ set-off _ _ _ l.rims l.i l.invariant.1 w.0.left)
+          c.if-on-i.branch,
+    )
+
+pub shape_of-rims : goal.shape_of-rims
+shape_of-rims c = long c.before
+
+pub returns : goal.returns
+returns c =
+    let l = c.loop-i in
+    let a = c.args in
+    let e : l.i ≡ a.n = omega arith in
+    l.invariant.1 ∙ ap (set_at _ _ _) e

@@ -1,0 +1,18 @@
+-- `root_at_most`: by `root-above` where no root is taken.
+use mathlib.Core.Path.{sym, ap, subst}
+use lib.Dec.{T}
+use lib.Ieee.{Float, binary64, fits, of_bits}
+use Rattle.laws.specs.Double.{◌≤f◌}
+use Rattle.root.proofs.AtLeast.{root-above}
+use Rattle.root.proofs.root_at_most.Goals as goal
+
+-- what owning an `f64` tells: the format holds it
+held : (c : goal.Start) → T (fits binary64 c.args.x)
+held c = subst T (sym c.well_formed.0.1) tt
+
+pub returns-then-t : goal.returns-then-t
+unfolding of_bits
+returns-then-t c = sym (root-above c.args.x c.args.t (held c.before.before) c.if-x.true c.if-t.true)
+
+pub returns : goal.returns
+returns c = ap (λ (d : Float). d ≤f c.args.t) c.root.ensures

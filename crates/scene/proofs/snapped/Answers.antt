@@ -1,0 +1,11 @@
+-- `snapped`: in x, or in y.
+use mathlib.Core.Path.{sym, ◌∙◌}
+use Rattle.scene.proofs.Snaps.{snapped-x, snapped-y}
+use Rattle.scene.proofs.snapped.Goals as goal
+
+pub returns-then-off : goal.returns-then-off
+returns-then-off c = snapped-x c.args.q (sym c.off.ensures ∙ c.if-off.true)
+
+pub returns : goal.returns
+returns c =
+    c.off-2.ensures ∙ snapped-y c.args.q (sym c.off.ensures ∙ c.if-off.false)

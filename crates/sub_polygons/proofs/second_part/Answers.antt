@@ -1,0 +1,38 @@
+-- `second_part`: the corners from the diagonal's end on, back to its start.
+use Prim.Native.Nat.{◌+◌, ◌-◌, ◌%◌}
+use native.Mathlib.Nat.{mod-lt}
+use mathlib.Core.Path.{ap, ◌∙◌}
+use native.Mathlib.Omega.{arith}
+use borrow.Author.Rules.{rules}
+use Rattle.parts.specs.Cut.{turned_area}
+use Rattle.parts.proofs.Segments as Segments
+use Rattle.sub_polygons.proofs.second_part.Goals as goal
+
+pub segment-requires : goal.segment-requires
+segment-requires c = (search rules, mod-lt (c.args.v + c.args.k) (omega arith), omega arith, omega arith, c.requires.4)
+
+pub make_sub_polygon-requires : goal.make_sub_polygon-requires
+make_sub_polygon-requires c =
+    (
+      omega arith,
+      omega arith,
+      c.segment.ensures.1,
+      c.requires.5,
+      Segments.seg_straight c.args.vs c.segment.result c.args.n ((c.args.v + c.args.k) % c.args.n) (c.args.n - c.args.k + 1)
+          (omega arith) c.segment.ensures.0,
+    )
+
+pub returns : goal.returns
+returns c =
+    let g = c.segment in
+    let m = c.make_sub_polygon.ensures in (
+      λ es len. m.0 es len
+          ∙ Segments.second_is c.args.ring c.args.vs c.args.n c.args.v c.args.k (omega arith) g.result es (omega arith) (omega arith)
+          g.ensures.0,
+      m.1
+          ∙ ap turned_area
+          (Segments.second-points c.args.ring c.args.vs c.args.n c.args.v c.args.k (omega arith) g.result (omega arith) (omega arith)
+          g.ensures.0),
+      m.2,
+      m.3,
+    )

@@ -1,0 +1,80 @@
+use Prim.Native.Nat.{ℕ, ◌+◌, ◌-◌, ◌≤◌}
+use native.Mathlib.Omega.{arith}
+use mathlib.Core.Logic.{⊎_elim}
+use mathlib.Core.Path.{◌≡◌, refl, sym, ◌∙◌}
+use mathlib.Core.List.{List}
+use borrow.Author.Rules.{rules}
+use lib.ListN.{length, length-set}
+use lib.Ieee.{Float}
+use Rattle.nodes.specs.declared.nearby.Window.{Window}
+use Rattle.nodes.specs.Nearby.{most_nearby, inside_at}
+use Rattle.survey.specs.Survey.{GoesOn}
+use Rattle.survey.proofs.Gathering as gathering
+use Rattle.survey.proofs.collect_in.Goals as goal
+
+abbrev State : List Float → Window → ℕ → List ℕ → List Float → ℕ → ℕ → List ℕ → List Float → ℕ → Type 0
+State nodes w from numbers₀ xs₀ n i numbers xs k =
+    (k ≤ most_nearby) × (length numbers ≡ most_nearby) × (length xs ≡ most_nearby) × GoesOn nodes w from numbers₀ xs₀ n i numbers xs k
+
+pub loop-i-init : goal.loop-i-init
+loop-i-init c = (search rules, (c.requires.5, c.requires.3, c.requires.4, λ a b p q g. g))
+
+pub shape_of-numbers-then-k-ge-MOST_NEARBY : goal.shape_of-numbers-then-k-ge-MOST_NEARBY
+shape_of-numbers-then-k-ge-MOST_NEARBY c = c.loop-i.invariant.1.1 ∙ sym c.requires.3
+
+pub shape_of-xs-then-k-ge-MOST_NEARBY : goal.shape_of-xs-then-k-ge-MOST_NEARBY
+shape_of-xs-then-k-ge-MOST_NEARBY c = c.loop-i.invariant.1.2 ∙ sym c.requires.4
+
+pub returns-then-k-ge-MOST_NEARBY : goal.returns-then-k-ge-MOST_NEARBY
+unfolding inside_at
+returns-then-k-ge-MOST_NEARBY c =
+    let q = c.loop-i in
+    λ a b p r g.
+    gathering.full _ _ a b q.i _ q.k _ _ _ (sym c.holds.ensures ∙ c.if-holds.true) c.loop-i-test.true c.if-k-ge-MOST_NEARBY.true q.invariant.1.0 refl
+    (q.invariant.1.3 a b p r g)
+
+pub bounds-numbers-k : goal.bounds-numbers-k
+bounds-numbers-k c = omega (arith, c.loop-i.invariant.1.1)
+
+pub bounds-xs-k : goal.bounds-xs-k
+bounds-xs-k c = omega (arith, c.loop-i.invariant.1.2)
+
+-- what the branches lead to
+joined : (c : goal.Joined-holds)
+    → let q = c.loop-i in
+    let a = c.args in
+    State a.nodes.now a.w a.from a.numbers.now a.xs.now a.n (q.i + 1) c.if-holds.numbers c.if-holds.xs c.if-holds.k
+unfolding inside_at
+joined c =
+    let a = c.args in
+    let q = c.loop-i in
+    let P = State a.nodes.now a.w a.from a.numbers.now a.xs.now a.n (q.i + 1) in
+    ⊎_elim
+    (λ t. gathering.carried P _ _ _ _ _ _ t.2 t.3 t.4 (
+      omega (arith, t.1.left),
+      length-set q.numbers q.k q.i ∙ q.invariant.1.1,
+      length-set q.xs q.k _ ∙ q.invariant.1.2,
+      λ u v p r g. gathering.put _ _ u v q.i q.k q.numbers q.xs (sym c.holds.ensures ∙ t.0.taken) (q.invariant.1.3 u v p r g)
+          t.1.left p r,
+    ))
+    (λ t. gathering.carried P _ _ _ _ _ _ t.1 t.2 t.3 (
+      q.invariant.1.0,
+      q.invariant.1.1,
+      q.invariant.1.2,
+      λ u v p r g. gathering.past _ _ u v q.i q.k q.numbers q.xs (sym c.holds.ensures ∙ t.0.left) (q.invariant.1.3 u v p r g),
+    ))
+    c.if-holds.branch
+
+pub loop-i-preserved : goal.loop-i-preserved
+loop-i-preserved c = (search rules, joined c)
+
+pub shape_of-numbers : goal.shape_of-numbers
+shape_of-numbers c = c.loop-i.invariant.1.1 ∙ sym c.requires.3
+
+pub shape_of-xs : goal.shape_of-xs
+shape_of-xs c = c.loop-i.invariant.1.2 ∙ sym c.requires.4
+
+pub returns : goal.returns
+returns c =
+    let e : c.loop-i.i ≡ c.args.to = omega arith in
+    rw e at c.loop-i.invariant.1.3

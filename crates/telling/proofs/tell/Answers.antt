@@ -1,0 +1,12 @@
+-- `tell`: where nothing was told there is no text.
+use mathlib.Core.Path.{refl, ap}
+use lib.ListN.{length}
+use Rattle.told.proofs.Rows.{tells-nothing}
+use native.Mathlib.Omega.{arith}
+use Rattle.telling.proofs.tell.Goals as goal
+
+pub returns-in-Nothing : goal.returns-in-Nothing
+returns-in-Nothing c =
+    let a = c.args in
+    let e = ap length (tells-nothing a.told a.cells.now c.enum_told-1.given.1) in
+    (refl, λ _. record { count = omega (arith, e); short = omega (arith, e) })

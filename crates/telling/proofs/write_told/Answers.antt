@@ -1,0 +1,28 @@
+-- `write_told`: the text in front of the list is that of what was told.
+use Prim.Native.Nat.{ℕ}
+use mathlib.Core.Path.{sym, ap, subst}
+use mathlib.Core.List.{List}
+use lib.ListN.{length}
+use Rattle.report.specs.Report.{most_text}
+use Rattle.laws.proofs.Lists.{part_length}
+use Rattle.told.proofs.Rows.{in_front}
+use Rattle.telling.specs.Reached.{Owed}
+use native.Mathlib.Omega.{arith}
+use Rattle.telling.proofs.write_told.Goals as goal
+
+pub slice_bounds-send-end : goal.slice_bounds-send-end
+slice_bounds-send-end c = let p = c.print-n in part_length p.result most_text _ p.auto.1.1.0 p.ensures.room
+
+pub send-requires : goal.send-requires
+send-requires c =
+    let p = c.print-n in
+    let e = in_front _ _ _ _ p.ensures in
+    (subst (λ (t : List ℕ). Owed c.args.sent.now t) (sym e) c.requires.0, omega (arith, p.ensures.bytes, p.ensures.room, ap length e))
+
+pub returns : goal.returns
+returns c =
+    let p = c.print-n in
+    let e = in_front _ _ _ _ p.ensures in (
+      c.send.ensures.0,
+      λ h. record { count = omega (arith, ap length e, c.send.ensures.1 h); short = omega (arith, p.ensures.bytes, p.ensures.room) },
+    )

@@ -1,0 +1,29 @@
+-- `print`: laws in proofs/Rows.
+use mathlib.Core.Path.{refl}
+use mathlib.Core.Bool.{true}
+use Rattle.report.specs.Report as Report
+use Rattle.told.proofs.Rows.{no_text, printed_as, has_room, tells-nothing, tells-ring, tells-block, can_show}
+use Rattle.told.proofs.print.Goals as goal
+
+pub print_row-requires : goal.print_row-requires
+print_row-requires c =
+    (can_show c.args.told c.args.cells.now _ _ _ c.told.given.1 c.requires.0.shown, c.requires.0.few, c.requires.1)
+
+pub returns-in-Nothing : goal.returns-in-Nothing
+returns-in-Nothing c =
+    let a = c.args in
+    printed_as true a.text.now _ _ 0 a.text.now refl (tells-nothing a.told a.cells.now c.enum_told-1.given.1) (no_text a.text.now)
+
+pub returns-in-Ring : goal.returns-in-Ring
+returns-in-Ring c =
+    let a = c.args in
+    let p = c.print_row in
+    printed_as true a.text.now _ _ p.result p.new.0 refl
+    (tells-ring a.told a.cells.now _ _ _ c.told.given.1) p.ensures
+
+pub returns-in-Block : goal.returns-in-Block
+returns-in-Block c =
+    let a = c.args in
+    let p = c.print_refused_block in
+    printed_as (Report.holds a.text.now) a.text.now _ _ p.result p.new.0 (has_room a.text.now c.requires.1)
+    (tells-block a.told a.cells.now _ _ c.told-in-Block-1.given.1) p.ensures

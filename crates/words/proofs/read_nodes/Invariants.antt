@@ -1,0 +1,11 @@
+-- `read_nodes` ends and stays within its lists. The loop's invariant: the list keeps its length.
+use Rattle.std.proofs.Common.{◌≡◌, ◌-◌, ◌≤◌, length}
+use Rattle.words.proofs.read_nodes.Given as goal
+
+abbrev pub invariant-loop-i : goal.invariant-loop-i
+invariant-loop-i l =
+    (l.i ≤ l.n) × (length l.nodes ≡ length l.initial.nodes)
+
+abbrev pub decreases-loop-i : goal.decreases-loop-i
+decreases-loop-i l =
+    l.n - l.i
