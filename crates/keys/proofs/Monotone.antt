@@ -73,6 +73,12 @@ rounded_mono (fin false m e) (fin true n d) p q h =
 rounded_mono (fin true m e) (fin true n d) p q h =
     minus_minus (half_up_of (m * up e) (down e)) (half_up_of (n * up d) (down d))
     (half_up_mono (n * up d) (down d) (m * up e) (down e) (down_pos d) (down_pos e) (omega arith))
+rounded_mono nan y p q h = elim p [ ]
+rounded_mono (inf _) y p q h = elim p [ ]
+rounded_mono (fin false m e) nan p q h = elim q [ ]
+rounded_mono (fin false m e) (inf _) p q h = elim q [ ]
+rounded_mono (fin true m e) nan p q h = elim q [ ]
+rounded_mono (fin true m e) (inf _) p q h = elim q [ ]
 
 -- ---- keys
 pub key_mono : (x y : Float) → Within 1025 x → Within 1025 y → T (le x y) → T (le_z (key x) (key y))

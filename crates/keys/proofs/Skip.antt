@@ -1,7 +1,7 @@
 -- The scan's quick test: a scaled coordinate is within 1 of its key, so of two that share a key the difference is at most 2.
 -- Where the square of the rounded difference is 8 or more, the key is another.
 use Rattle.std.proofs.Common.{◌≡◌, ℕ, ◌+◌, ◌*◌, ◌/◌, ◌%◌, ◌<◌, ◌≤◌, true, false, not, T, ℤ, pos, neg_ℤ, sym, ap, ◌∙◌, subst, mul-le-mul_right, mod-lt, mul-pos, div-add-mod', arith, lit≤}
-use lib.Ieee.{Float, fin, binary64, up, down, mul, sub, le, of_int, round, fits}
+use lib.Ieee.{Float, fin, binary64, up, down, mul, sub, le, of_int, round, fits, inf, nan}
 use lib.Ieee.Fits.{down_pos}
 use lib.Ieee.Scale.{finite}
 use lib.Ieee.Positive.{num, den, den_pos}
@@ -48,6 +48,8 @@ rounded-near (fin true m e) f =
 
     high : (p q a n d : ℕ) → p ≡ 0 → q ≡ a → n ≤ a * d + d → p * d + n ≤ 0 + q * d + d
     high p q a n d x y h = rw (x, y) (omega arith)
+rounded-near nan f = elim f [ ]
+rounded-near (inf _) f = elim f [ ]
 
 -- ---- so of two that are rounded alike the rounded difference is within 2
 above : (P N D Q M K p n : ℕ) → P + n * D ≤ p * D + N + D → p * K + M ≤ Q + n * K + K → P * K + M * D ≤ 2 * (D * K) + (N * K + Q * D)

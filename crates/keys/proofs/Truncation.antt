@@ -3,7 +3,7 @@ use Rattle.std.proofs.Common.{◌≡◌, ℕ, zero, suc, ◌+◌, ◌-◌, ◌*�
 use native.Mathlib.Nat.{mod-le, mod-one}
 use native.Mathlib.Nat.{min-eq_left}
 use lib.IntN.{sub_ℕ}
-use lib.Ieee.{Float, fin, Format, binary64, prec, low, up, down, sub, le, fits, of_int, to_signed}
+use lib.Ieee.{Float, fin, Format, binary64, prec, low, up, down, sub, le, fits, of_int, to_signed, inf, nan}
 use lib.Ieee.Exact.{HasValue}
 use Rattle.laws.proofs.Fractions.{pl, ls}
 use Rattle.laws.specs.Double.{half}
@@ -79,6 +79,8 @@ whole_is_z x s q d h = (h.0, h.1 * d, scale x h.0 h.1 h.2, spread h.0 h.1 h.3)
   where
     scale : (x : Float) (t : Bool) (a : ℕ) → HasValue x t a 1 → HasValue x t (a * d) d
     scale (fin u m e) t a v = (v.0, omega (arith, ap (λ (z : ℕ). z * d) v.1))
+    scale nan t a v = elim v [ ]
+    scale (inf _) t a v = elim v [ ]
 
     times : (t : Bool) (a : ℕ) → (pl t (a * d) ≡ pl t a * d) × (ls t (a * d) ≡ ls t a * d)
     times true a = (omega arith, refl)

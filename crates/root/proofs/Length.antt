@@ -7,7 +7,7 @@ use native.Mathlib.Omega.{arith}
 use lib.IntN.{ℤ, pos, negsuc, nat_abs, neg_ℤ, ◌+ℤ◌, ◌-ℤ◌, ◌*ℤ◌, neg_ℤ-neg_ℤ, neg_ℤ-+ℤ, +ℤ_comm}
 use lib.Dec.{leb, lit<, lit≤}
 use lib.Pow.{pow-add, pow_pos, pow_mono, pow-lt}
-use lib.Ieee.{Float, inf, fin, binary64, up, down, size, units}
+use lib.Ieee.{Float, inf, fin, binary64, up, down, size, units, nan}
 use lib.Ieee.Digits.{size-le}
 use lib.Ieee.Exact.{units_val}
 use lib.Ieee.Fits.{down_pos, nearest-le}
@@ -76,6 +76,7 @@ root-within (fin false (suc m) e) h k = round_within (suc m * up e * 2 ^ 2148 / 
         lt_of_le_of_lt (mul-le-mul_right (2 ^ 2148) k.1)
         (lt_of_le_of_lt (le_of_eq (mul_right_comm (2 ^ 24) (down e) (2 ^ 2148) ∙ ap (λ (z : ℕ). z * down e) (sym (pow-add 2 24 2148))))
         (mul-lt-mul_of_pos_right (pow-lt {i = 2172} {j = 2176} (lit< tt)) (down_pos e)))
+root-within nan h k = elim h [ ]
 
 -- ---- a sum of squares
 sum-plus : (z w : ℤ) → minus_sign (z *ℤ z +ℤ w *ℤ w) ≡ false

@@ -9,7 +9,7 @@ use Prim.Native.Nat.{ℕ, zero, suc, ◌*◌, ◌^◌, ◌≤◌, ◌<◌}
 use native.Mathlib.Omega.{arith}
 use lib.IntN.{ℤ, pos, negsuc, nat_abs}
 use lib.Dec.{T, lit≤, not_T}
-use lib.Ieee.{Float, fin, binary64, down, up, fits, le, lt, eq, div, is_nan, of_int, round}
+use lib.Ieee.{Float, fin, binary64, down, up, fits, le, lt, eq, div, is_nan, of_int, round, inf, nan}
 use lib.Ieee.Exact.{HasValue}
 use lib.Ieee.Fits.{down_pos}
 use Rattle.laws.specs.Double.{◌≤f◌, lit, nat, naught}
@@ -47,6 +47,8 @@ not-below (fin false (suc m) e) a f h t = root-least m e 0 (negsuc 12) f tt (lea
   where
     least : (n d : ℕ) → n * 2 ^ 26 ≡ suc a * d → 1 * d ≤ n * 2 ^ 26
     least n d g = omega arith
+not-below nan a f h t = elim h [ ]
+not-below (inf _) a f h t = elim h [ ]
 
 -- the root of the whole number n over 2 ^ 26, by n
 at_zero : root_of (Units.mm² (pos 0)) ≡ naught

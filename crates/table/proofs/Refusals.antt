@@ -41,6 +41,7 @@ not_8 n t = not-of n 8 (and_r (not (eqb n 0)) (not (eqb n 8)) t)
 pub member_away : (rs : List Refusal) (r : Refusal) → T (numbered rs) → Memᴰ r rs → T (turns_away r.number)
 member_away (q ∷ rs) r n (Memᴰ.head e) = subst (λ (r : Refusal). T (turns_away r.number)) (sym e) (and_l (turns_away q.number) (numbered rs) n)
 member_away (q ∷ rs) r n (Memᴰ.tail m) = member_away rs r (and_r (turns_away q.number) (numbered rs) n) m
+member_away [] r n x'' = elim x'' [ ]
 
 pub all_pass : (rs : List Refusal) → T (numbered rs) → first_of rs ≡ 0 → Passes rs
 all_pass rs n z = go (first rs)

@@ -5,15 +5,16 @@ use borrow.Author.Rules.{rules}
 use Rattle.blocks.specs.Blocks.{refused_block, accepted_block, read_block}
 use Rattle.blocks.proofs.Tests.{part, torn, bad-head, bad-unused, good, count_small, ring-said, chain-said}
 use Rattle.blocks.proofs.read_block.Goals as goal
+use Rattle.blocks.proofs.read_block.Goals.{Else-unused_wrong, Then-check-word, Then-head_wrong, Then-unused_wrong}
 
 -- what the tests before a place have shown
-torn-at : (k : goal.Then-check-word) → let s = k.args in refused_block 10 s.number ≡ read_block s.bytes.now s.number
+torn-at : (k : Then-check-word) → let s = k.args in refused_block 10 s.number ≡ read_block s.bytes.now s.number
 torn-at k =
     let s = k.args in
     torn s.bytes.now s.number k.if-bytes-lt512.false k.check.result k.word.result k.check.ensures k.word.ensures
     k.if-check-word.true
 
-head_at : (k : goal.Then-head_wrong) → let s = k.args in
+head_at : (k : Then-head_wrong) → let s = k.args in
     refused_block 11 s.number ≡ read_block s.bytes.now s.number
 head_at k =
     let s = k.args in
@@ -21,7 +22,7 @@ head_at k =
     bad-head s.bytes.now s.number k.if-bytes-lt512.false k.check.result k.word.result k.check.ensures
     k.word.ensures k.if-check-word.false h.result h.ensures k.if-head_wrong.true
 
-unused-at : (k : goal.Then-unused_wrong) → let s = k.args in
+unused-at : (k : Then-unused_wrong) → let s = k.args in
     refused_block 11 s.number ≡ read_block s.bytes.now s.number
 unused-at k =
     let s = k.args in
@@ -30,7 +31,7 @@ unused-at k =
     bad-unused s.bytes.now s.number k.if-bytes-lt512.false k.check.result k.word.result k.check.ensures
     k.word.ensures k.if-check-word.false h.result h.ensures k.if-head_wrong.false u.result u.ensures k.if-unused_wrong.true
 
-good-at : (k : goal.Else-unused_wrong) → let s = k.args in
+good-at : (k : Else-unused_wrong) → let s = k.args in
     accepted_block s.bytes.now s.number ≡ read_block s.bytes.now s.number
 good-at k =
     let s = k.args in

@@ -19,7 +19,7 @@ unfolding Fields.coordinate
 loop-k-preserved c =
     let l = c.loop-k in
     let b = c.args.bytes.now in
-    let e = to_z-of_z w32 c.signed.result (record { sfits = c.signed.type-inv }) ∙ c.signed.ensures ∙ ap Fields.signed c.word.ensures in
+    let e = to_z-of_z w32 c.signed.result (record { sfits = c.signed.type_inv }) ∙ c.signed.ensures ∙ ap Fields.signed c.word.ensures in
     (search rules, simp length-set l.invariant.1, more (Fields.coordinate b) l.points l.k _ (omega arith) l.invariant.2 e)
 
 pub returns : goal.returns

@@ -11,9 +11,10 @@ use Rattle.call.specs.Lent.{LentRecords}
 use Rattle.divider.proofs.Calling.{most-cuts}
 use Rattle.cell_records.proofs.Numbered.{has_room, counts_in, sum_fits, laid-numbers, laid-fits}
 use Rattle.cell_records.proofs.flat_divide.Goals as goal
+use Rattle.cell_records.proofs.flat_divide.Goals.{Start}
 
 -- what was lent, with these cells
-abbrev lent : (s : goal.Start) → List Cell → LentRecords
+abbrev lent : (s : Start) → List Cell → LentRecords
 lent s cs =
     let a = s.args in
     record {

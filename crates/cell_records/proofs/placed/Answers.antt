@@ -8,11 +8,12 @@ use Rattle.table.specs.Answers.{with_cells}
 use Rattle.call.specs.Call.{cell_reserve}
 use Rattle.cell_records.specs.Records.{new_cells, laid_of}
 use Rattle.cell_records.proofs.placed.Goals as goal
+use Rattle.cell_records.proofs.placed.Goals.{Joined-v-eq8}
 
 pub cell_reserve-count-requires : goal.cell_reserve-count-requires
 cell_reserve-count-requires c = c.requires.1 (sym (ap (λ (v : Row). v.code) c.new.ensures) ∙ c.if-v-eq8.true)
 
-counted : (c : goal.Joined-v-eq8) → let a = c.args in c.if-v-eq8.count ≡ new_cells c.new.result (cell_reserve a.limits a.own)
+counted : (c : Joined-v-eq8) → let a = c.args in c.if-v-eq8.count ≡ new_cells c.new.result (cell_reserve a.limits a.own)
 counted c = ⊎_elim (λ w. w.2 ∙ w.1.ensures ∙ sym (rw (eq-eqb _ _ w.0.taken))) (λ w. w.1 ∙ sym (rw (ne_eqb _ _ w.0.left))) c.if-v-eq8.branch
 
 pub overflow_add-v : goal.overflow_add-v

@@ -12,18 +12,19 @@ use Rattle.quads.proofs.CellList as cell
 use borrow.Author.Rules.{rules}
 use native.Mathlib.Omega.{arith}
 use Rattle.cell_tests.proofs.first_failing.Goals as goal
+use Rattle.cell_tests.proofs.first_failing.Goals.{After-holds}
 
 -- cell k fails
 abbrev fails : List Float → ℕ → ℕ → List ℕ → List ℕ → ℕ → ℕ → Bool
 fails l u c ms vs n k = not (Quads.holds (nodes_in l u) (get_or (cells_to c (take n ms) (take n vs) n) k no_cell))
 
 -- what the test says of cell k
-abbrev Tested : goal.After-holds → Type 0
+abbrev Tested : After-holds → Type 0
 Tested c =
     let a = c.args in
     fails a.nodes.now a.used a.centre a.t4 a.t5 a.n c.loop-k.k ≡ not c.holds.result
 
-tested : (c : goal.After-holds) → Tested c
+tested : (c : After-holds) → Tested c
 tested c =
     let a = c.args in
     let p = c.requires in

@@ -7,16 +7,17 @@ use Rattle.quads.specs.Quads as Quads
 use Rattle.quads.specs.Flat.{positive}
 use Rattle.quads.proofs.CellList as cell
 use Rattle.cell_tests.proofs.holds.Goals as goal
+use Rattle.cell_tests.proofs.holds.Goals.{After-quad_positive}
 
 -- the two tests, on the corners that were read
-abbrev Tests : goal.After-quad_positive → Type 0
+abbrev Tests : After-quad_positive → Type 0
 Tests c =
     let a = c.args in
     (positive c.node_at-p.result c.node_at-q.result c.node_at-r.result c.node_at-s.result
     && Quads.all_distinct a.c)
     ≡ Quads.holds (nodes_in a.nodes.now a.used) a.c
 
-tests : (c : goal.After-quad_positive) → Tests c
+tests : (c : After-quad_positive) → Tests c
 tests c =
     let h = c.requires.1 in
     let g : (k : ℕ) → k < c.args.used → node_in_of c.args.nodes.now k ≡ _ = λ k h. sym (node_in c.args.nodes.now c.args.used k h) in

@@ -18,9 +18,10 @@ use Rattle.chain.specs.Chain as Chain
 use Rattle.chain.proofs.Turning as turning
 use Rattle.chain.proofs.Collect.{Collected, none, kept-first, kept_more, kept_same, kept_whole}
 use Rattle.chain.proofs.simplify_chain.Goals as goal
+use Rattle.chain.proofs.simplify_chain.Goals.{After-stays, Joined-stays}
 
 -- whether the point at hand stays
-staying : (c : goal.After-stays) →
+staying : (c : After-stays) →
     c.stays.result ≡ Chain.stays (points_of c.args.chain) (c.loop-i.i - 1)
 staying c =
     let h = rings.room c.args.chain c.requires in
@@ -28,7 +29,7 @@ staying c =
     (omega arith) _ c.next-after.ensures.0 _ c.stays.ensures
 
 -- what is collected after the turn, by whether the point stayed
-joined : (c : goal.Joined-stays) →
+joined : (c : Joined-stays) →
     Collected (points_of c.args.chain) c.if-stays.points c.if-stays.snaps c.if-stays.count c.if-stays.previous (c.loop-i.i + 1)
 unfolding lit round of_bits
 joined c =

@@ -7,12 +7,13 @@ use Rattle.vector.specs.Grid as Grid
 use Rattle.root.specs.Norm.{grid_norm, grid_dist}
 use Rattle.cosine.specs.Cosine as Cosine
 use Rattle.chain.proofs.stays.Goals as goal
+use Rattle.chain.proofs.stays.Goals.{After-is_zero, After-is_zero-2}
 
-in-zero : (c : goal.After-is_zero)
+in-zero : (c : After-is_zero)
     → c.is_zero.result ≡ Grid.same (Grid.sub c.args.b c.args.a) Grid.origin
 in-zero c = c.is_zero.ensures ∙ ap (λ (v : GridPoint). Grid.same v Grid.origin) c.sub-u.ensures.0
 
-out-zero : (c : goal.After-is_zero-2)
+out-zero : (c : After-is_zero-2)
     → c.is_zero-2.result ≡ Grid.same
     (Grid.sub c.args.c c.args.b) Grid.origin
 out-zero c = c.is_zero-2.ensures ∙ ap (λ (v : GridPoint). Grid.same v Grid.origin) c.sub-v.ensures.0

@@ -3,6 +3,7 @@ use mathlib.Core.Path.{◌≡◌, refl, sym, ◌∙◌}
 use borrow.Author.Rules.{rules}
 use Rattle.clean.proofs.Passing.{end, few-left, none_dropped, some-dropped}
 use Rattle.clean.proofs.passes.Goals as goal
+use Rattle.clean.proofs.passes.Goals.{Else-u-r}
 
 pub loop-r-init : goal.loop-r-init
 loop-r-init c = (c.requires, refl)
@@ -20,7 +21,7 @@ returns-then-u-r c =
     )
 
 -- a turn that is not the last drops a point
-dropped : (c : goal.Else-u-r)
+dropped : (c : Else-u-r)
     → let l = c.loop-r in
     (end c.args.tol c.args.ring c.pass-u.result ≡ end c.args.tol c.args.ring l.r) × (c.pass-u.result.count < l.r.count)
 dropped c =

@@ -8,16 +8,17 @@ use Rattle.laws.proofs.Between.{within_real}
 use Rattle.decimals.specs.Rounded.{half_even}
 use Rattle.decimals.proofs.Value.{field, digits, low_field, field-le, high-field}
 use Rattle.decimals.proofs.ten_thousandths.Goals as goal
+use Rattle.decimals.proofs.ten_thousandths.Goals.{Else-f-lt1008, Start}
 
 -- what owning an `f64` tells: the format holds it
-own : (c : goal.Start) → T (fits binary64 c.args.x)
+own : (c : Start) → T (fits binary64 c.args.x)
 own c = subst T (sym c.well_formed.0.1) tt
 
 -- from the field 1008 on
 next : (f : ℕ) → 1008 ≤ f → f ≡ suc (f - 1)
 next f h = omega arith
 
-most : (c : goal.Else-f-lt1008) → field c.args.x - 1 ≤ 1032
+most : (c : Else-f-lt1008) → field c.args.x - 1 ≤ 1032
 most c = let s = c.before in field-le c.args.x (own s) c.requires (field c.args.x - 1) (next (field c.args.x) c.if-f-lt1008.false)
 
 pub float_to_bits-b : goal.float_to_bits-b

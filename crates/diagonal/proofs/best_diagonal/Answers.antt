@@ -13,31 +13,32 @@ use Rattle.diagonal.proofs.Choosing.{held, fits}
 use borrow.Author.Rules.{rules}
 use native.Mathlib.Omega.{arith}
 use Rattle.diagonal.proofs.best_diagonal.Goals as goal
+use Rattle.diagonal.proofs.best_diagonal.Goals.{After-judge-j, At-loop-k, Joined-improves, Start}
 
 -- what is known where the loop stands
-abbrev start : goal.At-loop-k → goal.Start
+abbrev start : At-loop-k → Start
 start c = c.before.before.before.before.before.before.before.before
 
-room : (c : goal.At-loop-k) → c.args.part.count ≤ length c.args.part.points
+room : (c : At-loop-k) → c.args.part.count ≤ length c.args.part.points
 room c = rings.room c.args.part c.requires.0
 
-abbrev ring : goal.At-loop-k → List GridPoint
+abbrev ring : At-loop-k → List GridPoint
 ring c = points_of c.args.part
 
-fits-here : (c : goal.After-judge-j) → let l = c.before.before.before in c.judge-j.result.ok ≡ fits c.args.limits (ring l) c.loop-k.k
+fits-here : (c : After-judge-j) → let l = c.before.before.before in c.judge-j.result.ok ≡ fits c.args.limits (ring l) c.loop-k.k
 fits-here c =
     let l = c.before.before.before in
     choosing.fits-is c.args.part.points c.args.part.count (room l) (omega arith) c.loop-k.k (omega arith) _ _
     c.sub-a.ensures.0 c.sub-b.ensures.0 c.args.limits _ c.judge-j.ensures.0
 
-score-here : (c : goal.After-judge-j) → let l = c.before.before.before in c.judge-j.result.score ≡ score (ring l) c.loop-k.k
+score-here : (c : After-judge-j) → let l = c.before.before.before in c.judge-j.result.score ≡ score (ring l) c.loop-k.k
 score-here c =
     let l = c.before.before.before in
     choosing.score-is c.args.part.points c.args.part.count (room l) (omega arith) c.loop-k.k (omega arith) _ _
     c.sub-a.ensures.0 c.sub-b.ensures.0 _ c.judge-j.ensures.1
 
 -- where the turn's branches meet: the diagonal won, an edge hides it, or it was passed over
-joined : (c : goal.Joined-improves)
+joined : (c : Joined-improves)
     → let l = c.before.before.before.before.before in
     (held c.if-improves.found c.if-improves.at ≡ best_to c.args.limits (ring l) (c.loop-k.k + 1 - 2))
     × (c.if-improves.found ≡ true → c.if-improves.least ≡ score (ring l) c.if-improves.at)

@@ -12,9 +12,10 @@ use Rattle.entry.specs.Refusal.{refusal}
 use Rattle.entry.proofs.Tests.{counts_passed, early, late}
 use Rattle.divider.proofs.Calling.{call-refused, ring_read, chain_read, can-divide, call-divided}
 use Rattle.divider.proofs.divide_with.Goals as goal
+use Rattle.divider.proofs.divide_with.Goals.{After-points_refusal-code, After-struct_known-1, Else-code-ne0, Start}
 
 -- what was lent, with these cells
-abbrev lent : (s : goal.Start) → List Cell → LentRecords
+abbrev lent : (s : Start) → List Cell → LentRecords
 lent s cs =
     let a = s.args in
     record {
@@ -28,21 +29,21 @@ lent s cs =
       cell_count_of = a.room.used;
     }
 
-abbrev begin : goal.After-points_refusal-code → goal.Start
+abbrev begin : After-points_refusal-code → Start
 begin c = c.before.before.before.before
 
 -- ---- the points and the set passed
-passed : (c : goal.Else-code-ne0) → let r = c.args.ring.now in (3 ≤ length r / 2) × (length r / 2 ≤ 60)
+passed : (c : Else-code-ne0) → let r = c.args.ring.now in (3 ≤ length r / 2) × (length r / 2 ≤ 60)
 passed c =
     let n = c.points_refusal-code in
     let a = c.args in
     counts_passed a.limits a.ring.now a.chain.now a.size n.result n.ensures c.if-code-ne0.false
 
 -- ---- the lists were tested: the number of the whole call
-abbrev onward : goal.After-struct_known-1 → goal.Else-code-ne0
+abbrev onward : After-struct_known-1 → Else-code-ne0
 onward c = c.before.before.before.before.before.before.before.before.before
 
-code_is : (c : goal.After-struct_known-1) (cs : List Cell) → let s = begin (onward c).before in length cs ≡ s.args.room.places
+code_is : (c : After-struct_known-1) (cs : List Cell) → let s = begin (onward c).before in length cs ≡ s.args.room.places
     → c.lists_refusal-test.result.code ≡ refusal s.args.limits (lent s cs)
 code_is c cs e =
     let s = c.before.before.before.before.before.before.before.before.before.before.before.before in

@@ -18,9 +18,10 @@ use Rattle.divider.proofs.Leaving.{moved}
 use Rattle.divider.proofs.Laying.{marks-length, every_length, three, shown, count_is, outcome-is, can-subdivide, mark-room-in, rims-are}
 use Rattle.divider.proofs.LaidOut.{cell_room, laid_done, laid-failed}
 use Rattle.divider.proofs.lay_out.Goals as goal
+use Rattle.divider.proofs.lay_out.Goals.{Start}
 
 -- what was asked: the ring can be divided
-sought : (s : goal.Start) → let a = s.args in Divisible a.limits a.own (part_in a.ring) (lists_in a.nodes.now a.node_count a.rims.now a.cells.now a.cell_count)
+sought : (s : Start) → let a = s.args in Divisible a.limits a.own (part_in a.ring) (lists_in a.nodes.now a.node_count a.rims.now a.cells.now a.cell_count)
 sought s = record { prepared = s.requires.0.prepared; whole = s.requires.1 }
 
 pub cell_reserve-reserve-requires : goal.cell_reserve-reserve-requires

@@ -8,8 +8,9 @@ use Rattle.survey.specs.declared.NodeSurvey.{NodeSurvey}
 use Rattle.survey.proofs.Gathering as gathering
 use Rattle.entry.proofs.Tests.{over, fit, counts_hold, looked_none, looked_all, nothing, all}
 use Rattle.entry.proofs.lists_refusal.Goals as goal
+use Rattle.entry.proofs.lists_refusal.Goals.{After-counts_over, Else-counts_over, Start}
 
-abbrev start : goal.After-counts_over → goal.Start
+abbrev start : After-counts_over → Start
 start c = c.before.before.before.before.before
 
 pub returns-then-counts_over : goal.returns-then-counts_over
@@ -23,7 +24,7 @@ returns-then-counts_over c =
     )
 
 -- the counts fit
-fits : (c : goal.Else-counts_over) → let a =
+fits : (c : Else-counts_over) → let a =
     c.args in (a.node_count ≤ length a.nodes.now / 2) × (a.cell_count ≤ a.cell-places) × (length a.nodes.now / 2 ≤ most_places)
     × (length a.nodes.now / 2 ≤ length a.rims.now)
 fits c = counts_hold _ _ _ _ _ (sym c.counts_over.ensures ∙ c.if-counts_over.false)

@@ -6,16 +6,17 @@ use mathlib.Core.Path.{◌≡◌, ◌∙◌, subst}
 use Rattle.given.specs.Steps.{sought, mark_left, Laid}
 use Rattle.given.proofs.Laying.{place-low, laid_none, laid_more, mark-next}
 use Rattle.given.proofs.marks_left.Goals as goal
+use Rattle.given.proofs.marks_left.Goals.{In-loop-j}
 
 pub loop-j-init : goal.loop-j-init
 loop-j-init c = (search rules, search rules, search rules, laid_none _)
 
 -- the kept place is one of the ring's, and has a mark and its point
-low : (c : goal.In-loop-j) → get_or c.args.clean.places c.loop-j.j 0 < c.args.ring.count
+low : (c : In-loop-j) → get_or c.args.clean.places c.loop-j.j 0 < c.args.ring.count
 low c =
     place-low _ _ _ c.args.clean c.requires.1 c.loop-j.j (omega (arith, c.loop-j-test.true, c.loop-j.invariant.1))
 
-marked : (c : goal.In-loop-j)
+marked : (c : In-loop-j)
     → let k = get_or c.args.clean.places c.loop-j.j 0 in
     (k < 60) × (k < length c.args.kinds.now) × (k * 2 + 2 ≤ length c.args.snaps.now)
 marked c =

@@ -10,6 +10,7 @@ use Rattle.laws.proofs.Search.{any-zero, any-pass, any_hit}
 use Rattle.call.specs.Marked.{marks_out, mark_out}
 use Rattle.given_tests.proofs.Scans.{out_at}
 use Rattle.given_tests.proofs.marks_out.Goals as goal
+use Rattle.given_tests.proofs.marks_out.Goals.{After-mark_out}
 
 pub returns-then-kinds-n : goal.returns-then-kinds-n
 unfolding marks_out
@@ -23,7 +24,7 @@ pub loop-i-init : goal.loop-i-init
 loop-i-init c = (search rules, search rules, search rules, search rules, any-zero _)
 
 -- what was asked of the point read is asked of the list's
-seen : (c : goal.After-mark_out)
+seen : (c : After-mark_out)
     → let a = c.args in
     out_at a.kinds.now a.snaps.now c.loop-i.i ≡ c.mark_out.result
 seen c =

@@ -5,18 +5,19 @@ use Rattle.cosine.specs.Cosine.{cosine}
 use Rattle.limits.specs.declared.Limits.{Limits}
 use Rattle.judge.specs.Judge.{in_range, larger}
 use Rattle.judge.proofs.judge.Goals as goal
+use Rattle.judge.proofs.judge.Goals.{After-larger-s}
 
-abbrev limits : (c : goal.After-larger-s) → Limits
+abbrev limits : (c : After-larger-s) → Limits
 limits c = c.args.limits
 
-next-is : (c : goal.After-larger-s) → let s = c.args in c.cosine-x.result ≡ cosine s.a (sub s.q s.o)
+next-is : (c : After-larger-s) → let s = c.args in c.cosine-x.result ≡ cosine s.a (sub s.q s.o)
 next-is c =
     c.cosine-x.ensures ∙ ap (cosine c.args.a) c.sub-d.ensures.0
 
-prev-is : (c : goal.After-larger-s) → let s = c.args in c.cosine-y.result ≡ cosine s.b (sub s.q s.o)
+prev-is : (c : After-larger-s) → let s = c.args in c.cosine-y.result ≡ cosine s.b (sub s.q s.o)
 prev-is c = c.cosine-y.ensures ∙ ap (cosine c.args.b) c.sub-d.ensures.0
 
-score-is : (c : goal.After-larger-s) → let s = c.args in c.larger-s.result ≡ larger (cosine s.a (sub s.q s.o)) (cosine s.b (sub s.q s.o))
+score-is : (c : After-larger-s) → let s = c.args in c.larger-s.result ≡ larger (cosine s.a (sub s.q s.o)) (cosine s.b (sub s.q s.o))
 score-is c =
     let x = next-is c in
     let y = prev-is c in

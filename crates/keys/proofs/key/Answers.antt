@@ -78,34 +78,34 @@ pub int_to_float-r : goal.int_to_float-r
 unfolding of_bits
 int_to_float-r c =
     let t = c.truncating_f64_to_i64-t in
-    asks c.args.x c.requires t.result (record { sfits = t.type-inv }) t.ensures
+    asks c.args.x c.requires t.result (record { sfits = t.type_inv }) t.ensures
 
 pub overflow_add-result : goal.overflow_add-result
 unfolding of_bits
 overflow_add-result c =
     let t = c.truncating_f64_to_i64-t in
-    steps c.args.x c.requires t.result (record { sfits = t.type-inv }) t.ensures (pos 1) (lit≤ tt)
+    steps c.args.x c.requires t.result (record { sfits = t.type_inv }) t.ensures (pos 1) (lit≤ tt)
 
 pub overflow_sub-result : goal.overflow_sub-result
 unfolding of_bits
 overflow_sub-result c =
     let t = c.truncating_f64_to_i64-t in
-    steps c.args.x c.requires t.result (record { sfits = t.type-inv }) t.ensures (negsuc 0) (lit≤ tt)
+    steps c.args.x c.requires t.result (record { sfits = t.type_inv }) t.ensures (negsuc 0) (lit≤ tt)
 
 pub returns-then-r : goal.returns-then-r
 unfolding of_bits neg
 returns-then-r c =
     let t = c.truncating_f64_to_i64-t in
-    up c.args.x c.requires t.result (record { sfits = t.type-inv }) t.ensures c.if-r.true
+    up c.args.x c.requires t.result (record { sfits = t.type_inv }) t.ensures c.if-r.true
 
 pub returns-then-r-2 : goal.returns-then-r-2
 unfolding of_bits neg
 returns-then-r-2 c =
     let t = c.truncating_f64_to_i64-t in
-    down c.args.x c.requires t.result (record { sfits = t.type-inv }) t.ensures c.if-r.false c.if-r-2.true
+    down c.args.x c.requires t.result (record { sfits = t.type_inv }) t.ensures c.if-r.false c.if-r-2.true
 
 pub returns-else-r-2 : goal.returns-else-r-2
 unfolding of_bits neg
 returns-else-r-2 c =
     let t = c.truncating_f64_to_i64-t in
-    mid c.args.x c.requires t.result (record { sfits = t.type-inv }) t.ensures c.if-r.false c.if-r-2.false
+    mid c.args.x c.requires t.result (record { sfits = t.type_inv }) t.ensures c.if-r.false c.if-r-2.false

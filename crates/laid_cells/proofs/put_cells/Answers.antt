@@ -7,9 +7,10 @@ use Rattle.quads.proofs.CellList as cell
 use borrow.Author.Rules.{rules}
 use native.Mathlib.Omega.{arith}
 use Rattle.laid_cells.proofs.put_cells.Goals as goal
+use Rattle.laid_cells.proofs.put_cells.Goals.{After-next-e}
 
 -- the part from `at` on has room for a cell
-fits : (c : goal.After-next-e) → c.loop-k.at + 4 ≤ length c.loop-k.cells
+fits : (c : After-next-e) → c.loop-k.at + 4 ≤ length c.loop-k.cells
 fits c =
     let a = c.args in
     let l = c.loop-k in

@@ -9,12 +9,13 @@ use Rattle.laws.specs.Bounded.{any}
 use Rattle.call.specs.Call.{outside}
 use Rattle.lent_points.proofs.Reading.{outside_at, any-outside-is}
 use Rattle.lent_points.proofs.any_outside.Goals as goal
+use Rattle.lent_points.proofs.any_outside.Goals.{After-outside}
 
 pub loop-i-init : goal.loop-i-init
 loop-i-init c = (search rules, search rules, any-zero _)
 
 -- what was asked of the point read is asked of the list's
-seen : (c : goal.After-outside)
+seen : (c : After-outside)
     → outside_at c.args.l.now c.loop-i.i ≡ c.outside.result
 seen c = sym (c.outside.ensures ∙ ap outside c.point_at.ensures)
 

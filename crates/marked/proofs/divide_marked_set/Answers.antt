@@ -10,9 +10,10 @@ use Rattle.divider.proofs.Calling.{cell-places}
 use Rattle.marked.proofs.Refusing.{counts_passed, early, late}
 use Rattle.marked.proofs.Calling.{call-refused, tested, can-divide, call-divided, promised}
 use Rattle.marked.proofs.divide_marked_set.Goals as goal
+use Rattle.marked.proofs.divide_marked_set.Goals.{After-early_refusal-code, After-struct_known-1, Else-code-ne0, Start}
 
 -- what was lent
-abbrev lent : goal.Start → LentMarked
+abbrev lent : Start → LentMarked
 lent s =
     let a = s.args in
     record {
@@ -26,21 +27,21 @@ lent s =
       cell_count_of = a.cell_count;
     }
 
-abbrev begin : goal.After-early_refusal-code → goal.Start
+abbrev begin : After-early_refusal-code → Start
 begin c = c.before.before.before.before.before.before.before
 
 -- ---- all but the lists passed
-passed : (c : goal.Else-code-ne0) → let r = c.args.ring.now in (3 ≤ length r / 2) × (length r / 2 ≤ 60)
+passed : (c : Else-code-ne0) → let r = c.args.ring.now in (3 ≤ length r / 2) × (length r / 2 ≤ 60)
 passed c =
     let n = c.early_refusal-code in
     let s = c.before.before.before.before.before.before.before.before in
     counts_passed c.args.limits (lent s) n.result n.ensures c.if-code-ne0.false
 
 -- ---- the lists were tested: the number of the whole call
-abbrev onward : goal.After-struct_known-1 → goal.Else-code-ne0
+abbrev onward : After-struct_known-1 → Else-code-ne0
 onward c = c.before.before.before.before.before.before.before.before.before
 
-code_is : (c : goal.After-struct_known-1) → let s = begin (onward c).before in
+code_is : (c : After-struct_known-1) → let s = begin (onward c).before in
     c.lists_refusal-test.result.code ≡ first_of (marked_tests s.args.limits (lent s))
 code_is c =
     let s = c.before.before.before.before.before.before.before.before.before.before.before.before.before.before.before in

@@ -12,28 +12,29 @@ use Rattle.call.proofs.Tests.{counts_in}
 use Rattle.marked.specs.Steps.{early_refusal}
 use Rattle.marked.proofs.Refusing.{no_chain}
 use Rattle.marked.proofs.early_refusal.Goals as goal
+use Rattle.marked.proofs.early_refusal.Goals.{After-counts_out, Else-counts_out, Else-marks_out, Else-outline_out, Else-units_out, Start}
 
-abbrev start : goal.After-counts_out → goal.Start
+abbrev start : After-counts_out → Start
 start c = c.before.before.before.before
 
 -- ---- each test as the code made it
-abbrev counts : goal.Start → Bool
+abbrev counts : Start → Bool
 counts s = let r = s.args.ring.now in odd r || counts_out (length r / 2) 0
 
-counts-are : (c : goal.After-counts_out) → c.counts_out.result ≡ counts (start c)
+counts-are : (c : After-counts_out) → c.counts_out.result ≡ counts (start c)
 counts-are c = let r = c.args.ring.now in c.counts_out.ensures ∙ no_chain (odd r) (counts_out (length r / 2) 0)
 
-counts-no : (c : goal.Else-counts_out) → counts (start c.before) ≡ false
+counts-no : (c : Else-counts_out) → counts (start c.before) ≡ false
 counts-no c = sym (counts-are c.before) ∙ c.if-counts_out.false
 
-units-no : (c : goal.Else-units_out) → let a = c.args in units_out (all_points a.ring.now) [] a.size ≡ false
+units-no : (c : Else-units_out) → let a = c.args in units_out (all_points a.ring.now) [] a.size ≡ false
 units-no c = sym c.units_out.ensures ∙ c.if-units_out.false
 
-marks-no : (c : goal.Else-marks_out) → let a =
+marks-no : (c : Else-marks_out) → let a =
     c.args in marks_out a.kinds.now a.snaps.now (length a.ring.now / 2) ≡ false
 marks-no c = sym c.marks_out.ensures ∙ c.if-marks_out.false
 
-outline-no : (c : goal.Else-outline_out) → let a =
+outline-no : (c : Else-outline_out) → let a =
     c.args in outline_out a.kinds.now a.outline.now a.loops.now ≡ false
 outline-no c = sym c.outline_out.ensures ∙ c.if-outline_out.false
 

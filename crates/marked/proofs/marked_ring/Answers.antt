@@ -5,8 +5,9 @@ use Rattle.call.specs.Marked.{Marking}
 use Rattle.divider.proofs.Preparing.{asks, read}
 use Rattle.marked.proofs.Preparing.{marks-of, prepares}
 use Rattle.marked.proofs.marked_ring.Goals as goal
+use Rattle.marked.proofs.marked_ring.Goals.{Start}
 
-abbrev marking : goal.Start → Marking
+abbrev marking : Start → Marking
 marking s = let a = s.args in record { kinds = a.kinds.now; snaps = a.snaps.now; outline = a.outline.now; loops = a.loops.now }
 
 pub points-own-requires : goal.points-own-requires

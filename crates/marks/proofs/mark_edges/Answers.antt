@@ -15,9 +15,10 @@ use Rattle.marks.specs.Marks.{joins, mark}
 use Rattle.marks.specs.Edges.{Marked}
 use Rattle.marks.proofs.Edges.{mark-snap, mark-straight, marked-none, marked-snap, marked-straight}
 use Rattle.marks.proofs.mark_edges.Goals as goal
+use Rattle.marks.proofs.mark_edges.Goals.{After-joins, Left-search}
 
 -- whether stretch j joins the ends of edge i
-judged : (k : goal.After-joins) →
+judged : (k : After-joins) →
     let i = k.loop-i.i in
     k.joins.result ≡ joins (get_or k.args.ring.points i origin) (get_or k.args.ring.points k.next.result origin)
     (stretch_in k.args.chain.points k.args.chain.snaps k.search.j)
@@ -25,7 +26,7 @@ judged k =
     rw (add-one k.search.j) at (k.joins.ensures (get_or k.args.chain.snaps k.search.j no_stretch.snap))
 
 -- the marks after the turn, by whether a stretch was found
-joined : (c : goal.Left-search) →
+joined : (c : Left-search) →
     Marked (stretches_in c.args.chain) (points_of c.args.ring) (c.loop-i.i + 1) c.search-test.edges
 joined c =
     let q = c.before in

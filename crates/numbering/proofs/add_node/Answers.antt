@@ -4,9 +4,10 @@ use native.Mathlib.Omega.{arith}
 use lib.ListN.{length, length-set}
 use Rattle.numbering.proofs.Adding as adding
 use Rattle.numbering.proofs.add_node.Goals as goal
+use Rattle.numbering.proofs.add_node.Goals.{Else-i-used}
 
 -- a point that is not listed has a place
-room : (c : goal.Else-i-used) → let a = c.args in a.used * 2 + 2 ≤ length a.nodes.now
+room : (c : Else-i-used) → let a = c.args in a.used * 2 + 2 ≤ length a.nodes.now
 room c =
     omega (
       arith,

@@ -9,6 +9,7 @@ use Rattle.keys.specs.Keys.{key_of}
 use Rattle.nodes.specs.Flat.{has_at}
 use Rattle.nodes.proofs.Scan.{has-is, not-near}
 use Rattle.numbering.proofs.find_in.Goals as goal
+use Rattle.numbering.proofs.find_in.Goals.{Joined-is_near}
 
 pub loop-i-init : goal.loop-i-init
 loop-i-init c = (search rules, refl)
@@ -26,7 +27,7 @@ returns-then-has_key c =
     (has-is a.nodes.now (key_of a.kx) (key_of a.ky) l.i ∙ sym c.has_key.ensures ∙ c.if-has_key.true)) ∙ l.invariant.1
 
 -- the node of this turn has not both keys
-other : (c : goal.Joined-is_near)
+other : (c : Joined-is_near)
     → let a = c.args in
     has_at a.nodes.now (key_of a.kx) (key_of a.ky) c.loop-i.i ≡ false
 other c =

@@ -9,6 +9,7 @@ use Rattle.nodes.specs.Nearby.{most_nearby}
 use Rattle.nodes.proofs.Scan.{found-is}
 use Rattle.nodes.proofs.Collection as collection
 use Rattle.numbering.proofs.find_nearby.Goals as goal
+use Rattle.numbering.proofs.find_nearby.Goals.{Then-j-near}
 
 pub returns-then-not-decides : goal.returns-then-not-decides
 returns-then-not-decides c =
@@ -21,12 +22,12 @@ find_listed-j-requires c =
     (r.0, r.1, c.new.ensures.1, c.new-ky.ensures.1)
 
 -- a place among the collected
-abbrev Low : goal.Then-j-near → Type 0
+abbrev Low : Then-j-near → Type 0
 Low c =
     let a = c.args in
     (c.find_listed-j.result < length a.numbers.now) × (c.find_listed-j.result < most_nearby)
 
-low : (c : goal.Then-j-near) → Low c
+low : (c : Then-j-near) → Low c
 low c =
     collection.room_at _ _ _ _ _ c.args.p _ _ c.requires.2 c.requires.0 c.new.ensures.0 c.new-ky.ensures.0 c.new.ensures.1 c.new-ky.ensures.1
     (sym c.decides.ensures ∙ is_true _ c.if-not-decides.false-raw) _ c.if-j-near.true

@@ -9,8 +9,9 @@ use Rattle.vector.proofs.Rings as rings
 use Rattle.obstacles.proofs.Blocking as blocking
 use native.Mathlib.Omega.{arith}
 use Rattle.obstacles.proofs.is_unobstructed.Goals as goal
+use Rattle.obstacles.proofs.is_unobstructed.Goals.{After-lerp}
 
-middle : (c : goal.After-lerp) → let s = c.args in c.lerp.result ≡ lerp (in_mm (get_or s.t1.points 0 origin))
+middle : (c : After-lerp) → let s = c.args in c.lerp.result ≡ lerp (in_mm (get_or s.t1.points 0 origin))
     (in_mm (get_or s.t1.points s.k origin)) (lit 5 1)
 unfolding lit of_bits round
 middle c =

@@ -5,9 +5,10 @@ use Rattle.laws.specs.Double.{nat, clamp, ◌/f◌, ◌≤f◌}
 use Rattle.vector.specs.Plane as Plane
 use Rattle.outline.specs.Outline as Outline
 use Rattle.outline.proofs.foot.Goals as goal
+use Rattle.outline.proofs.foot.Goals.{After-dot-len2}
 
 -- the square of the segment's length
-squared : (c : goal.After-dot-len2) → let s = c.args in c.dot-len2.result ≡ Plane.dot (Plane.sub s.b s.a) (Plane.sub s.b s.a)
+squared : (c : After-dot-len2) → let s = c.args in c.dot-len2.result ≡ Plane.dot (Plane.sub s.b s.a) (Plane.sub s.b s.a)
 squared c = c.dot-len2.ensures ∙ (λ k. Plane.dot (c.sub-ab.ensures k) (c.sub-ab.ensures k))
 
 pub returns-then-len2 : goal.returns-then-len2

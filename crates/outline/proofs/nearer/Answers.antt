@@ -5,9 +5,10 @@ use Rattle.laws.specs.Double.{◌<f◌}
 use Rattle.vector.specs.Plane.{in_mm}
 use Rattle.outline.specs.Outline as Outline
 use Rattle.outline.proofs.nearer.Goals as goal
+use Rattle.outline.proofs.nearer.Goals.{After-point_segment_distance-d}
 
 -- the distance of the segment
-far : (c : goal.After-point_segment_distance-d)
+far : (c : After-point_segment_distance-d)
     → let s = c.args in c.point_segment_distance-d.result ≡ Outline.point_segment_distance s.p (in_mm s.a) (in_mm s.b)
 far c =
     let s = c.args in

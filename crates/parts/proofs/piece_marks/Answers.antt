@@ -13,8 +13,9 @@ use Rattle.parts.proofs.Pieces.{mark_at}
 use borrow.Author.Rules.{rules}
 use native.Mathlib.Omega.{arith}
 use Rattle.parts.proofs.piece_marks.Goals as goal
+use Rattle.parts.proofs.piece_marks.Goals.{Start}
 
-placed : (c : goal.Start)
+placed : (c : Start)
     → let p = c.args.pieces in
     let i = c.args.i in
     (end p i + 3 ≤ end p (i + 1)) × (end p (i + 1) ≤ end p i + 60) × (end p (i + 1) ≤ 124) × (end p (i + 1) - end p i ≡ size p i)

@@ -17,16 +17,17 @@ use Rattle.quads.proofs.Turns as turns
 use borrow.Author.Rules.{rules}
 use native.Mathlib.Omega.{arith}
 use Rattle.piece_nodes.proofs.add_middles.Goals as goal
+use Rattle.piece_nodes.proofs.add_middles.Goals.{After-add_node-r, After-edge_middle-m}
 
 -- the middle of edge i is that of the definition
-abbrev Mid : goal.After-edge_middle-m → Type 0
+abbrev Mid : After-edge_middle-m → Type 0
 Mid c =
     let a = c.args in
     let i = c.loop-i.i in
     c.edge_middle-m.result ≡ middle_of a.share (get_or (marks_in a.t4 a.n) i Straight) (end_at a.nodes.now a.used a.t3 a.n i)
     (end_at a.nodes.now a.used a.t3 a.n (suc i))
 
-mid : (c : goal.After-edge_middle-m) → Mid c
+mid : (c : After-edge_middle-m) → Mid c
 mid c =
     let a = c.args in
     let l = c.loop-i in
@@ -61,7 +62,7 @@ add_node-r-requires c =
     (adding.usable r l.invariant.1 l.invariant.0, subst InRange (sym e) (r.ranged l.i t), adding.ahead r l.invariant.1 t e, adding.held l.invariant.1 c.requires.2)
 
 -- edge i has a place in the list of numbers
-few : (c : goal.After-add_node-r) → c.loop-i.i < 60
+few : (c : After-add_node-r) → c.loop-i.i < 60
 few c =
     omega (arith, c.loop-i-test.true, c.requires.0.few)
 

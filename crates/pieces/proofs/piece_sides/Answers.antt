@@ -11,8 +11,9 @@ use Rattle.pieces.proofs.Sides.{side_of, sides-are}
 use borrow.Author.Rules.{rules}
 use native.Mathlib.Omega.{arith}
 use Rattle.pieces.proofs.piece_sides.Goals as goal
+use Rattle.pieces.proofs.piece_sides.Goals.{Start}
 
-placed : (c : goal.Start)
+placed : (c : Start)
     → let p = c.args.pieces in
     let i = c.args.i in
     (end p i + 3 ≤ end p (i + 1)) × (end p (i + 1) ≤ end p i + 60) × (end p (i + 1) ≤ 124) × (end p (i + 1) - end p i ≡ size p i)

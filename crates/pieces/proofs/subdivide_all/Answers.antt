@@ -11,16 +11,17 @@ use Rattle.pieces.proofs.Course.{Read}
 use borrow.Author.Rules.{rules}
 use native.Mathlib.Omega.{arith}
 use Rattle.pieces.proofs.subdivide_all.Goals as goal
+use Rattle.pieces.proofs.subdivide_all.Goals.{After-piece_sides-sides, At-loop-i, Start, Then-t-n}
 
 -- where the function began
-abbrev begin : goal.At-loop-i → goal.Start
+abbrev begin : At-loop-i → Start
 begin c = c.before.before.before.before.before.before.before.before.before
 
 -- piece i has been read
-abbrev piece : goal.After-piece_sides-sides → MarkedRing
+abbrev piece : After-piece_sides-sides → MarkedRing
 piece c = record { ring = c.piece_points-corners.result; edges = c.piece_marks-marks.result }
 
-read : (c : goal.After-piece_sides-sides) →
+read : (c : After-piece_sides-sides) →
     let o = c.before.before.before.before in
     Read c.args.ring.ring.points c.args.ring.edges c.args.pieces c.loop-i.i (piece c) c.piece_sides-sides.result
 read c =
@@ -38,15 +39,15 @@ read c =
     }
 
 -- its cells have room from place `at` on
-room : (c : goal.After-piece_sides-sides) → let o = c.loop-i in o.at * 4 + (piece c).ring.count * 4 ≤ length o.cells
+room : (c : After-piece_sides-sides) → let o = c.loop-i in o.at * 4 + (piece c).ring.count * 4 ≤ length o.cells
 room c = let o = c.before.before.before.before in course.cell_room c.requires.0 _ c.loop-i.invariant.2 (read c)
 
 -- the list of cells is as long as it came
-long : (c : goal.At-loop-i) → length c.loop-i.cells ≡ length c.args.cells.now
+long : (c : At-loop-i) → length c.loop-i.cells ≡ length c.args.cells.now
 long c = course.long-cells c.requires.0 _ c.loop-i.invariant.2 c.loop-i.invariant.0
 
 -- after the piece the list still has the places that are to be cleared
-window : (c : goal.Then-t-n)
+window : (c : Then-t-n)
     → let o = c.before.before.before.before.before.before.before.before.before.before.before.before.before.before.before.before in
     let a = c.args in
     (a.first + a.reserve) * 4 ≤ length
@@ -57,7 +58,7 @@ window c =
     course.clear_room c.requires.0 _ c.loop-i.invariant.2 (read x) c.subdivide-t.ensures
 
 -- the places to be cleared begin within the list
-low : (c : goal.Then-t-n)
+low : (c : Then-t-n)
     → let o = c.before.before.before.before.before.before.before.before.before.before.before.before.before.before.before.before in
     c.args.first * 16 < 2 ^ 64
 low c =

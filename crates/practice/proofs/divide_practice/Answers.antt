@@ -3,9 +3,10 @@ use mathlib.Core.Path.{sym, ◌∙◌}
 use Rattle.call.specs.Lent.{Lent}
 use Rattle.practice.proofs.Calling.{practice-refused, practice-divided}
 use Rattle.practice.proofs.divide_practice.Goals as goal
+use Rattle.practice.proofs.divide_practice.Goals.{Start}
 
 -- what was lent
-abbrev lent : goal.Start → Lent
+abbrev lent : Start → Lent
 lent s =
     let a = s.args in
     record {

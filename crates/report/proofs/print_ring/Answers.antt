@@ -8,14 +8,15 @@ use Rattle.text.proofs.Writing.{shorter, join, room}
 use Rattle.report.proofs.Lengths.{ring-text-length}
 use Rattle.report.proofs.Print.{no_room, too_many, has_room, printed-cells}
 use Rattle.report.proofs.print_ring.Goals as goal
+use Rattle.report.proofs.print_ring.Goals.{Else-cells-gt496}
 
 -- after both tests: how long the text is, and that it has room
-text-length : (k : goal.Else-cells-gt496) → let s = k.args in length (Report.ring_text s.a s.cells.now) ≤ Report.most_text
+text-length : (k : Else-cells-gt496) → let s = k.args in length (Report.ring_text s.a s.cells.now) ≤ Report.most_text
 text-length k =
     let s = k.args in
     ring-text-length s.cells.now (λ i. (k.shared_slice_known-1.given i).fits) s.a k.if-cells-gt496.false
 
-room_for : (k : goal.Else-cells-gt496) → let s = k.args in
+room_for : (k : Else-cells-gt496) → let s = k.args in
     0 + length (Report.ring_line s.a ++ Report.nodes_line s.a.nodes s.a.added
     ++ Report.quad_lines s.cells.now (length s.cells.now / 4)) ≤ length s.out.now
 unfolding Report.ring_text

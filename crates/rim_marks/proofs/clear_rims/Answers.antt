@@ -6,9 +6,10 @@ use Rattle.rim_marks.proofs.Marking.{clear_none, clear_next, clear-length}
 use borrow.Author.Rules.{rules}
 use native.Mathlib.Omega.{arith}
 use Rattle.rim_marks.proofs.clear_rims.Goals as goal
+use Rattle.rim_marks.proofs.clear_rims.Goals.{At-loop-k}
 
 -- the list is as long as it came
-long : (c : goal.At-loop-k) → length c.loop-k.rims ≡ length c.args.rims.now
+long : (c : At-loop-k) → length c.loop-k.rims ≡ length c.args.rims.now
 long c = ap length c.loop-k.invariant.2 ∙ clear-length _ _ _
 
 pub loop-k-init : goal.loop-k-init

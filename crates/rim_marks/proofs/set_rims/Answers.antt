@@ -7,9 +7,10 @@ use Rattle.rim_marks.proofs.Marking.{set-none, set_on, set-off, set-length}
 use borrow.Author.Rules.{rules}
 use native.Mathlib.Omega.{arith}
 use Rattle.rim_marks.proofs.set_rims.Goals as goal
+use Rattle.rim_marks.proofs.set_rims.Goals.{At-loop-i}
 
 -- the list is as long as it came
-long : (c : goal.At-loop-i) → length c.loop-i.rims ≡ length c.args.rims.now
+long : (c : At-loop-i) → length c.loop-i.rims ≡ length c.args.rims.now
 long c = ap length c.loop-i.invariant.1 ∙ set-length _ _ _ _
 
 pub loop-i-init : goal.loop-i-init

@@ -6,9 +6,10 @@ use lib.Ieee.Bits.{of_bits-to_bits}
 use Rattle.root.specs.Root.{root_of}
 use Rattle.root.proofs.Cases.{not_nan, pattern_pos, no_nan_bits, infinite, zeros, others, nan_is}
 use Rattle.root.proofs.root.Goals as goal
+use Rattle.root.proofs.root.Goals.{Start}
 
 -- what owning an `f64` tells: the format holds it
-held : (c : goal.Start) → T (fits binary64 c.args.x)
+held : (c : Start) → T (fits binary64 c.args.x)
 held c = subst T (sym c.well_formed.0.1) tt
 
 pub float_to_bits-b : goal.float_to_bits-b

@@ -5,9 +5,10 @@ use lib.Ieee.{Float, binary64, fits, of_bits}
 use Rattle.laws.specs.Double.{◌≤f◌}
 use Rattle.root.proofs.AtLeast.{root-above}
 use Rattle.root.proofs.root_at_most.Goals as goal
+use Rattle.root.proofs.root_at_most.Goals.{Start}
 
 -- what owning an `f64` tells: the format holds it
-held : (c : goal.Start) → T (fits binary64 c.args.x)
+held : (c : Start) → T (fits binary64 c.args.x)
 held c = subst T (sym c.well_formed.0.1) tt
 
 pub returns-then-t : goal.returns-then-t

@@ -2,8 +2,9 @@
 use native.Mathlib.Omega.{arith}
 use Rattle.root.proofs.Halves.{Known, known, quot, left, exact, over, square-few}
 use Rattle.root.proofs.root_digits.Goals as goal
+use Rattle.root.proofs.root_digits.Goals.{After-root_head-a}
 
-has : (c : goal.After-root_head-a) → Known c.args.n c.root_head-a.result
+has : (c : After-root_head-a) → Known c.args.n c.root_head-a.result
 has c = known c.args.n c.root_head-a.result c.requires.0 c.requires.1 c.root_head-a.ensures
 
 pub overflow_mul-u-2 : goal.overflow_mul-u-2

@@ -2,11 +2,12 @@ use Prim.Native.Nat.{◌^◌}
 use native.Mathlib.Omega.{arith}
 use Rattle.root.proofs.Heron.{guess, step, rise, Guess, first, second, third, positive, down, square-fits}
 use Rattle.root.proofs.root_head.Goals as goal
+use Rattle.root.proofs.root_head.Goals.{Start}
 
-one : (c : goal.Start) → Guess c.args.n (2 ^ 25) (2 ^ 28) (guess c.args.n)
+one : (c : Start) → Guess c.args.n (2 ^ 25) (2 ^ 28) (guess c.args.n)
 one c = first c.args.n c.requires.1
 
-two : (c : goal.Start) → Guess c.args.n (2 ^ 24) (2 ^ 29) (step c.args.n (guess c.args.n))
+two : (c : Start) → Guess c.args.n (2 ^ 24) (2 ^ 29) (step c.args.n (guess c.args.n))
 two c = second c.args.n (guess c.args.n) c.requires.1 (one c)
 
 pub overflow_mul-h : goal.overflow_mul-h

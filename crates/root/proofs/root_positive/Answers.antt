@@ -9,12 +9,13 @@ use Rattle.root.specs.Root.{IsRoot}
 use Rattle.root.proofs.Pattern.{Decoded, decoded_low, decoded_high}
 use Rattle.root.proofs.Scaled.{Lead, lead, Radicand, radicand, shift, rooted, root-to}
 use Rattle.root.proofs.root_positive.Goals as goal
+use Rattle.root.proofs.root_positive.Goals.{After-root_digits-s, Joined-f-gt0}
 
 -- where the branches join: m and k are what b's fields say
 moved : (b m k m' k' : ℕ) → m' ≡ m → k' ≡ k → Decoded b m k → Decoded b m' k'
 moved b m k m' k' p q d = subst (λ (x : ℕ). Decoded b x k') (sym p) (subst (λ (x : ℕ). Decoded b m x) (sym q) d)
 
-at_join : (c : goal.Joined-f-gt0) → Decoded c.args.b c.if-f-gt0.m c.if-f-gt0.k
+at_join : (c : Joined-f-gt0) → Decoded c.args.b c.if-f-gt0.m c.if-f-gt0.k
 at_join c =
     let b = c.args.b in
     let p = c.requires in
@@ -24,10 +25,10 @@ at_join c =
     c.if-f-gt0.branch
 
 -- the shift by the leading zeros, and the number that `root_digits` is handed
-leads : (c : goal.Joined-f-gt0) → Lead c.if-f-gt0.m (count_leading_zeros 64 c.if-f-gt0.m)
+leads : (c : Joined-f-gt0) → Lead c.if-f-gt0.m (count_leading_zeros 64 c.if-f-gt0.m)
 leads c = lead c.if-f-gt0.m (at_join c).above (at_join c).small
 
-handed : (c : goal.Joined-f-gt0) → Radicand (c.if-f-gt0.m * 2 ^ shift c.if-f-gt0.k (count_leading_zeros 64 c.if-f-gt0.m))
+handed : (c : Joined-f-gt0) → Radicand (c.if-f-gt0.m * 2 ^ shift c.if-f-gt0.k (count_leading_zeros 64 c.if-f-gt0.m))
 handed c = radicand c.if-f-gt0.m c.if-f-gt0.k (count_leading_zeros 64 c.if-f-gt0.m) (leads c)
 
 -- the shift loses nothing
@@ -35,7 +36,7 @@ kept : (n : ℕ) → Radicand n → n % 2 ^ 64 ≡ n
 kept n r = mod-eq_of_lt (omega (arith, r.to))
 
 -- the root's 54 digits
-got : (c : goal.After-root_digits-s)
+got : (c : After-root_digits-s)
     → IsRoot (c.if-f-gt0.m * 2 ^ shift c.if-f-gt0.k (count_leading_zeros 64 c.if-f-gt0.m) * 2 ^ 54)
     c.root_digits-s.result
 got c =
@@ -43,7 +44,7 @@ got c =
     let n = c.if-f-gt0.m * 2 ^ shift c.if-f-gt0.k (count_leading_zeros 64 c.if-f-gt0.m) in
     subst (λ (x : ℕ). IsRoot (x * 2 ^ 54) c.root_digits-s.result) (kept n (handed j)) c.root_digits-s.ensures
 
-small : (c : goal.After-root_digits-s) → c.root_digits-s.result < 2 ^ 54 - 1
+small : (c : After-root_digits-s) → c.root_digits-s.result < 2 ^ 54 - 1
 small c =
     let j = c.before.before.before in
     root-to (c.if-f-gt0.m * 2 ^ shift c.if-f-gt0.k (count_leading_zeros 64 c.if-f-gt0.m)) c.root_digits-s.result (handed j) (got c)

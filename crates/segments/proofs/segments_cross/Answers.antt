@@ -6,21 +6,22 @@ use Rattle.segments.proofs.Parameters as crossing
 use Rattle.laws.proofs.Signed as signed
 use native.Mathlib.Omega.{arith}
 use Rattle.segments.proofs.segments_cross.Goals as goal
+use Rattle.segments.proofs.segments_cross.Goals.{After-cross, After-cross-den, After-cross-then-interior}
 
-den-is : (c : goal.After-cross-den) → let a = c.args in signed.r64 c.cross-den.result ≡ Grid.cross (Grid.sub a.b a.a) (Grid.sub a.d a.c)
+den-is : (c : After-cross-den) → let a = c.args in signed.r64 c.cross-den.result ≡ Grid.cross (Grid.sub a.b a.a) (Grid.sub a.d a.c)
 den-is c =
     let u = c.sub-d1.ensures.0 in
     let v = c.sub-d2.ensures.0 in
     signed.back c.cross-den.result (omega (arith, c.cross-den.ensures.1)) ∙ c.cross-den.ensures.0 ∙ (λ i. Grid.cross (u i) (v i))
 
-first-is : (c : goal.After-cross) → let a = c.args in signed.r64 c.cross.result ≡ Grid.cross (Grid.sub a.c a.a)
+first-is : (c : After-cross) → let a = c.args in signed.r64 c.cross.result ≡ Grid.cross (Grid.sub a.c a.a)
     (Grid.sub a.d a.c)
 first-is c =
     let w = c.sub-ac.ensures.0 in
     let v = c.sub-d2.ensures.0 in
     signed.back c.cross.result (omega (arith, c.cross.ensures.1)) ∙ c.cross.ensures.0 ∙ (λ i. Grid.cross (w i) (v i))
 
-second_is : (c : goal.After-cross-then-interior) → let a = c.args in signed.r64 c.cross-then-interior.result ≡ Grid.cross
+second_is : (c : After-cross-then-interior) → let a = c.args in signed.r64 c.cross-then-interior.result ≡ Grid.cross
     (Grid.sub a.c a.a) (Grid.sub a.b a.a)
 second_is c =
     let w = c.sub-ac.ensures.0 in

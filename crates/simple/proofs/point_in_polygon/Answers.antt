@@ -12,8 +12,9 @@ use Prim.Native.Nat.{◌-◌}
 use borrow.Author.Rules.{rules}
 use native.Mathlib.Omega.{arith}
 use Rattle.simple.proofs.point_in_polygon.Goals as goal
+use Rattle.simple.proofs.point_in_polygon.Goals.{After-ray_meets}
 
-meets-is : (k : goal.After-ray_meets) → let s = k.args in k.ray_meets.result ≡ Simple.meets_edge (points_of s.t1) s.p
+meets-is : (k : After-ray_meets) → let s = k.args in k.ray_meets.result ≡ Simple.meets_edge (points_of s.t1) s.p
     k.loop-i.i
 unfolding Simple.meets_edge
 meets-is k =

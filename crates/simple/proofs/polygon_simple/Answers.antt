@@ -12,6 +12,7 @@ use Rattle.simple.specs.Simple as Simple
 use Rattle.simple.proofs.Pairs as pairs
 use native.Mathlib.Omega.{arith}
 use Rattle.simple.proofs.polygon_simple.Goals as goal
+use Rattle.simple.proofs.polygon_simple.Goals.{After-edges_cross}
 
 pub returns-then-n-lt3 : goal.returns-then-n-lt3
 returns-then-n-lt3 c =
@@ -19,7 +20,7 @@ returns-then-n-lt3 c =
     pairs.too_few (points_of a.t1) (rw (length-take-le a.t1.count a.t1.points (rings.room a.t1 c.requires)) c.if-n-lt3.true)
 
 -- what the crossing test of edge j against edge i answers
-judged : (k : goal.After-edges_cross) → let a = k.args in
+judged : (k : After-edges_cross) → let a = k.args in
     k.edges_cross.result ≡ Simple.edges_cross (points_of a.t1) k.scan.i
     k.loop-j.j
 judged k =

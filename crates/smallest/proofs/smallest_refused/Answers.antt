@@ -49,7 +49,7 @@ returns-then-own-gt8 c =
     ∙ ap (smallest_of a.ring.now a.chain.now a.size) c.number-own.ensures
 
 pub overflow_cast-result-2 : goal.overflow_cast-result-2
-overflow_cast-result-2 c = record { fits = omega (arith, ones-le 32 c.least-choice.result c.least-choice.type-inv) }
+overflow_cast-result-2 c = record { fits = omega (arith, ones-le 32 c.least-choice.result c.least-choice.type_inv) }
 
 pub returns : goal.returns
 unfolding smallest_refused

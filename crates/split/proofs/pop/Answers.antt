@@ -20,6 +20,7 @@ use Rattle.parts.proofs.Segments.{from_first}
 use Rattle.split.proofs.Popped as Popped
 use native.Mathlib.Omega.{arith}
 use Rattle.split.proofs.pop.Goals as goal
+use Rattle.split.proofs.pop.Goals.{After-split_polygon_at-d, Start}
 
 -- the top of the stack, and where it stands
 tops : (s : Progress) → ProgressInvariant s → 0 < s.waiting.count
@@ -32,39 +33,39 @@ tops s h z =
     let p = Popped.top s (s.waiting.count - 1) e h in
     (p.0, p.1, p.2, p.3, e)
 
-top : (c : goal.Start)
+top : (c : Start)
     → let w = c.args.s.waiting in
     let t = w.count - 1 in
     (end w t + 3 ≤ end w (t + 1)) × (end w (t + 1) ≤ end w t + 60) × (end w (t + 1) ≤ 124)
     × (end w (t + 1) + end c.args.s.pieces c.args.s.pieces.count ≤ 60 + 2 * c.args.s.cuts) × (w.count ≡ t + 1)
 top c = tops c.args.s c.requires.0 c.requires.1
 
-abbrev start : goal.After-split_polygon_at-d → goal.Start
+abbrev start : After-split_polygon_at-d → Start
 start g = g.before.before.before.before.before.before.before.before.before
 
-abbrev size : goal.After-split_polygon_at-d → ℕ
+abbrev size : After-split_polygon_at-d → ℕ
 size g =
     let w = g.args.s.waiting in
     end w (w.count - 1 + 1) - end w (w.count - 1)
 
-abbrev loaded : goal.After-split_polygon_at-d → List Vertex
+abbrev loaded : After-split_polygon_at-d → List Vertex
 loaded g = g.load-vs.result
 
-abbrev points : goal.After-split_polygon_at-d → List GridPoint
+abbrev points : After-split_polygon_at-d → List GridPoint
 points g = tab (corner_point g.args.ring (loaded g)) (size g)
 
 -- its worst corner, and the diagonal from there
-abbrev at : goal.After-split_polygon_at-d → ℕ
+abbrev at : After-split_polygon_at-d → ℕ
 at g = g.worst-worst.result.at
 
-worst-is : (g : goal.After-split_polygon_at-d) → at g ≡ worst (points g)
+worst-is : (g : After-split_polygon_at-d) → at g ≡ worst (points g)
 worst-is g = g.worst-worst.ensures.0 ∙ ap worst (g.rotated_points.ensures.0 ∙ from_first g.args.ring (loaded g) (size g))
 
-chosen : (g : goal.After-split_polygon_at-d) (k : ℕ) → g.split_polygon_at-d.result ≡ To k
+chosen : (g : After-split_polygon_at-d) (k : ℕ) → g.split_polygon_at-d.result ≡ To k
     → some k ≡ split_polygon_at g.args.limits (points g) g.args.s.cuts (at g)
 chosen g k e = sym (ap answer e) ∙ g.split_polygon_at-d.ensures
 
-range : (g : goal.After-split_polygon_at-d) (k : ℕ) → g.split_polygon_at-d.result ≡ To k → (2 ≤ k) × (k + 2 ≤ size g) × (g.args.s.cuts < 32)
+range : (g : After-split_polygon_at-d) (k : ℕ) → g.split_polygon_at-d.result ≡ To k → (2 ≤ k) × (k + 2 ≤ size g) × (g.args.s.cuts < 32)
 range g k e =
     let z = top (start g) in
     let r = Popped.range g.args.limits (points g) g.args.s.cuts (at g) k (size g) (length_tab _ _) (omega arith) (chosen g k e) in

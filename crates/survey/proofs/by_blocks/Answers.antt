@@ -7,8 +7,9 @@ use Rattle.laws.specs.Bounded.{any}
 use Rattle.survey.proofs.Tested.{block, told}
 use Rattle.survey.proofs.Gathering as gathering
 use Rattle.survey.proofs.by_blocks.Goals as goal
+use Rattle.survey.proofs.by_blocks.Goals.{After-block_end-to, At-loop-i, Start}
 
-abbrev begin : goal.At-loop-i → goal.Start
+abbrev begin : At-loop-i → Start
 begin c = c.before.before.before.before
 
 pub loop-i-init : goal.loop-i-init
@@ -16,7 +17,7 @@ unfolding any
 loop-i-init c = (search rules, c.requires.3, c.requires.4, refl, gathering.start _ _ _ _)
 
 -- 64 nodes stand before the block's end
-full : (c : goal.After-block_end-to) → 64 ≤ c.block_end-to.result
+full : (c : After-block_end-to) → 64 ≤ c.block_end-to.result
 full c = c.block_end-to.ensures.3 c.requires.2
 
 pub overflow_sub-to : goal.overflow_sub-to

@@ -11,6 +11,7 @@ use Rattle.nodes.specs.Nearby.{most_nearby, inside_at}
 use Rattle.survey.specs.Survey.{GoesOn}
 use Rattle.survey.proofs.Gathering as gathering
 use Rattle.survey.proofs.collect_in.Goals as goal
+use Rattle.survey.proofs.collect_in.Goals.{Joined-holds}
 
 abbrev State : List Float → Window → ℕ → List ℕ → List Float → ℕ → ℕ → List ℕ → List Float → ℕ → Type 0
 State nodes w from numbers₀ xs₀ n i numbers xs k =
@@ -40,7 +41,7 @@ pub bounds-xs-k : goal.bounds-xs-k
 bounds-xs-k c = omega (arith, c.loop-i.invariant.1.2)
 
 -- what the branches lead to
-joined : (c : goal.Joined-holds)
+joined : (c : Joined-holds)
     → let q = c.loop-i in
     let a = c.args in
     State a.nodes.now a.w a.from a.numbers.now a.xs.now a.n (q.i + 1) c.if-holds.numbers c.if-holds.xs c.if-holds.k

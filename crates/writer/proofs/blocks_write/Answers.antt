@@ -7,22 +7,23 @@ use borrow.Author.Rules.{rules}
 use Rattle.writer.specs.Write as Write
 use Rattle.writer.proofs.Passed.{room, low-number, few-ring, few-chain, left_alone, as_long, part-long, both}
 use Rattle.writer.proofs.blocks_write.Goals as goal
+use Rattle.writer.proofs.blocks_write.Goals.{After-write_block, Else-code-gt0}
 
 -- the call is not refused
-passed : (k : goal.Else-code-gt0) → let a = k.args in
+passed : (k : Else-code-gt0) → let a = k.args in
     Write.refusal a.ring.now a.chain.now a.size a.number (length a.out.now) ≡ 0
 passed k =
     let e : k.refusal-code.result ≡ 0 = omega arith in
     sym k.refusal-code.ensures ∙ e
 
-space : (k : goal.Else-code-gt0) → 1024 ≤ length k.args.out.now
+space : (k : Else-code-gt0) → 1024 ≤ length k.args.out.now
 space k = let a = k.args in room a.ring.now a.chain.now a.size a.number (length a.out.now) (passed k)
 
-low : (k : goal.Else-code-gt0) → k.args.number ≤ 65534
+low : (k : Else-code-gt0) → k.args.number ≤ 65534
 low k = let a = k.args in low-number a.ring.now a.chain.now a.size a.number (length a.out.now) (passed k)
 
 -- after the ring's block the destination is as long as before
-long : (y : goal.After-write_block) → 1024 ≤ length y.write_block.new.0
+long : (y : After-write_block) → 1024 ≤ length y.write_block.new.0
 long y =
     let k = y.before.before in
     let a = y.args in

@@ -24,7 +24,7 @@ pub returns-then-is_near : goal.returns-then-is_near
 returns-then-is_near c =
     let k = c.key-k in
     let x = c.args.x in
-    eq-bits k.result c.key-own.result (key x) k.type-inv c.key-own.ensures.1 k.ensures.0 ∙ ap (λ (z : ℤ). eq_z z (key x)) c.key-own.ensures.0
+    eq-bits k.result c.key-own.result (key x) k.type_inv c.key-own.ensures.1 k.ensures.0 ∙ ap (λ (z : ℤ). eq_z z (key x)) c.key-own.ensures.0
 
 pub returns : goal.returns
 returns c =

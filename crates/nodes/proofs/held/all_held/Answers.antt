@@ -6,13 +6,14 @@ use borrow.Author.Rules.{rules}
 use Rattle.laws.specs.Bounded.{any}
 use Rattle.nodes.proofs.Ranged.{none, one_of, go_on}
 use Rattle.nodes.proofs.held.all_held.Goals as goal
+use Rattle.nodes.proofs.held.all_held.Goals.{After-block_end-to}
 
 pub loop-i-init : goal.loop-i-init
 unfolding any
 loop-i-init c = (search rules, refl)
 
 -- 64 numbers stand before the block's end
-full : (c : goal.After-block_end-to) → 64 ≤ c.block_end-to.result
+full : (c : After-block_end-to) → 64 ≤ c.block_end-to.result
 full c = c.block_end-to.ensures.3 c.if-n-lt64.false
 
 pub overflow_sub-to : goal.overflow_sub-to

@@ -13,15 +13,16 @@ use Rattle.keys.specs.Keys.{key_of}
 use Rattle.nodes.specs.Nearby.{has_listed}
 use Rattle.nodes.proofs.Collection.{listed-is, not-close}
 use Rattle.nodes.proofs.nearby.find_listed_in.Goals as goal
+use Rattle.nodes.proofs.nearby.find_listed_in.Goals.{In-loop-j, Joined-is_near, Start}
 
-abbrev begin : goal.In-loop-j → goal.Start
+abbrev begin : In-loop-j → Start
 begin c = c.before.before.before.before.before
 
 -- the number that is read is that of a node
-low : (c : goal.In-loop-j) → get_or c.args.numbers.now c.loop-j.j 0 < c.args.old
+low : (c : In-loop-j) → get_or c.args.numbers.now c.loop-j.j 0 < c.args.old
 low c = c.requires.1.low c.loop-j.j c.loop-j-test.true
 
-room : (c : goal.In-loop-j)
+room : (c : In-loop-j)
     → (get_or c.args.numbers.now c.loop-j.j 0 * 2 + 2 ≤ length c.args.nodes.now) × (c.args.old ≤ most_places)
     × (c.loop-j.j < length c.args.numbers.now) × (c.loop-j.j < length c.args.xs.now)
 room c =
@@ -70,7 +71,7 @@ returns-then-has_key c =
     (listed-is _ _ _ _ _ _ _ _ c.requires.1 c.loop-j-test.true ∙ sym c.has_key.ensures ∙ c.if-has_key.true)) ∙ c.loop-j.invariant.1
 
 -- the node of this turn has not both keys
-other : (c : goal.Joined-is_near)
+other : (c : Joined-is_near)
     → let i = c.before.before.before in
     let a = c.args in
     has_listed a.nodes.now a.numbers.now (key_of a.kx) (key_of a.ky) c.loop-j.j ≡ false

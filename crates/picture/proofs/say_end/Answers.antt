@@ -1,0 +1,18 @@
+-- `say_end`: the words of each end.
+use Rattle.text.specs.Text.{bytes}
+use Rattle.picture.specs.Picture.{said}
+use Rattle.picture.proofs.Drawing.{said-long, said-unwritten}
+use borrow.Author.Rules.{rules}
+use Rattle.picture.proofs.say_end.Goals as goal
+
+pub say-requires : goal.say-requires
+unfolding said bytes
+say-requires c = search rules
+
+pub say-requires-in-TooLong : goal.say-requires-in-TooLong
+unfolding bytes
+say-requires-in-TooLong c = said-long _ _ c.enum_told-in-TooLong-1.given.1
+
+pub say-requires-in-Unwritten : goal.say-requires-in-Unwritten
+unfolding bytes
+say-requires-in-Unwritten c = said-unwritten _ c.enum_told-in-Unwritten-1.given.1

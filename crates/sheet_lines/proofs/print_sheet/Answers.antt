@@ -1,0 +1,78 @@
+use Prim.Native.Nat.{ℕ, ◌-◌}
+use mathlib.Core.Path.{◌≡◌, refl, sym, ap, ◌∙◌}
+use mathlib.Core.Bool.{true}
+use lib.ListN.{length}
+use borrow.Author.Tests.{not-false}
+use Rattle.listing.specs.Sheet.{lines}
+use Rattle.listing.proofs.Tests.{usable}
+use Rattle.job.proofs.Runs.{not-both}
+use Rattle.sheet_lines.proofs.Lines.{whole-line, none_written, more-lines, few_bytes}
+use borrow.Author.Rules.{rules}
+use native.Mathlib.Omega.{arith}
+use Rattle.sheet_lines.proofs.print_sheet.Goals as goal
+
+pub returns-then-nodes_out : goal.returns-then-nodes_out
+returns-then-nodes_out c = λ e. not-both true refl e
+
+pub loop-i-init : goal.loop-i-init
+loop-i-init c =
+    (
+      search rules,
+      usable c.args.nodes.now c.args.used (sym c.nodes_out.ensures ∙ c.if-nodes_out.false),
+      none_written c.args.nodes.now,
+      c.requires,
+    )
+
+pub put_line-requires : goal.put_line-requires
+put_line-requires c =
+    let l = c.loop-i in
+    let u = l.invariant.1 in
+    let h = c.loop-i-test.true in
+    (omega (arith, u.few, h), omega (arith, u.room, h), (u.ranged l.i h).0, (u.ranged l.i h).1, search rules)
+
+pub slice_bounds-send-end : goal.slice_bounds-send-end
+slice_bounds-send-end c = sym c.put_line.auto.0
+
+pub send-written-requires : goal.send-written-requires
+send-written-requires c =
+    let a = c.args in
+    let l = c.loop-i in
+    let u = l.invariant.1 in
+    let h = c.loop-i-test.true in
+    let p = c.put_line in
+    let t = whole-line a.nodes.now l.i (omega (arith, u.few, h)) _ _ _ p.ensures p.auto.0 in
+    record {
+      nodes = a.nodes.now;
+      used = a.used;
+      number = l.i;
+      ended = l.invariant.3;
+      below = h;
+      few = u.few;
+      wrote = l.invariant.2;
+      text = t;
+      fits = few_bytes a.nodes.now l.i l.sent _ (omega (arith, u.few, h)) l.invariant.2 t;
+    }
+
+pub returns-then-not-written : goal.returns-then-not-written
+returns-then-not-written c = λ e. not-both true refl e
+
+pub loop-i-preserved : goal.loop-i-preserved
+loop-i-preserved c =
+    let a = c.args in
+    let l = c.loop-i in
+    let u = l.invariant.1 in
+    let h = c.loop-i-test.true in
+    let p = c.put_line in
+    let t = whole-line a.nodes.now l.i (omega (arith, u.few, h)) _ _ _ p.ensures p.auto.0 in (
+      search rules,
+      u,
+      more-lines a.nodes.now l.i l.sent _ _ l.invariant.2 t (c.send-written.ensures (not-false c.send-written.result c.if-not-written.false-raw)),
+      l.invariant.3,
+    )
+
+pub returns : goal.returns
+returns c =
+    let l = c.loop-i in
+    let a = c.args in
+    let e : l.i ≡ a.used = omega arith in
+    λ _. l.invariant.2 ∙ ap (λ (k : ℕ). length (lines a.nodes.now k)) e
