@@ -4,35 +4,25 @@
 //
 // It shares the run with divide, so that the gate sees more inputs than one. docs/REPLAY.md says how the files were made.
 
-use libc::STDOUT_FILENO;
+#![tactic(auto)]
 
-fn job(path: &[u8]) {
-    let fd = os::open_read(path);
-    if fd < 0 {
-        os::fail(path);
-        return;
-    }
-    stream::write_all(STDOUT_FILENO, path);
-    stream::write_all(STDOUT_FILENO, b"\n");
-    run::run(fd, STDOUT_FILENO);
-    libc::close(fd);
-}
+use std::fs;
+use std::io::Write;
+use std::rt::Files;
 
-// A descriptor that is open for reading takes no text.
-fn unwritten(path: &[u8]) {
-    let fd = os::open_read(path);
-    if fd < 0 {
-        os::fail(path);
-        return;
-    }
-    let sent = run::run(fd, fd);
-    libc::close(fd);
-    stream::write_all(STDOUT_FILENO, path);
-    if sent.failed {
-        stream::write_all(STDOUT_FILENO, b", read only: writing failed\n");
+fn job<F: Files, W: Write, E: Write>(files: &F, output: &mut W, errors: &mut E, path: &str) {
+    match fs::open(files, path) {
+        Ok(mut file) => {
+            stream::write_all(output, path.as_bytes());
+            stream::write_all(output, b"\n");
+            run::run(&mut file, output);
+        }
+        Err(error) => stream::fail(errors, path, error),
     }
 }
 
+// A file that is open for reading takes no text. It is opened twice, since what is read and what is written are lent apart.
+fn unwritten<F: Files, W: Write, E: Write>(files: &F, output: &mut W, errors: &mut E, path: &str) {
 fn main() {
     job(b"whole.job");
     job(b"empty.job");

@@ -26,12 +26,12 @@ pub fn without_set(kind: u32) -> Entry {
 }
 
 // The set that comes next in the file.
-pub fn read(fd: i32) -> Entry {
-    let corner = words::double(words::long(fd));
-    let least = words::double(words::long(fd));
-    let greatest = words::double(words::long(fd));
-    let cuts = words::word(fd);
-    let share = words::double(words::long(fd));
+pub fn read<R: Read>(input: &mut R) -> Entry {
+    let corner = words::double(words::long(input));
+    let least = words::double(words::long(input));
+    let greatest = words::double(words::long(input));
+    let cuts = words::word(input);
+    let share = words::double(words::long(input));
     Entry {
         kind: 7,
         corner,
