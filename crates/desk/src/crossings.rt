@@ -4,6 +4,7 @@ ghost use Rattle.std.specs.Prelude.{◌^◌, ◌≤◌, nat_abs};
 ghost use Rattle.vector.specs.Size.{OnSheet};
 
 use segments::Crossing;
+use std::io::Read;
 use vector::GridPoint;
 
 // A signed coordinate of 32 bits; 0 where it is beyond the sheet.

@@ -2,8 +2,13 @@
 // and every byte that is left: the cell sheet, the record of wear, the smallest ring still refused, and how two segments meet.
 // docs/REPLAY.md has the form of the lists.
 
+#![tactic(auto)]
+
 mod crossings;
 
+use std::fs;
+use std::io::{Read, Write};
+use std::rt::Files;
 use words::Tally;
 
 // A cell sheet: the used count, the node list, the bytes of the destination.
@@ -92,25 +97,27 @@ fn records<R: Read>(input: &mut R) -> Tally {
 }
 
 // A file that cannot be opened counts as one that differs.
-fn tally(path: &[u8]) -> Tally {
-    let input = os::open_read(path);
-    if input < 0 {
-        os::fail(path);
-        return Tally::NONE.ran(false);
+fn tally<F: Files, E: Write>(files: &F, errors: &mut E, path: &str) -> Tally {
+    match fs::open(files, path) {
+        Ok(mut list) => records(&mut list),
+        Err(error) => {
+            stream::fail(errors, path, error);
+            Tally::NONE.ran(false)
+        }
     }
-    let t = records(input);
-    libc::close(input);
-    t
 }
 
-fn file(path: &[u8]) {
-    tally(path).print(path);
+fn file<F: Files, W: Write, E: Write>(files: &F, output: &mut W, errors: &mut E, path: &str) {
+    tally(files, errors, path).print(output, path.as_bytes());
 }
 
-fn main() {
-    file(b"sheets.list");
-    file(b"wear.list");
-    file(b"smallest.list");
-    file(b"crossings.list");
-    tally(b"wrong.list").print_told(b"wrong.list");
+fn main(rt: HostRuntime) {
+    let mut output = rt.stdout();
+    let mut errors = rt.stderr();
+    file(&rt, &mut output, &mut errors, "sheets.list");
+    file(&rt, &mut output, &mut errors, "wear.list");
+    file(&rt, &mut output, &mut errors, "smallest.list");
+    file(&rt, &mut output, &mut errors, "crossings.list");
+    let wrong = tally(&rt, &mut errors, "wrong.list");
+    wrong.print_told(&mut output, b"wrong.list");
 }

@@ -1,6 +1,7 @@
 // The entry that a call is of: the examination, one that takes a set of limits, or the practice paper.
 
 use nodes::NodeNumber;
+use std::io::Read;
 use table::Row;
 
 // The kind of the record: 2 the examination, 7 with a set, and its five values, 8 the practice paper.

@@ -3,6 +3,7 @@
 use crate::called::Entry;
 use crate::{State, called};
 use nodes::NodeNumber;
+use std::io::Read;
 
 // What does not fit its list is left out, and shows as a difference.
 pub fn replay_marked<R: Read>(input: &mut R, entry: Entry, nodes: &mut [f64], rims: &mut [u8], s: State) -> State {

@@ -2,11 +2,16 @@
 // value, every node bit, every rim mark, every cell place, every byte read and every byte written. docs/REPLAY.md has the form
 // of the lists.
 
+#![tactic(auto)]
+
 mod called;
 mod leads;
 
 use called::Entry;
 use nodes::NodeNumber;
+use std::fs;
+use std::io::{Read, Write};
+use std::rt::Files;
 use words::Tally;
 
 // The lists of the calls that follow: the places for nodes, how many are used, and the places for rim marks; and the tally
@@ -201,43 +206,51 @@ fn replay<R: Read>(input: &mut R) -> Tally {
 }
 
 // A file that cannot be opened counts as one that differs.
-fn tally(path: &[u8]) -> Tally {
-    let input = os::open_read(path);
-    if input < 0 {
-        os::fail(path);
-        return Tally { ran: 0, differ: 1 };
+fn tally<F: Files, E: Write>(files: &F, errors: &mut E, path: &str) -> Tally {
+    match fs::open(files, path) {
+        Ok(mut list) => replay(&mut list),
+        Err(error) => {
+            stream::fail(errors, path, error);
+            Tally { ran: 0, differ: 1 }
+        }
     }
-    let t = replay(input);
-    libc::close(input);
-    t
 }
 
-fn file(path: &[u8]) -> Tally {
-    let t = tally(path);
-    t.print(path);
+fn file<F: Files, W: Write, E: Write>(
+    files: &F,
+    output: &mut W,
+    errors: &mut E,
+    path: &str,
+) -> Tally {
+    let t = tally(files, errors, path);
+    t.print(output, path.as_bytes());
     t
 }
 
 // The lists of the base: calls, blocks read and blocks written.
-fn of_the_base() -> Tally {
-    let rings = file(b"rings.list");
-    let calls = file(b"calls.list");
-    let read = file(b"blocks.list");
-    let written = file(b"pairs.list");
+fn of_the_base<F: Files, W: Write, E: Write>(files: &F, output: &mut W, errors: &mut E) -> Tally {
+    let rings = file(files, output, errors, "rings.list");
+    let calls = file(files, output, errors, "calls.list");
+    let read = file(files, output, errors, "blocks.list");
+    let written = file(files, output, errors, "pairs.list");
     rings.plus(calls).plus(read).plus(written)
 }
 
 // Those of the other entries, and of rim marks.
-fn of_all_entries() -> Tally {
-    let marked = file(b"marks.list");
-    let sets = file(b"sets.list");
-    let practised = file(b"practice.list");
-    let rimmed = file(b"rims.list");
+fn of_all_entries<F: Files, W: Write, E: Write>(files: &F, output: &mut W, errors: &mut E) -> Tally {
+    let marked = file(files, output, errors, "marks.list");
+    let sets = file(files, output, errors, "sets.list");
+    let practised = file(files, output, errors, "practice.list");
+    let rimmed = file(files, output, errors, "rims.list");
     marked.plus(sets).plus(practised).plus(rimmed)
 }
 
-fn main() {
-    let t = of_the_base();
-    t.plus(of_all_entries()).print(b"total");
-    tally(b"wrong.list").print_told(b"wrong.list");
+fn main(rt: HostRuntime) {
+    let mut output = rt.stdout();
+    let mut errors = rt.stderr();
+    let t = of_the_base(&rt, &mut output, &mut errors);
+    let all = t.plus(of_all_entries(&rt, &mut output, &mut errors));
+    all.print(&mut output, b"total");
+    let wrong = tally(&rt, &mut errors, "wrong.list");
+    wrong.print_told(&mut output, b"wrong.list");
 }

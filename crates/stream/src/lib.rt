@@ -10,8 +10,9 @@
 ghost use Rattle.std.specs.Prelude.{◌≡◌, true, ◌+◌, ◌^◌, ◌≤◌, ◌<◌, length, take};
 ghost use Rattle.std.specs.Io.KnownBytes.{Appends};
 ghost use Rattle.std.specs.Fmt.{decimal};
+ghost use Rattle.stream.specs.Shown.{sixteen};
 
-use std::io::{Error, Read, Write};
+use std::io::{Cursor, Error, Read, Write};
 
 // How much of a block there is after a failed read: part of one, so one byte at least.
 fn part_of(done: usize) -> usize
@@ -106,6 +107,41 @@ pub fn print_decimal<W: Write>(output: &mut W, n: u64) -> bool
 }
 
 // Writes a number in sixteen hexadecimal digits.
-pub fn print_hex<W: Write>(output: &mut W, n: u64) -> bool {
+pub fn print_hex<W: Write>(output: &mut W, n: u64) -> bool
+    ensures { result ≡ true → Appends (W.contents output.old) (W.contents output.new) (sixteen n) }
+{
     write!(output, "{n:016x}").is_ok()
+}
+
+// How much of an error's text stands before its number in brackets.
+fn words_of(text: &[u8]) -> usize
+    ensures { result ≤ length text.now }
+{
+    for i in 1..text.len() {
+        if text[i] == b'(' {
+            return i - 1;
+        }
+    }
+    text.len()
+}
+
+// Says on a line what failed, and why.
+pub fn fail<W: Write>(output: &mut W, what: &str, error: Error) {
+    let mut text = Cursor::new([0u8; 128]);
+    let _ = write!(text, "{error}");
+    let n = text.position() as usize;
+    let bytes = text.into_inner();
+    write_all(output, what.as_bytes());
+    write_all(output, b": ");
+    let said = part(&bytes, n);
+    write_all(output, &said[..words_of(said)]);
+    write_all(output, b"\n");
+}
+
+// The first n bytes of a list, or all of it.
+fn part(bytes: &[u8], n: usize) -> &[u8] {
+    if n < bytes.len() {
+        return &bytes[..n];
+    }
+    bytes
 }
