@@ -219,7 +219,9 @@ fn draw<R: Read, W: Write>(input: &mut R, output: &mut W) -> Ended
         }
         let s = t.state;
         if got == 0 {
-            return finish(output, s, &mut text, &mut ring, &mut chain, &mut out, &mut sent);
+            return finish(
+                output, s, &mut text, &mut ring, &mut chain, &mut out, &mut sent,
+            );
         }
         t = take(
             output, s, byte[0], &mut text, &mut ring, &mut chain, &mut out, &mut sent,
@@ -243,9 +245,21 @@ fn say_more<W: Write>(output: &mut W, wrong: u32) -> u32
     ensures { result ≡ wrong }
 {
     match wrong {
-        25 => say(output, wrong, b"expected no more than 60 points in a ring\n"),
-        26 => say(output, wrong, b"expected no more than 60 points in a chain\n"),
-        27 => say(output, wrong, b"expected no more than one `chain` in a ring\n"),
+        25 => say(
+            output,
+            wrong,
+            b"expected no more than 60 points in a ring\n",
+        ),
+        26 => say(
+            output,
+            wrong,
+            b"expected no more than 60 points in a chain\n",
+        ),
+        27 => say(
+            output,
+            wrong,
+            b"expected no more than one `chain` in a ring\n",
+        ),
         28 => say(
             output,
             wrong,
@@ -282,7 +296,11 @@ fn say_wrong<W: Write>(output: &mut W, wrong: u32) -> u32
             wrong,
             b"expected a sheet size after `ring`, a whole number from 1 to 2048\n",
         ),
-        23 => say(output, wrong, b"expected coordinates from -1024 to 1024 mm\n"),
+        23 => say(
+            output,
+            wrong,
+            b"expected coordinates from -1024 to 1024 mm\n",
+        ),
         24 => say(
             output,
             wrong,

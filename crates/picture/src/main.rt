@@ -152,7 +152,19 @@ fn turn<W: Write>(
     let stepped = step::step(s, frame::block_at(job, i), ring, nodes, rims, cells);
     let told = stepped.told;
     let state = stepped.state;
-    let written = draw_step(output, job, f, told, ring, state.count, nodes, rims, cells, i, sent);
+    let written = draw_step(
+        output,
+        job,
+        f,
+        told,
+        ring,
+        state.count,
+        nodes,
+        rims,
+        cells,
+        i,
+        sent,
+    );
     Moved {
         state,
         sent: written,
@@ -160,7 +172,14 @@ fn turn<W: Write>(
 }
 
 // Writes the nodes that a run has left, after the head and the rings.
-fn draw_nodes<W: Write>(output: &mut W, job: &[u8], nodes: &[f64], rims: &[u8], used: usize, sent: &mut u64) -> bool
+fn draw_nodes<W: Write>(
+    output: &mut W,
+    job: &[u8],
+    nodes: &[f64],
+    rims: &[u8],
+    used: usize,
+    sent: &mut u64,
+) -> bool
     requires { Left job.now used nodes.now rims.now × (sent.old ≡ length (rings_drawn job.now)) × (sent.old ≤ most_rings) }
     ensures { result ≡ true → Wrote (all_drawn job.now) sent.new }
 {

@@ -6,7 +6,13 @@ use nodes::NodeNumber;
 use std::io::Read;
 
 // What does not fit its list is left out, and shows as a difference.
-pub fn replay_marked<R: Read>(input: &mut R, entry: Entry, nodes: &mut [f64], rims: &mut [u8], s: State) -> State {
+pub fn replay_marked<R: Read>(
+    input: &mut R,
+    entry: Entry,
+    nodes: &mut [f64],
+    rims: &mut [u8],
+    s: State,
+) -> State {
     let size = words::word(input);
     let cell_numbers = words::count_to(input, 2048);
     let cell_count = words::word(input) as usize;

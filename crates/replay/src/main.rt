@@ -53,7 +53,13 @@ fn replay_list<R: Read>(input: &mut R, nodes: &mut [f64], marks: &mut [u8], s: S
 }
 
 // What does not fit its list is left out, and shows as a difference.
-fn replay_call<R: Read>(input: &mut R, entry: Entry, nodes: &mut [f64], rims: &mut [u8], s: State) -> State {
+fn replay_call<R: Read>(
+    input: &mut R,
+    entry: Entry,
+    nodes: &mut [f64],
+    rims: &mut [u8],
+    s: State,
+) -> State {
     let size = words::word(input);
     let cell_numbers = words::count_to(input, 2048);
     let cell_count = words::word(input) as usize;
@@ -156,14 +162,22 @@ fn is_call(kind: u32) -> bool {
 }
 
 // A set of limits stands before its call, and after it, or after an 8, whether the call is by a chain or with given marks.
-fn replay_any<R: Read>(input: &mut R, kind: u32, nodes: &mut [f64], rims: &mut [u8], s: State) -> State {
+fn replay_any<R: Read>(
+    input: &mut R,
+    kind: u32,
+    nodes: &mut [f64],
+    rims: &mut [u8],
+    s: State,
+) -> State {
     if kind == 7 {
         let entry = called::read(input);
-        return replay_entry(input, entry, words::word(input), nodes, rims, s);
+        let of = words::word(input);
+        return replay_entry(input, entry, of, nodes, rims, s);
     }
     let entry = called::without_set(kind);
     if kind == 8 {
-        return replay_entry(input, entry, words::word(input), nodes, rims, s);
+        let of = words::word(input);
+        return replay_entry(input, entry, of, nodes, rims, s);
     }
     replay_entry(input, entry, kind, nodes, rims, s)
 }
@@ -237,7 +251,11 @@ fn of_the_base<F: Files, W: Write, E: Write>(files: &F, output: &mut W, errors: 
 }
 
 // Those of the other entries, and of rim marks.
-fn of_all_entries<F: Files, W: Write, E: Write>(files: &F, output: &mut W, errors: &mut E) -> Tally {
+fn of_all_entries<F: Files, W: Write, E: Write>(
+    files: &F,
+    output: &mut W,
+    errors: &mut E,
+) -> Tally {
     let marked = file(files, output, errors, "marks.list");
     let sets = file(files, output, errors, "sets.list");
     let practised = file(files, output, errors, "practice.list");

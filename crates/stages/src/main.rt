@@ -134,10 +134,13 @@ fn print_pieces<W: Write>(output: &mut W, ring: MarkedRing, pieces: PartList)
     let edges = ring.edges;
     let k = pieces.count;
     for i in 0..k {
-        print_piece(output, MarkedRing {
-            ring: parts::piece_points(points, pieces, i),
-            edges: parts::piece_marks(edges, pieces, i),
-        });
+        print_piece(
+            output,
+            MarkedRing {
+                ring: parts::piece_points(points, pieces, i),
+                edges: parts::piece_marks(edges, pieces, i),
+            },
+        );
     }
 }
 

@@ -15,13 +15,12 @@ pub returns-then-nodes_out : goal.returns-then-nodes_out
 returns-then-nodes_out c = λ e. not-both true refl e
 
 pub loop-i-init : goal.loop-i-init
-loop-i-init c =
-    (
-      search rules,
-      usable c.args.nodes.now c.args.used (sym c.nodes_out.ensures ∙ c.if-nodes_out.false),
-      none_written c.args.nodes.now,
-      c.requires,
-    )
+loop-i-init c = (
+  search rules,
+  usable c.args.nodes.now c.args.used (sym c.nodes_out.ensures ∙ c.if-nodes_out.false),
+  none_written c.args.nodes.now,
+  c.requires,
+)
 
 pub put_line-requires : goal.put_line-requires
 put_line-requires c =
