@@ -8,13 +8,13 @@ use native.Mathlib.Omega.{arith}
 use Rattle.picture.proofs.turn.Goals as goal
 
 pub block_at-requires : goal.block_at-requires
-block_at-requires c = let h = c.requires in (h.0.within h.2, omega (arith, h.0.within h.2, h.5))
+block_at-requires g c = let h = c.requires in (h.0.within h.2, omega (arith, h.0.within h.2, h.5))
 
 pub step-stepped-requires : goal.step-stepped-requires
-step-stepped-requires c = let h = c.requires in (can_step _ _ _ _ _ _ h.0, h.4)
+step-stepped-requires g c = let h = c.requires in (can_step _ _ _ _ _ _ h.0, h.4)
 
 pub draw_step-written-requires : goal.draw_step-written-requires
-draw_step-written-requires c =
+draw_step-written-requires g c =
     let a = c.args in
     let h = c.requires in
     let p = c.step-stepped in
@@ -29,7 +29,7 @@ draw_step-written-requires c =
     )
 
 pub returns : goal.returns
-returns c =
+returns g c =
     let a = c.args in
     let h = c.requires in
     let p = c.step-stepped in
