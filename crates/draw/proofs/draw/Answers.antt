@@ -39,7 +39,7 @@ returns-then-got-eq0 g c = c.finish.ensures
 
 pub bounds-byte-0 : goal.bounds-byte-0
 bounds-byte-0 g c =
-    omega (arith, c.read_byte-got.auto.0, c.loop-text.invariant.2)
+    omega (arith, c.read_byte-got.auto.byte, c.loop-text.invariant.2)
 
 pub slice_bounds-take-end : goal.slice_bounds-take-end
 slice_bounds-take-end g c = sym c.loop-text.invariant.0.text_long
@@ -71,7 +71,7 @@ loop-text-preserved g c =
     let p = c.take-t in
     let l = c.loop-text in
     let g = goes l.t c.goes_on.ensures c.loop-text-test.true in
-    (p.ensures.0.kept, λ z. turned (l.invariant.1 g.0) _ g.1 p.ensures.0 _ (p.ensures.1 z), c.read_byte-got.auto.0 ∙ l.invariant.2)
+    (p.ensures.0.kept, λ z. turned (l.invariant.1 g.0) _ g.1 p.ensures.0 _ (p.ensures.1 z), c.read_byte-got.auto.byte ∙ l.invariant.2)
 
 pub returns : goal.returns
 returns g c =

@@ -62,10 +62,10 @@ loop-f-preserved g c =
       p.ensures.0,
       l.invariant.1,
       l.invariant.2,
-      p.auto.1.1.1.1.0 ∙ l.invariant.3,
-      p.auto.1.1.1.1.1.0 ∙ l.invariant.4,
-      p.auto.1.1.1.1.1.1.0 ∙ l.invariant.5,
-      p.auto.1.1.1.1.1.1.1.0 ∙ l.invariant.6,
+      p.auto.ring ∙ l.invariant.3,
+      p.auto.nodes ∙ l.invariant.4,
+      p.auto.rims ∙ l.invariant.5,
+      p.auto.cells ∙ l.invariant.6,
       p.ensures.1 (not-false p.result.sent c.if-not-t.false),
     )
 

@@ -19,13 +19,13 @@ put_node-n-requires g c =
     (omega (arith, few-left _ _ _ _ l.invariant.3, c.loop-i-test.true), search rules)
 
 pub slice_bounds-text-end : goal.slice_bounds-text-end
-slice_bounds-text-end g c = let p = c.put_node-n in omega (arith, fits p.ensures p.auto.0, p.auto.0, length-replicate {A = ℕ} 256 0)
+slice_bounds-text-end g c = let p = c.put_node-n in omega (arith, fits p.ensures p.auto.out, p.auto.out, length-replicate {A = ℕ} 256 0)
 
 pub slice_bounds-send-end : goal.slice_bounds-send-end
 slice_bounds-send-end g c =
     let p = c.put_node-n in
     let n = length-replicate {A = ℕ} 256 0 in
-    part_length p.result 256 _ (p.auto.0 ∙ n) (omega (arith, fits p.ensures p.auto.0, n))
+    part_length p.result 256 _ (p.auto.out ∙ n) (omega (arith, fits p.ensures p.auto.out, n))
 
 pub send-written-requires : goal.send-written-requires
 send-written-requires g c =
@@ -35,7 +35,7 @@ send-written-requires g c =
     let few = few-left _ _ _ _ l.invariant.3 in
     let n = length-replicate {A = ℕ} 256 0 in (
       owes_node _ _ _ _ l.invariant.3 l.i l.sent _ h (record { count = l.invariant.1; bound = omega (arith, l.invariant.2, h, few) }) (front p.ensures),
-      omega (arith, length-take p.result p.new.0, fits p.ensures p.auto.0, n),
+      omega (arith, length-take p.result p.new.out, fits p.ensures p.auto.out, n),
     )
 
 pub returns-then-not-written : goal.returns-then-not-written
@@ -49,7 +49,7 @@ loop-i-preserved g c =
     let n = length-replicate {A = ℕ} 256 0 in (
       search rules,
       more-nodes _ _ _ _ l.invariant.3 l.i l.sent _ _ l.invariant.1 (front p.ensures) q,
-      omega (arith, l.invariant.2, q, length-take p.result p.new.0, fits p.ensures p.auto.0, n),
+      omega (arith, l.invariant.2, q, length-take p.result p.new.out, fits p.ensures p.auto.out, n),
       l.invariant.3,
     )
 

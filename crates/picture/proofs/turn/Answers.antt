@@ -35,7 +35,7 @@ returns g c =
     let p = c.step-stepped in
     let g = c.block_at.ensures in
     let t = turned _ a.i a.s a.ring.now a.nodes.now a.rims.now h.0 h.2 _ g p.result _ _ _ _ p.ensures.0 in (
-      subst (λ (m : ℕ). Reached a.job.now m p.result.state p.new.1.1.0 p.new.1.1.1.0 p.new.1.1.1.1.0)
+      subst (λ (m : ℕ). Reached a.job.now m p.result.state p.new.ring p.new.nodes p.new.rims)
           (sym (add-one a.i)) t,
       λ z. drew _ a.i a.s a.ring.now a.nodes.now a.rims.now h.0 h.2 _ g p.result _ _ _ _ p.ensures.0 _ h.3 a.sent.now _
           h.1 (c.draw_step-written.ensures z),

@@ -16,12 +16,12 @@ pub slice_bounds-read_block-end : goal.slice_bounds-read_block-end
 slice_bounds-read_block-end g c = sym c.loop-ring.invariant.4
 
 pub slice_bounds-bytes-end : goal.slice_bounds-bytes-end
-slice_bounds-bytes-end g c = let q = c.read_block-got in omega (arith, q.ensures, q.auto.1.0, c.loop-ring.invariant.4)
+slice_bounds-bytes-end g c = let q = c.read_block-got in omega (arith, q.ensures, q.auto.bytes, c.loop-ring.invariant.4)
 
 pub slice_bounds-step-end : goal.slice_bounds-step-end
 slice_bounds-step-end g c =
     let q = c.read_block-got in
-    part_length _ 512 _ (q.auto.1.0 ∙ c.loop-ring.invariant.4) q.ensures
+    part_length _ 512 _ (q.auto.bytes ∙ c.loop-ring.invariant.4) q.ensures
 
 pub slice_bounds-step-end-in-loop-ring : goal.slice_bounds-step-end-in-loop-ring
 slice_bounds-step-end-in-loop-ring g c = sym c.loop-ring.invariant.1
@@ -42,7 +42,7 @@ step-stepped-requires g c =
 pub slice_bounds-tell-end : goal.slice_bounds-tell-end
 slice_bounds-tell-end g c =
     sym
-    (c.step-stepped.auto.1.1.1.1.1.0
+    (c.step-stepped.auto.cells
     ∙ c.loop-ring.invariant.5)
 
 pub tell-out-requires : goal.tell-out-requires
@@ -54,8 +54,8 @@ tell-out-requires g c =
     not-true l.s.ended
     (sym g.ensures ∙ c.loop-ring-test.true) in
     let p = c.step-stepped in
-    let b = take q.result q.new.1.0 in
-    let h : length b ≤ 512 = omega (arith, length-take q.result q.new.1.0, q.ensures) in
+    let b = take q.result q.new.bytes in
+    let h : length b ≤ 512 = omega (arith, length-take q.result q.new.bytes, q.ensures) in
     (owes l.s l.ring l.nodes l.rims l.sent l.invariant.0 e b p.ensures.1 h p.result _ _ _ _ p.ensures.0, p.ensures.0.tells)
 
 pub returns-then-out : goal.returns-then-out
@@ -71,8 +71,8 @@ loop-ring-smaller g c =
     (sym g.ensures
     ∙ c.loop-ring-test.true) in
     let p = c.step-stepped in
-    let b = take q.result q.new.1.0 in
-    falls l.s l.ring l.nodes l.rims l.inv.0.reached e b p.ensures.1 p.result.state p.ensures.0.state
+    let b = take q.result q.new.bytes in
+    falls l.s l.ring l.nodes l.rims l.invariant.0.reached e b p.ensures.1 p.result.state p.ensures.0.state
 
 pub loop-ring-preserved : goal.loop-ring-preserved
 loop-ring-preserved g c =
@@ -84,16 +84,16 @@ loop-ring-preserved g c =
     (sym g.ensures
     ∙ c.loop-ring-test.true) in
     let p = c.step-stepped in
-    let b = take q.result q.new.1.0 in
-    let h : length b ≤ 512 = omega (arith, length-take q.result q.new.1.0, q.ensures) in
+    let b = take q.result q.new.bytes in
+    let h : length b ≤ 512 = omega (arith, length-take q.result q.new.bytes, q.ensures) in
     let o = c.tell-out in (
-      wrote l.s l.ring l.nodes l.rims l.sent l.inv.0 e b p.ensures.1 h p.result _ _ _ _ p.ensures.0 _
+      wrote l.s l.ring l.nodes l.rims l.sent l.invariant.0 e b p.ensures.1 h p.result _ _ _ _ p.ensures.0 _
           (o.ensures.1 c.if-out.false),
-      p.auto.1.1.0 ∙ l.inv.1,
-      p.auto.1.1.1.0 ∙ l.inv.2,
-      p.auto.1.1.1.1.0 ∙ l.inv.3,
-      q.auto.1.0 ∙ l.inv.4,
-      p.auto.1.1.1.1.1.0 ∙ l.inv.5,
+      p.auto.ring ∙ l.invariant.1,
+      p.auto.nodes ∙ l.invariant.2,
+      p.auto.rims ∙ l.invariant.3,
+      q.auto.bytes ∙ l.invariant.4,
+      p.auto.cells ∙ l.invariant.5,
     )
 
 pub returns : goal.returns

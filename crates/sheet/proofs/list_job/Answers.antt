@@ -15,12 +15,12 @@ pub slice_bounds-read_block-end : goal.slice_bounds-read_block-end
 slice_bounds-read_block-end g c = sym c.loop-ring.invariant.4
 
 pub slice_bounds-bytes-end : goal.slice_bounds-bytes-end
-slice_bounds-bytes-end g c = let q = c.read_block-got in omega (arith, q.ensures, q.auto.1.0, c.loop-ring.invariant.4)
+slice_bounds-bytes-end g c = let q = c.read_block-got in omega (arith, q.ensures, q.auto.bytes, c.loop-ring.invariant.4)
 
 pub slice_bounds-step-end : goal.slice_bounds-step-end
 slice_bounds-step-end g c =
     let q = c.read_block-got in
-    part_length _ 512 _ (q.auto.1.0 ∙ c.loop-ring.invariant.4) q.ensures
+    part_length _ 512 _ (q.auto.bytes ∙ c.loop-ring.invariant.4) q.ensures
 
 pub slice_bounds-step-end-in-loop-ring : goal.slice_bounds-step-end-in-loop-ring
 slice_bounds-step-end-in-loop-ring g c = sym c.loop-ring.invariant.1
@@ -47,8 +47,8 @@ loop-ring-smaller g c =
     not-true l.s.ended
     (sym g.ensures ∙ c.loop-ring-test.true) in
     let p = c.step-stepped in
-    let b = take q.result q.new.1.0 in
-    let h : length b ≤ 512 = omega (arith, length-take q.result q.new.1.0, q.ensures) in
+    let b = take q.result q.new.bytes in
+    let h : length b ≤ 512 = omega (arith, length-take q.result q.new.bytes, q.ensures) in
     falls l.s l.ring l.nodes l.rims l.invariant.0 e b p.ensures.1 p.result.state p.ensures.0.state
 
 pub loop-ring-preserved : goal.loop-ring-preserved
@@ -60,14 +60,14 @@ loop-ring-preserved g c =
     not-true l.s.ended
     (sym g.ensures ∙ c.loop-ring-test.true) in
     let p = c.step-stepped in
-    let b = take q.result q.new.1.0 in
-    let h : length b ≤ 512 = omega (arith, length-take q.result q.new.1.0, q.ensures) in (
+    let b = take q.result q.new.bytes in
+    let h : length b ≤ 512 = omega (arith, length-take q.result q.new.bytes, q.ensures) in (
       turned l.s l.ring l.nodes l.rims l.invariant.0 e b p.ensures.1 h p.result _ _ _ _ p.ensures.0,
-      p.auto.1.1.0 ∙ l.invariant.1,
-      p.auto.1.1.1.0 ∙ l.invariant.2,
-      p.auto.1.1.1.1.0 ∙ l.invariant.3,
-      q.auto.1.0 ∙ l.invariant.4,
-      p.auto.1.1.1.1.1.0 ∙ l.invariant.5,
+      p.auto.ring ∙ l.invariant.1,
+      p.auto.nodes ∙ l.invariant.2,
+      p.auto.rims ∙ l.invariant.3,
+      q.auto.bytes ∙ l.invariant.4,
+      p.auto.cells ∙ l.invariant.5,
     )
 
 pub slice_bounds-print_sheet-end : goal.slice_bounds-print_sheet-end

@@ -30,7 +30,7 @@ put_line-requires g c =
     (omega (arith, u.few, h), omega (arith, u.room, h), (u.ranged l.i h).0, (u.ranged l.i h).1, search rules)
 
 pub slice_bounds-send-end : goal.slice_bounds-send-end
-slice_bounds-send-end g c = sym c.put_line.auto.0
+slice_bounds-send-end g c = sym c.put_line.auto.out
 
 pub send-written-requires : goal.send-written-requires
 send-written-requires g c =
@@ -39,7 +39,7 @@ send-written-requires g c =
     let u = l.invariant.1 in
     let h = c.loop-i-test.true in
     let p = c.put_line in
-    let t = whole-line a.nodes.now l.i (omega (arith, u.few, h)) _ _ _ p.ensures p.auto.0 in
+    let t = whole-line a.nodes.now l.i (omega (arith, u.few, h)) _ _ _ p.ensures p.auto.out in
     record {
       nodes = a.nodes.now;
       used = a.used;
@@ -62,7 +62,7 @@ loop-i-preserved g c =
     let u = l.invariant.1 in
     let h = c.loop-i-test.true in
     let p = c.put_line in
-    let t = whole-line a.nodes.now l.i (omega (arith, u.few, h)) _ _ _ p.ensures p.auto.0 in (
+    let t = whole-line a.nodes.now l.i (omega (arith, u.few, h)) _ _ _ p.ensures p.auto.out in (
       search rules,
       u,
       more-lines a.nodes.now l.i l.sent _ _ l.invariant.2 t (c.send-written.ensures (not-false c.send-written.result c.if-not-written.false-raw)),

@@ -11,7 +11,7 @@ use native.Mathlib.Omega.{arith}
 use Rattle.telling.proofs.write_told.Goals as goal
 
 pub slice_bounds-send-end : goal.slice_bounds-send-end
-slice_bounds-send-end g c = let p = c.print-n in part_length p.result most_text _ p.auto.1.1.0 p.ensures.room
+slice_bounds-send-end g c = let p = c.print-n in part_length p.result most_text _ p.auto.text p.ensures.room
 
 pub send-requires : goal.send-requires
 send-requires g c =
