@@ -1,5 +1,5 @@
 use Prim.Native.Nat.{◌-◌}
-use mathlib.Core.Path.{refl}
+use mathlib.Core.Path.{refl, ap}
 use mathlib.Core.Bool.{not}
 use borrow.Author.Rules.{rules}
 use Rattle.clean_steps.specs.Choices.{bent_places, chosen}

@@ -8,7 +8,7 @@ use Rattle.keys.specs.Keys.{key_of}
 use Rattle.nodes.specs.Flat.{has_at}
 use Rattle.nodes.proofs.Scan.{has-is, not-near}
 use Rattle.numbering.proofs.find_in.Goals as goal
-use Rattle.numbering.proofs.find_in.Goals.{Joined-is_near, then-is_near+else-has_key, else-is_near, then-is_near+else-has_key, else-is_near}
+use Rattle.numbering.proofs.find_in.Goals.{Joined-is_near, then-is_near+else-has_key, else-is_near}
 
 pub loop-i-init : goal.loop-i-init
 loop-i-init c = (search rules, refl)
