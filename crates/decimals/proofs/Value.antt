@@ -41,6 +41,8 @@ unfolding ten_thousandths
 value-is (fin t m e) s a c C v =
     half-same (m * up e * 10000) (down e) (a * 10000) c (down_pos e) C
     (mul_right_comm (m * up e) 10000 c ∙ ap (λ (z : ℕ). z * 10000) v.1 ∙ mul_right_comm a (down e) 10000)
+value-is nan s a c C v = elim v [ ]
+value-is (inf _) s a c C v = elim v [ ]
 
 value_none : (x : Float) (s : Bool) (a B c : ℕ) → 0 < c → HasValue x s a c → a < B → c ≡ 32768 * B → ten_thousandths x ≡ 0
 value_none x s a B c C v h e = value-is x s a c C v ∙ half-none (a * 10000) c C (omega arith)
@@ -148,6 +150,8 @@ below-zero (fin true zero e) f h = absurd (go (half-none (0 * up e * 10000) (dow
     go : {n : ℕ} → n ≡ 0 → 0 < n → ⊥
     go e h = omega arith
 below-zero (fin true (suc m) e) f h = lt-ltb 0 (suc m * up e * 1 + 0 * 1 * down e) (omega (arith, up_pos e, suc-mul m (up e)))
+below-zero nan f h = elim f [ ]
+below-zero (inf _) f h = elim f [ ]
 
 pub the_minus : (x : Float) (n : ℕ) → Within 1024 x → n ≡ ten_thousandths x → (n ≡ 0 → ⊥) → lt x +0 ≡ minus x
 unfolding minus

@@ -46,10 +46,10 @@ returns-then-bytes-lt512 c =
     c.refused.ensures ∙ part s.bytes.now s.number c.if-bytes-lt512.true
 
 pub returns-then-check-word : goal.returns-then-check-word
-returns-then-check-word c = c.refused-then-check-word.ensures ∙ torn-at c.before
+returns-then-check-word c = c.refused-then-check-word.ensures ∙ torn-at (goal.at.returns-then-check-word c).Then-check-word
 
 pub returns-then-head_wrong : goal.returns-then-head_wrong
-returns-then-head_wrong c = c.refused-then-head_wrong.ensures ∙ head_at c.before
+returns-then-head_wrong c = c.refused-then-head_wrong.ensures ∙ head_at (goal.at.returns-then-head_wrong c).Then-head_wrong
 
 pub unused_wrong-requires : goal.unused_wrong-requires
 unused_wrong-requires c =
@@ -59,18 +59,16 @@ unused_wrong-requires c =
     (search rules, c.byte-count.ensures.0, omega arith)
 
 pub returns-then-unused_wrong : goal.returns-then-unused_wrong
-returns-then-unused_wrong c = c.refused-then-unused_wrong.ensures ∙ unused-at c.before
+returns-then-unused_wrong c = c.refused-then-unused_wrong.ensures ∙ unused-at (goal.at.returns-then-unused_wrong c).Then-unused_wrong
 
 pub returns-then-number-eq0 : goal.returns-then-number-eq0
 returns-then-number-eq0 c =
-    let k = c.before.before.before in
     let s = c.args in
     ring-said s.bytes.now s.number c.byte-count.result c.pair.result c.read_points-points.result c.if-number-eq0.true
-    c.byte-count.ensures.0 c.pair.ensures.0 c.read_points-points.ensures ∙ good-at k
+    c.byte-count.ensures.0 c.pair.ensures.0 c.read_points-points.ensures ∙ good-at (goal.at.returns-then-number-eq0 c).Else-unused_wrong
 
 pub returns : goal.returns
 returns c =
-    let k = c.before.before in
     let s = c.args in
     chain-said s.bytes.now s.number c.byte-count.result c.read_points-points.result c.if-number-eq0.false
-    c.byte-count.ensures.0 c.read_points-points.ensures ∙ good-at k
+    c.byte-count.ensures.0 c.read_points-points.ensures ∙ good-at (goal.at.returns c).Else-unused_wrong

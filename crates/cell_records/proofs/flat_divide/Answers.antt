@@ -34,30 +34,28 @@ divide_with-a-requires c =
 
 pub placed-requires : goal.placed-requires
 placed-requires c =
-    let s = c.before.before.before.before.before.before.before.before.before.before.before.before in
     let a = c.args in
     let L = c.on_delivery-limits in
     let d = c.divide_with-a in
     let cs = replicate a.cell-places no_cell in
     let n = length-replicate a.cell-places no_cell in
     let f = most-cuts L.result L.ensures in (
-      sum_fits L.result f (replicate 496 0) refl (lent s cs) (values d.result) _ _ _ (d.ensures cs n) (omega (arith, n, c.ranges.cell-places))
+      sum_fits L.result f (replicate 496 0) refl (lent (goal.at.placed-requires c).Start cs) (values d.result) _ _ _ (d.ensures cs n) (omega (arith, n, c.ranges.cell-places))
           c.ranges.cell_count.fits,
-      counts_in L.result f (replicate 496 0) refl (lent s cs) (values d.result) _ _ _ (d.ensures cs n),
+      counts_in L.result f (replicate 496 0) refl (lent (goal.at.placed-requires c).Start cs) (values d.result) _ _ _ (d.ensures cs n),
     )
 
 pub returns : goal.returns
 returns c =
-    let s = c.before.before.before.before.before.before.before.before.before.before.before.before.before in
     let a = c.args in
     let L = c.on_delivery-limits in
     let d = c.divide_with-a in
     let cs = replicate a.cell-places no_cell in
     let n = length-replicate a.cell-places no_cell in
     let f = most-cuts L.result L.ensures in
-    let g = laid-fits L.result f (replicate 496 0) refl (lent s cs) (values d.result) _ _ _ (d.ensures cs n) c.placed.result
+    let g = laid-fits L.result f (replicate 496 0) refl (lent (goal.at.returns c).Start cs) (values d.result) _ _ _ (d.ensures cs n) c.placed.result
     c.placed.ensures in (
-      (λ cells e. laid-numbers L.result f (replicate 496 0) refl (lent s cells) (values d.result) _ _ _ (d.ensures cells e) c.placed.result
+      (λ cells e. laid-numbers L.result f (replicate 496 0) refl (lent (goal.at.returns c).Start cells) (values d.result) _ _ _ (d.ensures cells e) c.placed.result
           c.placed.ensures delivered L.ensures),
       g.0,
       (λ h. omega (arith, g.1 h, n)),

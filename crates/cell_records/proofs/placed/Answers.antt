@@ -23,5 +23,5 @@ pub returns : goal.returns
 returns c =
     let s = c.args in
     let v = c.new in
-    (λ j. record { numbers = s.numbers; at = s.at; count = counted c.before j; values = with_cells v.result (s.at + v.result.cells) })
+    (λ j. record { numbers = s.numbers; at = s.at; count = counted (goal.at.returns c).Joined-v-eq8 j; values = with_cells v.result (s.at + v.result.cells) })
     ∙ ap (λ (v : Row). laid_of v s.numbers s.at (cell_reserve s.limits s.own)) v.ensures

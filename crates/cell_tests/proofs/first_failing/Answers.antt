@@ -42,11 +42,11 @@ holds-requires c =
 
 pub returns-then-not-holds : goal.returns-then-not-holds
 returns-then-not-holds c =
-    sym (first_hit _ _ _ c.loop-k-test.true (tested c.before ∙ c.if-not-holds.true-raw)) ∙ c.loop-k.invariant.1
+    sym (first_hit _ _ _ c.loop-k-test.true (tested (goal.at.returns-then-not-holds c).After-holds ∙ c.if-not-holds.true-raw)) ∙ c.loop-k.invariant.1
 
 pub loop-k-preserved : goal.loop-k-preserved
 loop-k-preserved c =
-    (search rules, sym (first-pass _ _ _ c.loop-k-test.true (tested c.before ∙ c.if-not-holds.false-raw)) ∙ c.loop-k.invariant.1)
+    (search rules, sym (first-pass _ _ _ c.loop-k-test.true (tested (goal.at.loop-k-preserved c).After-holds ∙ c.if-not-holds.false-raw)) ∙ c.loop-k.invariant.1)
 
 pub returns : goal.returns
 returns c =

@@ -25,7 +25,7 @@ tests c =
     (c.node_at-r.ensures ∙ g _ h.c) (c.node_at-s.ensures ∙ g _ h.d)
 
 pub returns-then-quad_positive : goal.returns-then-quad_positive
-returns-then-quad_positive c = let u = c.before.before in c.all_distinct.ensures ∙ sym (rw (sym c.quad_positive.ensures ∙ c.if-quad_positive.true)) ∙ tests u
+returns-then-quad_positive c = c.all_distinct.ensures ∙ sym (rw (sym c.quad_positive.ensures ∙ c.if-quad_positive.true)) ∙ tests (goal.at.returns-then-quad_positive c).After-quad_positive
 
 pub returns : goal.returns
-returns c = let u = c.before in sym (rw (sym c.quad_positive.ensures ∙ c.if-quad_positive.false)) ∙ tests u
+returns c = sym (rw (sym c.quad_positive.ensures ∙ c.if-quad_positive.false)) ∙ tests (goal.at.returns c).After-quad_positive

@@ -1,7 +1,6 @@
 use Prim.Native.Nat.{◌+◌, ◌-◌}
 use native.Mathlib.Omega.{arith}
 use mathlib.Core.Path.{◌≡◌, sym, ◌∙◌}
-use mathlib.Core.Logic.{⊎_elim}
 use lib.ListN.{length, take}
 use lib.Seq.{length-take-le, get_or-take}
 use lib.Ieee.{nan, round, of_bits}
@@ -18,7 +17,7 @@ use Rattle.chain.specs.Chain as Chain
 use Rattle.chain.proofs.Turning as turning
 use Rattle.chain.proofs.Collect.{Collected, none, kept-first, kept_more, kept_same, kept_whole}
 use Rattle.chain.proofs.simplify_chain.Goals as goal
-use Rattle.chain.proofs.simplify_chain.Goals.{After-stays, Joined-stays}
+use Rattle.chain.proofs.simplify_chain.Goals.{After-stays, Joined-stays, then-stays, else-stays}
 
 -- whether the point at hand stays
 staying : (c : After-stays) →
@@ -38,16 +37,14 @@ joined c =
     let ps = c.args.chain.points in
     let r = take n ps in
     let arc = c.measure-l.result.arc in
-    ⊎_elim
-    (λ w.
+    elim c.if-stays.branch [ then-stays w ↦
     let u = read_tab arc (Arclength.arc r) n o.previous nan o.invariant.4 (omega arith) in
     let v = read_tab arc (Arclength.arc r) n o.i nan o.invariant.4 (omega arith) in
-    rw (w.4, w.5, w.6, w.7)
-    (kept_more r o.points o.snaps o.count o.previous o.i o.invariant.5 (omega arith) (sym (staying c.before) ∙ w.0.taken)
+    rw (w.points-is, w.snaps-is, w.count-is, w.previous-is)
+    (kept_more r o.points o.snaps o.count o.previous o.i o.invariant.5 (omega arith) (sym (staying c.before) ∙ w.if-stays.true)
     _ (sym (get_or-take n ps o.i origin (omega arith))) (o.invariant.3.points o.i)
-    _ (w.2.ensures ∙ (λ j. point_at_arclength r (lit 5 1 *f (u j +f v j))))))
-    (λ w. rw (w.1, w.2, w.3, w.4) (kept_same r o.points o.snaps o.count o.previous o.i o.invariant.5 (sym (staying c.before) ∙ w.0.left)))
-    c.if-stays.branch
+    _ (w.point_at_arclength.ensures ∙ (λ j. point_at_arclength r (lit 5 1 *f (u j +f v j)))))
+    | else-stays w ↦ rw (w.points-is, w.snaps-is, w.count-is, w.previous-is) (kept_same r o.points o.snaps o.count o.previous o.i o.invariant.5 (sym (staying c.before) ∙ w.if-stays.false)) ]
 
 pub returns-then-n-eq0 : goal.returns-then-n-eq0
 unfolding of_bits

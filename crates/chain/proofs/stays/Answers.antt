@@ -22,10 +22,10 @@ pub returns-then-last : goal.returns-then-last
 returns-then-last c = rw c.if-last.true
 
 pub returns-then-is_zero : goal.returns-then-is_zero
-returns-then-is_zero c = rw (c.if-last.false, ← in-zero c.before, c.if-is_zero.true)
+returns-then-is_zero c = rw (c.if-last.false, ← in-zero (goal.at.returns-then-is_zero c).After-is_zero, c.if-is_zero.true)
 
 pub returns-then-is_zero-2 : goal.returns-then-is_zero-2
-returns-then-is_zero-2 c = rw (c.if-last.false, ← in-zero c.before.before.before, c.if-is_zero.false, ← out-zero c.before, c.if-is_zero-2.true)
+returns-then-is_zero-2 c = rw (c.if-last.false, ← in-zero (goal.at.returns-then-is_zero-2 c).After-is_zero, c.if-is_zero.false, ← out-zero (goal.at.returns-then-is_zero-2 c).After-is_zero-2, c.if-is_zero-2.true)
 
 pub cosine-requires : goal.cosine-requires
 unfolding grid_dist
@@ -39,5 +39,5 @@ unfolding lit round of_bits
 returns c =
     let u = c.sub-u.ensures.0 in
     let v = c.sub-v.ensures.0 in
-    rw (c.if-last.false, ← in-zero c.before.before.before.before, c.if-is_zero.false, ← out-zero c.before.before, c.if-is_zero-2.false)
+    rw (c.if-last.false, ← in-zero (goal.at.returns c).After-is_zero, c.if-is_zero.false, ← out-zero (goal.at.returns c).After-is_zero-2, c.if-is_zero-2.false)
     (ap (λ (x : Float). x <f lit 9063077870366499 16) (c.cosine.ensures ∙ (λ i. Cosine.cosine (u i) (v i))))

@@ -1,3 +1,4 @@
+use mir.Syntax.{w32}
 use mir.Facts.{to_z-of_z}
 use Prim.Native.Nat.{◌-◌}
 use mathlib.Core.Path.{◌≡◌}
@@ -18,7 +19,7 @@ loop-i-preserved c =
       omega arith,
       simp length-set (search rules),
       choose-more c.args.ring.now c.args.choice l.i l.points l.count l.rest _ _ (omega arith) l.invariant.3 l.invariant.4
-          (to_z-of_z (record { sfits = c.points-1.given })) (to_z-of_z (record { sfits = c.points-in-loop-i-1.given })),
+          (to_z-of_z {w = w32} (record { sfits = c.points-1.given })) (to_z-of_z {w = w32} (record { sfits = c.points-in-loop-i-1.given })),
       rest_more c.args.choice l.i l.rest l.invariant.4,
     )
 

@@ -1,13 +1,13 @@
 use Prim.Native.Nat.{◌-◌}
 use native.Mathlib.Omega.{arith}
 use mathlib.Core.Path.{refl}
-use mathlib.Core.Logic.{⊎_elim}
 use borrow.Author.Rules.{rules}
 use Rattle.clean_steps.specs.Choices.{spaced_places, chosen}
 use Rattle.clean_steps.proofs.Choices.{place-fits, offset_fits}
 use Rattle.clean_steps.proofs.Filter.{done}
 use Rattle.clean_steps.proofs.Turns.{spaced-start, spaced-keep, spaced_skip}
 use Rattle.clean_steps.proofs.spaced.Goals as goal
+use Rattle.clean_steps.proofs.spaced.Goals.{then-not-near, else-not-near}
 
 pub loop-i-init : goal.loop-i-init
 loop-i-init c = (spaced-start c.args.tol c.args.ring c.args.r c.requires.0 c.requires.1, search rules, refl)
@@ -34,22 +34,17 @@ pub loop-i-preserved : goal.loop-i-preserved
 loop-i-preserved c =
     let l = c.loop-i in
     let n = c.near in
-    ⊎_elim
-    (λ w.
-    rw (w.1, w.2) (
+    elim c.if-not-near.branch [ then-not-near w ↦ rw (w.out-is, w.k-is) (
       spaced-keep c.args.tol c.args.ring c.args.r l.out.places l.k l.i c.requires.0 l.invariant.0 c.loop-i-test.true l.invariant.1
-          n.result n.ensures w.0.taken,
+          n.result n.ensures w.if-not-near.true,
       omega arith,
       refl,
-    ))
-    (λ w.
-    rw (w.1, w.2) (
+    ) | else-not-near w ↦ rw (w.out-is, w.k-is) (
       spaced_skip c.args.tol c.args.ring c.args.r l.out.places l.k l.i c.requires.0 l.invariant.0 c.loop-i-test.true l.invariant.1
-          n.result n.ensures w.0.left,
+          n.result n.ensures w.if-not-near.false,
       l.invariant.1,
       refl,
-    ))
-    c.if-not-near.branch
+    ) ]
 
 pub returns : goal.returns
 returns c =

@@ -9,6 +9,7 @@ use Rattle.laws.proofs.Signed as signed
 use Rattle.corner.specs.Corner as Corners
 use Rattle.corner.proofs.Quadrants as quadrants
 use Rattle.corner.proofs.measure.Goals as goal
+use Rattle.corner.proofs.measure.Goals.{After-quotient-q}
 
 pub returns-then-is_zero : goal.returns-then-is_zero
 unfolding Corners.measure Corners.by_quadrant of_bits of_int
@@ -21,47 +22,44 @@ returns-then-is_zero-2 c =
     rw (← c.is_zero-2.ensures, ← c.is_zero.ensures, z, c.if-is_zero-2.true)
 
 -- what is known once the quotient is there, of the steps into and out of the corner
-into : goal.After-quotient-q → GridPoint
+into : After-quotient-q → GridPoint
 into c = c.args.u
 
-out : goal.After-quotient-q → GridPoint
+out : After-quotient-q → GridPoint
 out c = c.args.v
 
-in-moves : (c : goal.After-quotient-q) → Grid.same (into c) Grid.origin ≡ false
+in-moves : (c : After-quotient-q) → Grid.same (into c) Grid.origin ≡ false
 unfolding into
 in-moves c = sym c.is_zero.ensures ∙ c.if-is_zero.false
 
-out-moves : (c : goal.After-quotient-q) → Grid.same (out c) Grid.origin ≡ false
+out-moves : (c : After-quotient-q) → Grid.same (out c) Grid.origin ≡ false
 unfolding out
 out-moves c = sym c.is_zero-2.ensures ∙ c.if-is_zero-2.false
 
-cross-is : (c : goal.After-quotient-q) → signed.r64 c.cross-s.result ≡ Grid.cross (into c) (out c)
+cross-is : (c : After-quotient-q) → signed.r64 c.cross-s.result ≡ Grid.cross (into c) (out c)
 unfolding into out
 cross-is c = let r = c.cross-s in signed.back r.result (omega (arith, r.ensures.1)) ∙ r.ensures.0
 
-dot-is : (c : goal.After-quotient-q) → signed.r64 c.dot-c.result ≡ Grid.dot (into c) (out c)
+dot-is : (c : After-quotient-q) → signed.r64 c.dot-c.result ≡ Grid.dot (into c) (out c)
 unfolding into out
 dot-is c = let r = c.dot-c in signed.back r.result (omega (arith, r.ensures.1)) ∙ r.ensures.0
 
 pub returns-then-non_neg : goal.returns-then-non_neg
 unfolding into out of_bits of_int
 returns-then-non_neg c =
-    let q = c.before.before in
-    quadrants.ahead _ _ (in-moves q) (out-moves q) _ _ (cross-is q) (dot-is q) _ c.quotient-q.ensures
+    quadrants.ahead _ _ (in-moves (goal.at.returns-then-non_neg c).After-quotient-q) (out-moves (goal.at.returns-then-non_neg c).After-quotient-q) _ _ (cross-is (goal.at.returns-then-non_neg c).After-quotient-q) (dot-is (goal.at.returns-then-non_neg c).After-quotient-q) _ c.quotient-q.ensures
     (sym c.non_neg.ensures ∙ c.if-non_neg.true)
 
 pub returns-then-non_neg-2 : goal.returns-then-non_neg-2
 unfolding into out of_bits of_int
 returns-then-non_neg-2 c =
-    let q = c.before.before.before.before in
-    quadrants.left _ _ (in-moves q) (out-moves q) _ _ (cross-is q) (dot-is q) _ c.quotient-q.ensures
+    quadrants.left _ _ (in-moves (goal.at.returns-then-non_neg-2 c).After-quotient-q) (out-moves (goal.at.returns-then-non_neg-2 c).After-quotient-q) _ _ (cross-is (goal.at.returns-then-non_neg-2 c).After-quotient-q) (dot-is (goal.at.returns-then-non_neg-2 c).After-quotient-q) _ c.quotient-q.ensures
     (sym c.non_neg.ensures ∙ c.if-non_neg.false)
     (sym c.non_neg-2.ensures ∙ c.if-non_neg-2.true)
 
 pub returns : goal.returns
 unfolding into out of_bits of_int
 returns c =
-    let q = c.before.before.before.before in
-    quadrants.right _ _ (in-moves q) (out-moves q) _ _ (cross-is q) (dot-is q) _ c.quotient-q.ensures
+    quadrants.right _ _ (in-moves (goal.at.returns c).After-quotient-q) (out-moves (goal.at.returns c).After-quotient-q) _ _ (cross-is (goal.at.returns c).After-quotient-q) (dot-is (goal.at.returns c).After-quotient-q) _ c.quotient-q.ensures
     (sym c.non_neg.ensures ∙ c.if-non_neg.false)
     (sym c.non_neg-2.ensures ∙ c.if-non_neg-2.false)

@@ -1,5 +1,4 @@
 use Prim.Native.Nat.{◌+◌, ◌-◌, ◌<◌}
-use mathlib.Core.Logic.{⊎_elim}
 use mathlib.Core.List.{List}
 use mathlib.Core.Path.{◌≡◌, refl, sym, ap, ◌∙◌}
 use native.Mathlib.Omega.{arith}
@@ -12,14 +11,14 @@ use Rattle.vector.proofs.Rings as rings
 use Rattle.corner.specs.Corner as Corners
 use Rattle.corner.proofs.Scan as scan
 use Rattle.corner.proofs.worst.Goals as goal
+use Rattle.corner.proofs.worst.Goals.{After-corner_at-m, At-loop-i, Joined-most-m, then-most-m, else-most-m}
 
-points : (c : goal.At-loop-i) → List GridPoint
+points : (c : At-loop-i) → List GridPoint
 points c = points_of c.args.part
 
 -- the measure of the corner at hand
-measured : (c : goal.After-corner_at-m) →
-    let l = c.before.before.before.before.before.before in
-    c.corner_at-m.result ≡ Corners.measure_at (points l) c.loop-i.i
+measured : (c : After-corner_at-m) →
+    c.corner_at-m.result ≡ Corners.measure_at (points c.before.before.before.before.before.before) c.loop-i.i
 unfolding points
 measured c =
     let h = rings.room c.args.part c.requires.0 in
@@ -31,28 +30,22 @@ measured c =
     (rings.at_next ps n h (omega arith) i _ c.next-in-loop-i.ensures.0) _ c.corner_at-m.ensures
 
 -- the worst after the turn, by whether the corner at hand was taken
-joined : (c : goal.Joined-most-m) →
-    let l = c.before.before.before.before.before.before.before in
-    (c.if-most-m.at < c.loop-i.i + 1) × (c.if-most-m.at ≡ Corners.worst_to (points l) (c.loop-i.i + 1 - 1)) × (c.if-most-m.most ≡ Corners.measure_at (points l) c.if-most-m.at)
+joined : (c : Joined-most-m) →
+    (c.if-most-m.at < c.loop-i.i + 1) × (c.if-most-m.at ≡ Corners.worst_to (points c.before.before.before.before.before.before.before) (c.loop-i.i + 1 - 1)) × (c.if-most-m.most ≡ Corners.measure_at (points c.before.before.before.before.before.before.before) c.if-most-m.at)
 unfolding points
 joined c =
-    let k = c.before in
-    let e = measured k in
-    let l = c.before.before.before.before.before.before.before in
+    let e = measured c.before in
     let o = c.loop-i in
-    let r = points l in
-    ⊎_elim
-    (λ w. (
-      omega (arith, w.1),
-      w.1 ∙ scan.taken r o.i o.at (omega arith) o.most c.corner_at-m.result o.invariant.5 o.invariant.6 e w.0.taken,
-      w.2 ∙ e ∙ ap (Corners.measure_at r) (sym w.1),
-    ))
-    (λ w. (
-      omega (arith, w.1),
-      w.1 ∙ scan.passed r o.i o.at (omega arith) o.most c.corner_at-m.result o.invariant.5 o.invariant.6 e w.0.left,
-      w.2 ∙ o.invariant.6 ∙ ap (Corners.measure_at r) (sym w.1),
-    ))
-    c.if-most-m.branch
+    let r = points c.before.before.before.before.before.before.before in
+    elim c.if-most-m.branch [ then-most-m w ↦ (
+      omega (arith, w.at-is),
+      w.at-is ∙ scan.taken r o.i o.at (omega arith) o.most c.corner_at-m.result o.invariant.5 o.invariant.6 e w.if-most-m.true,
+      w.most-is ∙ e ∙ ap (Corners.measure_at r) (sym w.at-is),
+    ) | else-most-m w ↦ (
+      omega (arith, w.at-is),
+      w.at-is ∙ scan.passed r o.i o.at (omega arith) o.most c.corner_at-m.result o.invariant.5 o.invariant.6 e w.if-most-m.false,
+      w.most-is ∙ o.invariant.6 ∙ ap (Corners.measure_at r) (sym w.at-is),
+    ) ]
 
 pub corner_at-most-requires : goal.corner_at-most-requires
 corner_at-most-requires c = let all = c.requires.0.points in (all _, all _, all _)

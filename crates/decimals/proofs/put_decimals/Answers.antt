@@ -16,7 +16,7 @@ pub returns-then-m : goal.returns-then-m
 unfolding decimals bytes
 returns-then-m c =
     let p = c.put_filled in
-    subst (λ (b : Bool). Written c.args.out.now c.args.at (decimals b c.args.n) p.result p.new.0)
+    subst (λ (b : Bool). Written c.args.out.now c.args.at (decimals b c.args.n) p.result p.new.out)
     (sym c.if-m.true) p.ensures
 
 pub put_filled-requires-2 : goal.put_filled-requires-2
@@ -28,5 +28,5 @@ pub returns : goal.returns
 unfolding decimals bytes
 returns c =
     let p = c.put_filled-2 in
-    subst (λ (b : Bool). Written c.args.out.now c.args.at (decimals b c.args.n) p.result p.new.0)
+    subst (λ (b : Bool). Written c.args.out.now c.args.at (decimals b c.args.n) p.result p.new.out)
     (sym c.if-m.false) p.ensures

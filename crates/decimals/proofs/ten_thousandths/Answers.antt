@@ -19,13 +19,13 @@ next : (f : ℕ) → 1008 ≤ f → f ≡ suc (f - 1)
 next f h = omega arith
 
 most : (c : Else-f-lt1008) → field c.args.x - 1 ≤ 1032
-most c = let s = c.before in field-le c.args.x (own s) c.requires (field c.args.x - 1) (next (field c.args.x) c.if-f-lt1008.false)
+most c = field-le c.args.x (own c.before) c.requires (field c.args.x - 1) (next (field c.args.x) c.if-f-lt1008.false)
 
 pub float_to_bits-b : goal.float_to_bits-b
 float_to_bits-b c = within_real 1024 c.args.x c.requires
 
 pub returns-then-f-lt1008 : goal.returns-then-f-lt1008
-returns-then-f-lt1008 c = let s = c.before in low_field c.args.x (own s) c.if-f-lt1008.true
+returns-then-f-lt1008 c = low_field c.args.x (own (goal.at.returns-then-f-lt1008 c).Start) c.if-f-lt1008.true
 
 pub overflow_sub-f : goal.overflow_sub-f
 overflow_sub-f c = omega (arith, most c)
@@ -35,12 +35,11 @@ half_even-requires c = (omega arith, omega (arith, most c))
 
 pub returns : goal.returns
 returns c =
-    let s = c.before.before in
     let x = c.args.x in
     let e = next (field x) c.if-f-lt1008.false in
     c.half_even.ensures
     ∙ ap (λ (z : ℕ). half_even ((2 ^ 52 + digits x) * 625) (2 ^ z)) (over (field x) c.if-f-lt1008.false)
-    ∙ high-field x (own s) c.requires (field x - 1) e
+    ∙ high-field x (own (goal.at.returns c).Start) c.requires (field x - 1) e
   where
     over : (f : ℕ) → 1008 ≤ f → 1071 - f ≡ 1070 - (f - 1)
     over f h = omega arith

@@ -25,48 +25,47 @@ room c = rings.room c.args.part c.requires.0
 abbrev ring : At-loop-k → List GridPoint
 ring c = points_of c.args.part
 
-fits-here : (c : After-judge-j) → let l = c.before.before.before in c.judge-j.result.ok ≡ fits c.args.limits (ring l) c.loop-k.k
+fits-here : (c : After-judge-j) → let l = c.before.before.before in c.judge-j.result.ok ≡ fits c.args.limits (ring c.before.before.before) c.loop-k.k
 fits-here c =
     let l = c.before.before.before in
-    choosing.fits-is c.args.part.points c.args.part.count (room l) (omega arith) c.loop-k.k (omega arith) _ _
+    choosing.fits-is c.args.part.points c.args.part.count (room c.before.before.before) (omega arith) c.loop-k.k (omega arith) _ _
     c.sub-a.ensures.0 c.sub-b.ensures.0 c.args.limits _ c.judge-j.ensures.0
 
-score-here : (c : After-judge-j) → let l = c.before.before.before in c.judge-j.result.score ≡ score (ring l) c.loop-k.k
+score-here : (c : After-judge-j) → c.judge-j.result.score ≡ score (ring c.before.before.before) c.loop-k.k
 score-here c =
     let l = c.before.before.before in
-    choosing.score-is c.args.part.points c.args.part.count (room l) (omega arith) c.loop-k.k (omega arith) _ _
+    choosing.score-is c.args.part.points c.args.part.count (room c.before.before.before) (omega arith) c.loop-k.k (omega arith) _ _
     c.sub-a.ensures.0 c.sub-b.ensures.0 _ c.judge-j.ensures.1
 
 -- where the turn's branches meet: the diagonal won, an edge hides it, or it was passed over
 joined : (c : Joined-improves)
     → let l = c.before.before.before.before.before in
-    (held c.if-improves.found c.if-improves.at ≡ best_to c.args.limits (ring l) (c.loop-k.k + 1 - 2))
-    × (c.if-improves.found ≡ true → c.if-improves.least ≡ score (ring l) c.if-improves.at)
+    (held c.if-improves.found c.if-improves.at ≡ best_to c.args.limits (ring c.before.before.before.before.before) (c.loop-k.k + 1 - 2))
+    × (c.if-improves.found ≡ true → c.if-improves.least ≡ score (ring c.before.before.before.before.before) c.if-improves.at)
 joined c =
-    let j = c.before.before in
     let l = c.before.before.before.before.before in
     let L = c.args.limits in
-    let r = ring l in
+    let r = ring c.before.before.before.before.before in
     let o = c.loop-k in
     let ok = c.judge-j.result.ok in
     let s = c.judge-j.result.score in
     ⊎_elim
     (λ v. (
       (λ i. held (v.3 i) (v.4 i))
-          ∙ choosing.won L r o.k o.invariant.0 o.found o.at o.least o.invariant.3 o.invariant.4 ok s (fits-here j) (score-here j)
+          ∙ choosing.won L r o.k o.invariant.0 o.found o.at o.least o.invariant.3 o.invariant.4 ok s (fits-here c.before.before) (score-here c.before.before)
           (sym c.improves.ensures ∙ v.0.taken) (sym v.1.ensures ∙ v.2.taken),
-      λ e. v.5 ∙ score-here j ∙ ap (score r) (sym v.4),
+      λ e. v.5 ∙ score-here c.before.before ∙ ap (score r) (sym v.4),
     ))
     (⊎_elim
     (λ v. (
       (λ i. held (v.3 i) (v.4 i))
-          ∙ choosing.hidden L r o.k o.invariant.0 o.found o.at o.least o.invariant.3 o.invariant.4 ok s (fits-here j) (score-here j)
+          ∙ choosing.hidden L r o.k o.invariant.0 o.found o.at o.least o.invariant.3 o.invariant.4 ok s (fits-here c.before.before) (score-here c.before.before)
           (sym v.1.ensures ∙ v.2.left),
       λ e. v.5 ∙ o.invariant.4 (sym v.3 ∙ e) ∙ ap (score r) (sym v.4),
     ))
     (λ v. (
       (λ i. held (v.1 i) (v.2 i))
-          ∙ choosing.passed L r o.k o.invariant.0 o.found o.at o.least o.invariant.3 o.invariant.4 ok s (fits-here j) (score-here j)
+          ∙ choosing.passed L r o.k o.invariant.0 o.found o.at o.least o.invariant.3 o.invariant.4 ok s (fits-here c.before.before) (score-here c.before.before)
           (sym c.improves.ensures ∙ v.0.left),
       λ e. v.3 ∙ o.invariant.4 (sym v.1 ∙ e) ∙ ap (score r) (sym v.2),
     )))

@@ -46,23 +46,21 @@ onward c = c.before.before.before.before.before.before.before.before.before
 code_is : (c : After-struct_known-1) (cs : List Cell) → let s = begin (onward c).before in length cs ≡ s.args.room.places
     → c.lists_refusal-test.result.code ≡ refusal s.args.limits (lent s cs)
 code_is c cs e =
-    let s = c.before.before.before.before.before.before.before.before.before.before.before.before in
     let n = c.points_refusal-code in
     let m = c.lists_refusal-test in
-    late c.args.limits (lent s cs) n.result m.result.code n.ensures c.if-code-ne0.false (m.ensures.0 cs e)
+    late c.args.limits (lent c.before.before.before.before.before.before.before.before.before.before.before.before cs) n.result m.result.code n.ensures c.if-code-ne0.false (m.ensures.0 cs e)
 
 pub returns-then-code-ne0 : goal.returns-then-code-ne0
 returns-then-code-ne0 c =
-    let s = c.before.before.before.before.before.before in
     let a = c.args in
     let n = c.points_refusal-code in
     rw (ap values c.refused.ensures)
-    (call-refused a.limits (lent s cs) a.cells.now a.room.at n.result
-    (early a.limits (lent s cs) n.result n.ensures c.if-code-ne0.true) c.if-code-ne0.true)
+    (call-refused a.limits (lent (goal.at.returns-then-code-ne0 c).Start cs) a.cells.now a.room.at n.result
+    (early a.limits (lent (goal.at.returns-then-code-ne0 c).Start cs) n.result n.ensures c.if-code-ne0.true) c.if-code-ne0.true)
 
 pub lists_refusal-test-requires : goal.lists_refusal-test-requires
 lists_refusal-test-requires c =
-    let n = passed c.before.before.before.before.before in
+    let n = passed (goal.at.lists_refusal-test-requires c).Else-code-ne0 in
     (n.0, n.1, c.window-w.ensures, refl, refl)
 
 pub returns-then-test-ne0 : goal.returns-then-test-ne0
@@ -71,14 +69,14 @@ returns-then-test-ne0 c =
     let s = begin (onward k).before in
     let a = s.args in
     rw (ap values c.refused-then-test-ne0.ensures)
-    (call-refused a.limits (lent s cs) a.cells.now a.room.at _ (code_is k cs e) c.if-test-ne0.true)
+    (call-refused a.limits (lent s cs) a.cells.now a.room.at _ (code_is (goal.at.returns-then-test-ne0 c).After-struct_known-1 cs e) c.if-test-ne0.true)
 
 pub prepared-marked-requires : goal.prepared-marked-requires
 prepared-marked-requires c =
     let s = begin (onward c.before.before).before in
     let a = s.args in
     let cs = replicate a.room.places no_cell in
-    let e = code_is c.before.before cs (length-replicate a.room.places no_cell) in (
+    let e = code_is (goal.at.prepared-marked-requires c).After-struct_known-1 cs (length-replicate a.room.places no_cell) in (
       ring_read a.limits (lent s cs) a.cells.now a.room.at _ e c.if-test-ne0.false,
       chain_read a.limits (lent s cs) a.cells.now a.room.at _ e c.if-test-ne0.false,
     )
@@ -90,7 +88,7 @@ divide_core-requires c =
     let m = c.prepared-marked in
     let cs = replicate a.room.places no_cell in
     let k = length-replicate a.room.places no_cell in (
-      can-divide a.limits (lent s cs) a.cells.now a.room.at _ (code_is c.before.before.before.before.before.before.before.before cs k) c.if-test-ne0.false m.result m.ensures a.room refl k
+      can-divide a.limits (lent s cs) a.cells.now a.room.at _ (code_is (goal.at.divide_core-requires c).After-struct_known-1 cs k) c.if-test-ne0.false m.result m.ensures a.room refl k
           refl s.pre,
       c.lists_refusal-test.ensures.2 c.if-test-ne0.false,
     )
@@ -100,5 +98,5 @@ returns c =
     let s = begin (onward c.before.before.before.before.before.before.before.before.before.before.before.before.before.before.before).before in
     let a = s.args in
     let m = c.prepared-marked in
-    call-divided a.limits (lent s cs) a.cells.now a.room.at _ (code_is c.before.before.before.before.before.before.before.before.before.before.before.before.before.before.before cs e) c.if-test-ne0.false m.result m.ensures a.room refl e
+    call-divided a.limits (lent s cs) a.cells.now a.room.at _ (code_is (goal.at.returns c).After-struct_known-1 cs e) c.if-test-ne0.false m.result m.ensures a.room refl e
     refl s.pre _ _ _ _ c.divide_core.ensures

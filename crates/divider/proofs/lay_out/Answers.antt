@@ -26,29 +26,26 @@ sought s = record { prepared = s.requires.0.prepared; whole = s.requires.1 }
 
 pub cell_reserve-reserve-requires : goal.cell_reserve-reserve-requires
 cell_reserve-reserve-requires c =
-    let s = c.before.before.before.before.before.before in
     let a = c.args in (
-      (three a.limits a.own a.ring a.nodes.now a.node_count a.rims.now a.cells.now a.cell_count (sought s)).1,
+      (three a.limits a.own a.ring a.nodes.now a.node_count a.rims.now a.cells.now a.cell_count (sought (goal.at.cell_reserve-reserve-requires c).Start)).1,
       c.requires.0.prepared.few,
     )
 
 pub split_bad_vertices-s-requires : goal.split_bad_vertices-s-requires
 split_bad_vertices-s-requires c =
-    let s = c.before.before.before.before.before.before.before in
     let a = c.args in
     let k = c.requires.0 in
-    (k.held.ring, (three a.limits a.own a.ring a.nodes.now a.node_count a.rims.now a.cells.now a.cell_count (sought s)).0, k.cuts)
+    (k.held.ring, (three a.limits a.own a.ring a.nodes.now a.node_count a.rims.now a.cells.now a.cell_count (sought (goal.at.split_bad_vertices-s-requires c).Start)).0, k.cuts)
 
 pub subdivide_all-laid-requires : goal.subdivide_all-laid-requires
 subdivide_all-laid-requires c =
-    let s = c.before.before.before.before.before.before.before.before.before.before.before.before in
     let a = c.args in
     let r = c.cell_reserve-reserve in
     let t = c.split_bad_vertices-s in
     let w = t.ensures.0 (marks_of a.ring.edges) (marks-length a.ring.edges c.requires.0.held.marks) in (
-      can-subdivide a.limits a.own a.ring a.nodes.now a.node_count a.rims.now a.cells.now a.cell_count (sought s) t.result w
+      can-subdivide a.limits a.own a.ring a.nodes.now a.node_count a.rims.now a.cells.now a.cell_count (sought (goal.at.subdivide_all-laid-requires c).Start) t.result w
           r.result r.ensures c.requires.0.held.ring.points t.ensures.1,
-      mark-room-in a.limits a.own a.ring a.nodes.now a.node_count a.rims.now a.cells.now a.cell_count (sought s) t.result w,
+      mark-room-in a.limits a.own a.ring a.nodes.now a.node_count a.rims.now a.cells.now a.cell_count (sought (goal.at.subdivide_all-laid-requires c).Start) t.result w,
       c.requires.3,
     )
 
@@ -61,16 +58,16 @@ returns-in_default c =
     let w = t.ensures.0 (marks_of a.ring.edges) (marks-length a.ring.edges c.requires.0.held.marks) in
     let d = c.subdivide_all-laid in
     let x = lists_in a.nodes.now a.node_count a.rims.now a.cells.now a.cell_count in
-    let o = outcome-is a.limits a.own a.ring a.nodes.now a.node_count a.rims.now a.cells.now a.cell_count (sought s) t.result w in
+    let o = outcome-is a.limits a.own a.ring a.nodes.now a.node_count a.rims.now a.cells.now a.cell_count (sought (goal.at.returns-in_default c).Start) t.result w in
     let g =
-    rims-are a.limits a.own a.ring a.nodes.now a.node_count a.rims.now a.cells.now a.cell_count (sought s) t.result w
+    rims-are a.limits a.own a.ring a.nodes.now a.node_count a.rims.now a.cells.now a.cell_count (sought (goal.at.returns-in_default c).Start) t.result w
     c.requires.0.held.marks (t.ensures.0 every_mark every_length) in
     let y = if_failed (outcome_of a.limits (part_in a.ring) x) (sym (ap row c.enum_told-1.given.1) ∙ d.ensures.0 ∙ ap row_of o) in
     let v = c.failed.ensures ∙ ap (λ (s : Subdivision). failed_answer s a.cell_count) c.enum_told-1.given.1 in
     rw (ap values v)
     (moved (d.ensures.1 ∙ ap (λ (o : Outcome). over a.nodes.now (nodes_of o)) o) (d.ensures.3 ∙ g)
     (d.ensures.2 ∙ ap (λ (o : Outcome). over_from a.cells.now a.cell_count (cells_left_of r.result o)) o)
-    (laid-failed a.limits a.own a.ring a.nodes.now a.node_count a.rims.now a.cells.now a.cell_count (sought s) r.result _ _ _ y
+    (laid-failed a.limits a.own a.ring a.nodes.now a.node_count a.rims.now a.cells.now a.cell_count (sought (goal.at.returns-in_default c).Start) r.result _ _ _ y
     r.ensures))
 
 pub mark_count-requires : goal.mark_count-requires
@@ -79,41 +76,39 @@ mark_count-requires c =
 
 pub overflow_add-result : goal.overflow_add-result
 overflow_add-result c =
-    let s = c.before.before.before.before.before.before.before.before.before.before.before.before.before.before.before.before.before.before.before.before.before.before.before in
     let a = c.args in
     let t = c.split_bad_vertices-s in
     let w = t.ensures.0 (marks_of a.ring.edges) (marks-length a.ring.edges c.requires.0.held.marks) in
     let d = c.subdivide_all-laid in
     let x = lists_in a.nodes.now a.node_count a.rims.now a.cells.now a.cell_count in
-    let o = outcome-is a.limits a.own a.ring a.nodes.now a.node_count a.rims.now a.cells.now a.cell_count (sought s) t.result w in
+    let o = outcome-is a.limits a.own a.ring a.nodes.now a.node_count a.rims.now a.cells.now a.cell_count (sought (goal.at.overflow_add-result c).Start) t.result w in
     let y =
     if_done (outcome_of a.limits (part_in a.ring) x) (sym (ap row c.laid-1.given.1) ∙ d.ensures.0 ∙ ap row_of o) in
-    let h = cell_room a.limits a.own a.ring a.nodes.now a.node_count a.rims.now a.cells.now a.cell_count (sought s) _ _ y in
+    let h = cell_room a.limits a.own a.ring a.nodes.now a.node_count a.rims.now a.cells.now a.cell_count (sought (goal.at.overflow_add-result c).Start) _ _ y in
     omega (arith, c.good.1.1.1.1.1.1.1.0)
 
 pub returns : goal.returns
 returns c =
-    let s = c.before.before.before.before.before.before.before.before.before.before.before.before.before.before.before.before.before.before.before.before.before.before.before in
     let a = c.args in
     let r = c.cell_reserve-reserve in
     let t = c.split_bad_vertices-s in
     let w = t.ensures.0 (marks_of a.ring.edges) (marks-length a.ring.edges c.requires.0.held.marks) in
     let d = c.subdivide_all-laid in
     let x = lists_in a.nodes.now a.node_count a.rims.now a.cells.now a.cell_count in
-    let o = outcome-is a.limits a.own a.ring a.nodes.now a.node_count a.rims.now a.cells.now a.cell_count (sought s) t.result w in
+    let o = outcome-is a.limits a.own a.ring a.nodes.now a.node_count a.rims.now a.cells.now a.cell_count (sought (goal.at.returns c).Start) t.result w in
     let g =
-    rims-are a.limits a.own a.ring a.nodes.now a.node_count a.rims.now a.cells.now a.cell_count (sought s) t.result w
+    rims-are a.limits a.own a.ring a.nodes.now a.node_count a.rims.now a.cells.now a.cell_count (sought (goal.at.returns c).Start) t.result w
     c.requires.0.held.marks (t.ensures.0 every_mark every_length) in
     let y =
     if_done (outcome_of a.limits (part_in a.ring) x) (sym (ap row c.laid-1.given.1) ∙ d.ensures.0 ∙ ap row_of o) in
-    let z = shown a.limits a.own a.ring a.nodes.now a.node_count a.rims.now a.cells.now a.cell_count (sought s) t.result w in
+    let z = shown a.limits a.own a.ring a.nodes.now a.node_count a.rims.now a.cells.now a.cell_count (sought (goal.at.returns c).Start) t.result w in
     moved (d.ensures.1 ∙ ap (λ (o : Outcome). over a.nodes.now (nodes_of o)) o) (d.ensures.3 ∙ g)
     (d.ensures.2 ∙ ap (λ (o : Outcome). over_from a.cells.now a.cell_count (cells_left_of r.result o)) o)
-    (laid_done a.limits a.own a.ring a.nodes.now a.node_count a.rims.now a.cells.now a.cell_count (sought s) r.result _ _ _ _ _
+    (laid_done a.limits a.own a.ring a.nodes.now a.node_count a.rims.now a.cells.now a.cell_count (sought (goal.at.returns c).Start) r.result _ _ _ _ _
     _ _ _ y
     (sym (length-take-le a.ring.ring.count a.ring.ring.points (room a.ring.ring c.requires.0.held.ring)))
     c.mark_count.ensures.0
     z.cuts
-    (count_is a.limits a.own a.ring a.nodes.now a.node_count a.rims.now a.cells.now a.cell_count (sought s) t.result w)
+    (count_is a.limits a.own a.ring a.nodes.now a.node_count a.rims.now a.cells.now a.cell_count (sought (goal.at.returns c).Start) t.result w)
     z.turned
     c.requires.2)

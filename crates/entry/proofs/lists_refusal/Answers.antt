@@ -31,19 +31,17 @@ fits c = counts_hold _ _ _ _ _ (sym c.counts_over.ensures ∙ c.if-counts_over.f
 
 pub used_nodes-s-requires : goal.used_nodes-s-requires
 used_nodes-s-requires c =
-    let k = c.before.before in
-    (omega (arith, (fits k).0), omega (arith, (fits k).0, (fits k).2), c.requires.3, c.requires.4)
+    (omega (arith, (fits (goal.at.used_nodes-s-requires c).Else-counts_over).0), omega (arith, (fits (goal.at.used_nodes-s-requires c).Else-counts_over).0, (fits (goal.at.used_nodes-s-requires c).Else-counts_over).2), c.requires.3, c.requires.4)
 
 pub overflow_sub-free_nodes : goal.overflow_sub-free_nodes
-overflow_sub-free_nodes c = (fits c.before.before.before.before.before.before.before).0
+overflow_sub-free_nodes c = (fits (goal.at.overflow_sub-free_nodes c).Else-counts_over).0
 
 pub overflow_sub-free_cells : goal.overflow_sub-free_cells
-overflow_sub-free_cells c = (fits c.before.before.before.before.before.before.before).1
+overflow_sub-free_cells c = (fits (goal.at.overflow_sub-free_cells c).Else-counts_over).1
 
 pub used_refusal-code-requires : goal.used_refusal-code-requires
 used_refusal-code-requires c =
-    let k = c.before.before.before.before.before.before.before in
-    (omega (arith, (fits k).0, (fits k).3), c.requires.0, c.requires.1)
+    (omega (arith, (fits (goal.at.used_refusal-code-requires c).Else-counts_over).0, (fits (goal.at.used_refusal-code-requires c).Else-counts_over).3), c.requires.0, c.requires.1)
 
 pub returns : goal.returns
 returns c =

@@ -25,23 +25,23 @@ marked c =
     (omega (arith, l, m.sheet.count), omega (arith, l, m.marks), omega (arith, l, m.points))
 
 pub next-after-requires : goal.next-after-requires
-next-after-requires c = (low c.before, c.requires.1.sheet.count)
+next-after-requires c = (low (goal.at.next-after-requires c).In-loop-j, c.requires.1.sheet.count)
 
 pub next-requires : goal.next-requires
 next-requires c =
     (omega (arith, c.loop-j-test.true), omega (arith, c.requires.1.count, c.loop-j.invariant.1))
 
 pub snap_at-p-requires : goal.snap_at-p-requires
-snap_at-p-requires c = (marked c.before.before.before.before).2
+snap_at-p-requires c = (marked (goal.at.snap_at-p-requires c).In-loop-j).2
 
 pub bounds-kinds-k : goal.bounds-kinds-k
-bounds-kinds-k c = (marked c.before.before.before.before.before.before).1
+bounds-kinds-k c = (marked (goal.at.bounds-kinds-k c).In-loop-j).1
 
 pub offset_bounds-ring-k : goal.offset_bounds-ring-k
-offset_bounds-ring-k c = let m = (marked c.before.before.before.before.before.before).0 in omega (arith, m)
+offset_bounds-ring-k c = let m = (marked (goal.at.offset_bounds-ring-k c).In-loop-j).0 in omega (arith, m)
 
 pub bounds-ring-k : goal.bounds-ring-k
-bounds-ring-k c = let m = (marked c.before.before.before.before.before.before).0 in omega (arith, m)
+bounds-ring-k c = let m = (marked (goal.at.bounds-ring-k c).In-loop-j).0 in omega (arith, m)
 
 pub loop-j-preserved : goal.loop-j-preserved
 loop-j-preserved c =

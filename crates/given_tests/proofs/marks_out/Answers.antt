@@ -35,7 +35,7 @@ pub returns-then-mark_out : goal.returns-then-mark_out
 unfolding marks_out
 returns-then-mark_out c =
     let a = c.args in
-    let h = any_hit (out_at a.kinds.now a.snaps.now) c.loop-i.i a.n (search rules) (seen c.before ∙ c.if-mark_out.true) in
+    let h = any_hit (out_at a.kinds.now a.snaps.now) c.loop-i.i a.n (search rules) (seen (goal.at.returns-then-mark_out c).After-mark_out ∙ c.if-mark_out.true) in
     simp (eq-eqb _ _ c.loop-i.invariant.2, eq-eqb _ _ c.loop-i.invariant.3, h)
 
 pub loop-i-preserved : goal.loop-i-preserved
@@ -45,7 +45,7 @@ loop-i-preserved c =
       search rules,
       search rules,
       search rules,
-      any-pass (out_at a.kinds.now a.snaps.now) c.loop-i.i c.loop-i.invariant.4 (seen c.before ∙ c.if-mark_out.false),
+      any-pass (out_at a.kinds.now a.snaps.now) c.loop-i.i c.loop-i.invariant.4 (seen (goal.at.loop-i-preserved c).After-mark_out ∙ c.if-mark_out.false),
     )
 
 pub returns : goal.returns

@@ -25,21 +25,18 @@ score-is c =
 
 pub returns-then-same : goal.returns-then-same
 returns-then-same c =
-    let l = c.before.before in
     let z = sym c.same.ensures ∙ c.if-same.true in
-    (rw z, score-is l)
+    (rw z, score-is (goal.at.returns-then-same c).After-larger-s)
 
 pub returns-then-in_range : goal.returns-then-in_range
 returns-then-in_range c =
-    let l = c.before.before.before.before.before in
     let z = sym c.same.ensures ∙ c.if-same.false in
-    let x = ap (in_range (limits l)) (sym (next-is l)) ∙ sym c.in_range.ensures ∙ c.if-in_range.true in
-    let y = c.in_range-then-in_range.ensures ∙ ap (in_range (limits l)) (prev-is l) in
-    (rw (z, x) y, score-is l)
+    let x = ap (in_range (limits (goal.at.returns-then-in_range c).After-larger-s)) (sym (next-is (goal.at.returns-then-in_range c).After-larger-s)) ∙ sym c.in_range.ensures ∙ c.if-in_range.true in
+    let y = c.in_range-then-in_range.ensures ∙ ap (in_range (limits (goal.at.returns-then-in_range c).After-larger-s)) (prev-is (goal.at.returns-then-in_range c).After-larger-s) in
+    (rw (z, x) y, score-is (goal.at.returns-then-in_range c).After-larger-s)
 
 pub returns : goal.returns
 returns c =
-    let l = c.before.before.before.before in
     let z = sym c.same.ensures ∙ c.if-same.false in
-    let x = ap (in_range (limits l)) (sym (next-is l)) ∙ sym c.in_range.ensures ∙ c.if-in_range.false in
-    (rw (z, x), score-is l)
+    let x = ap (in_range (limits (goal.at.returns c).After-larger-s)) (sym (next-is (goal.at.returns c).After-larger-s)) ∙ sym c.in_range.ensures ∙ c.if-in_range.false in
+    (rw (z, x), score-is (goal.at.returns c).After-larger-s)

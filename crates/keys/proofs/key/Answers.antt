@@ -14,10 +14,11 @@ use Rattle.keys.proofs.key.Goals as goal
 
 pub truncating_f64_to_i64-t-requires : goal.truncating_f64_to_i64-t-requires
 unfolding of_bits
-truncating_f64_to_i64-t-requires c = cut-asks 102500000000 (mul binary64 c.args.x e8) (lit< tt) (scaled_1025 c.args.x c.requires)
+truncating_f64_to_i64-t-requires c =
+    let h = cut-asks 102500000000 (mul binary64 c.args.x e8) (lit< tt) (scaled_1025 c.args.x c.requires) in
+    record { lower_bound = h.0; upper_bound = h.1 }
 
 -- t is y = x * 1.0e8 cut to a whole number, and z what the code reads back of t's bits
--- RAW
 module _ (x : Float) (w : Within 1025 x) (t : ℤ) (s : SFits w64 t) (e : t ≡ cut (mul binary64 x e8)) where
   abbrev y : Float
   y = mul binary64 x e8

@@ -28,7 +28,7 @@ pub slice_bounds-put_cell-start : goal.slice_bounds-put_cell-start
 slice_bounds-put_cell-start c = omega (arith, fits c)
 
 pub put_cell-requires : goal.put_cell-requires
-put_cell-requires c = simp (length-take, length-drop) (omega (arith, fits c.before))
+put_cell-requires c = simp (length-take, length-drop) (omega (arith, fits (goal.at.put_cell-requires c).After-next-e))
 
 pub loop-k-preserved : goal.loop-k-preserved
 loop-k-preserved c =

@@ -24,11 +24,11 @@ returns-then-outside c =
     let l = c.args.l.now in
     sym
     (any-outside-is l (length l / 2)
-    ∙ any_hit (outside_at l) c.loop-i.i (length l / 2) (search rules) (seen c.before ∙ c.if-outside.true))
+    ∙ any_hit (outside_at l) c.loop-i.i (length l / 2) (search rules) (seen (goal.at.returns-then-outside c).After-outside ∙ c.if-outside.true))
 
 pub loop-i-preserved : goal.loop-i-preserved
 loop-i-preserved c =
-    (search rules, search rules, any-pass (outside_at c.args.l.now) c.loop-i.i c.loop-i.invariant.2 (seen c.before ∙ c.if-outside.false))
+    (search rules, search rules, any-pass (outside_at c.args.l.now) c.loop-i.i c.loop-i.invariant.2 (seen (goal.at.loop-i-preserved c).After-outside ∙ c.if-outside.false))
 
 pub returns : goal.returns
 returns c =

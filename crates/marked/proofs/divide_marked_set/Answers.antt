@@ -34,8 +34,7 @@ begin c = c.before.before.before.before.before.before.before
 passed : (c : Else-code-ne0) → let r = c.args.ring.now in (3 ≤ length r / 2) × (length r / 2 ≤ 60)
 passed c =
     let n = c.early_refusal-code in
-    let s = c.before.before.before.before.before.before.before.before in
-    counts_passed c.args.limits (lent s) n.result n.ensures c.if-code-ne0.false
+    counts_passed c.args.limits (lent c.before.before.before.before.before.before.before.before) n.result n.ensures c.if-code-ne0.false
 
 -- ---- the lists were tested: the number of the whole call
 abbrev onward : After-struct_known-1 → Else-code-ne0
@@ -44,26 +43,24 @@ onward c = c.before.before.before.before.before.before.before.before.before
 code_is : (c : After-struct_known-1) → let s = begin (onward c).before in
     c.lists_refusal-test.result.code ≡ first_of (marked_tests s.args.limits (lent s))
 code_is c =
-    let s = c.before.before.before.before.before.before.before.before.before.before.before.before.before.before.before in
     let n = c.early_refusal-code in
     let m = c.lists_refusal-test in
     let q = c.args.cells.now in
-    late c.args.limits (lent s) n.result n.ensures m.result.code c.if-code-ne0.false (m.ensures.0 (all_cells q) (cell-places q))
+    late c.args.limits (lent c.before.before.before.before.before.before.before.before.before.before.before.before.before.before.before) n.result n.ensures m.result.code c.if-code-ne0.false (m.ensures.0 (all_cells q) (cell-places q))
 
 pub returns-then-code-ne0 : goal.returns-then-code-ne0
 returns-then-code-ne0 c =
-    let s = c.before.before.before.before.before.before.before.before.before in
     let n = c.early_refusal-code in
     rw (ap values c.refused.ensures)
-    (promised c.args.limits (lent s) _ _ _ _
-    (call-refused c.args.limits (lent s) n.result (early c.args.limits (lent s) n.result n.ensures c.if-code-ne0.true) c.if-code-ne0.true))
+    (promised c.args.limits (lent (goal.at.returns-then-code-ne0 c).Start) _ _ _ _
+    (call-refused c.args.limits (lent (goal.at.returns-then-code-ne0 c).Start) n.result (early c.args.limits (lent (goal.at.returns-then-code-ne0 c).Start) n.result n.ensures c.if-code-ne0.true) c.if-code-ne0.true))
 
 pub window_with_marks-w-requires : goal.window_with_marks-w-requires
 window_with_marks-w-requires c = (passed c).1
 
 pub lists_refusal-test-requires : goal.lists_refusal-test-requires
 lists_refusal-test-requires c =
-    let n = passed c.before.before.before.before.before in
+    let n = passed (goal.at.lists_refusal-test-requires c).Else-code-ne0 in
     (n.0, n.1, c.window_with_marks-w.ensures, refl, refl)
 
 pub returns-then-test-ne0 : goal.returns-then-test-ne0
@@ -71,18 +68,18 @@ returns-then-test-ne0 c =
     let k = c.before.before in
     let s = begin (onward k).before in
     rw (ap values c.refused-then-test-ne0.ensures)
-    (promised s.args.limits (lent s) _ _ _ _ (call-refused s.args.limits (lent s) _ (code_is k) c.if-test-ne0.true))
+    (promised s.args.limits (lent s) _ _ _ _ (call-refused s.args.limits (lent s) _ (code_is (goal.at.returns-then-test-ne0 c).After-struct_known-1) c.if-test-ne0.true))
 
 pub marked_ring-marked-requires : goal.marked_ring-marked-requires
 marked_ring-marked-requires c =
     let s = begin (onward c.before.before).before in
-    tested s.args.limits (lent s) _ (code_is c.before.before) c.if-test-ne0.false
+    tested s.args.limits (lent s) _ (code_is (goal.at.marked_ring-marked-requires c).After-struct_known-1) c.if-test-ne0.false
 
 pub divide_core-requires : goal.divide_core-requires
 divide_core-requires c =
     let s = begin (onward c.before.before.before.before.before.before.before.before).before in
     let m = c.marked_ring-marked in (
-      can-divide s.args.limits (lent s) _ (code_is c.before.before.before.before.before.before.before.before) c.if-test-ne0.false m.result m.ensures,
+      can-divide s.args.limits (lent s) _ (code_is (goal.at.divide_core-requires c).After-struct_known-1) c.if-test-ne0.false m.result m.ensures,
       c.lists_refusal-test.ensures.2 c.if-test-ne0.false,
     )
 
@@ -91,4 +88,4 @@ returns c =
     let s = begin (onward c.before.before.before.before.before.before.before.before.before.before.before.before.before.before.before).before in
     let m = c.marked_ring-marked in
     promised s.args.limits (lent s) _ _ _ _
-    (call-divided s.args.limits (lent s) _ (code_is c.before.before.before.before.before.before.before.before.before.before.before.before.before.before.before) c.if-test-ne0.false m.result m.ensures _ _ _ _ c.divide_core.ensures)
+    (call-divided s.args.limits (lent s) _ (code_is (goal.at.returns c).After-struct_known-1) c.if-test-ne0.false m.result m.ensures _ _ _ _ c.divide_core.ensures)

@@ -40,43 +40,33 @@ outline-no c = sym c.outline_out.ensures ∙ c.if-outline_out.false
 
 pub returns-then-counts_out : goal.returns-then-counts_out
 unfolding early_refusal
-returns-then-counts_out c = rw (sym (counts-are c.before) ∙ c.if-counts_out.true)
+returns-then-counts_out c = rw (sym (counts-are (goal.at.returns-then-counts_out c).After-counts_out) ∙ c.if-counts_out.true)
 
 pub returns-then-units_out : goal.returns-then-units_out
 unfolding early_refusal
-returns-then-units_out c = rw (counts-no c.before.before, sym c.units_out.ensures ∙ c.if-units_out.true)
+returns-then-units_out c = rw (counts-no (goal.at.returns-then-units_out c).Else-counts_out, sym c.units_out.ensures ∙ c.if-units_out.true)
 
 pub marks_out-requires : goal.marks_out-requires
 marks_out-requires c =
-    let k = c.before.before in
     let r = c.args.ring.now in
-    (counts_in (length r / 2) 0 (neither (odd r) (counts_out (length r / 2) 0) (counts-no k)).1).1
+    (counts_in (length r / 2) 0 (neither (odd r) (counts_out (length r / 2) 0) (counts-no (goal.at.marks_out-requires c).Else-counts_out)).1).1
 
 pub returns-then-marks_out : goal.returns-then-marks_out
 unfolding early_refusal
 returns-then-marks_out c =
-    let u = c.before.before in
-    rw (counts-no c.before.before.before.before, units-no u, sym c.marks_out.ensures ∙ c.if-marks_out.true)
+    rw (counts-no (goal.at.returns-then-marks_out c).Else-counts_out, units-no (goal.at.returns-then-marks_out c).Else-units_out, sym c.marks_out.ensures ∙ c.if-marks_out.true)
 
 pub returns-then-outline_out : goal.returns-then-outline_out
 unfolding early_refusal
 returns-then-outline_out c =
-    let m = c.before.before in
-    let u = c.before.before.before.before in
-    rw (counts-no c.before.before.before.before.before.before, units-no u, marks-no m, sym c.outline_out.ensures ∙ c.if-outline_out.true)
+    rw (counts-no (goal.at.returns-then-outline_out c).Else-counts_out, units-no (goal.at.returns-then-outline_out c).Else-units_out, marks-no (goal.at.returns-then-outline_out c).Else-marks_out, sym c.outline_out.ensures ∙ c.if-outline_out.true)
 
 pub returns-then-limits_out : goal.returns-then-limits_out
 unfolding early_refusal
 returns-then-limits_out c =
-    let k = c.before.before in
-    let m = c.before.before.before.before in
-    let u = c.before.before.before.before.before.before in
-    rw (counts-no c.before.before.before.before.before.before.before.before, units-no u, marks-no m, outline-no k, sym c.limits_out.ensures ∙ c.if-limits_out.true)
+    rw (counts-no (goal.at.returns-then-limits_out c).Else-counts_out, units-no (goal.at.returns-then-limits_out c).Else-units_out, marks-no (goal.at.returns-then-limits_out c).Else-marks_out, outline-no (goal.at.returns-then-limits_out c).Else-outline_out, sym c.limits_out.ensures ∙ c.if-limits_out.true)
 
 pub returns : goal.returns
 unfolding early_refusal
 returns c =
-    let k = c.before.before in
-    let m = c.before.before.before.before in
-    let u = c.before.before.before.before.before.before in
-    rw (counts-no c.before.before.before.before.before.before.before.before, units-no u, marks-no m, outline-no k, sym c.limits_out.ensures ∙ c.if-limits_out.false)
+    rw (counts-no (goal.at.returns c).Else-counts_out, units-no (goal.at.returns c).Else-units_out, marks-no (goal.at.returns c).Else-marks_out, outline-no (goal.at.returns c).Else-outline_out, sym c.limits_out.ensures ∙ c.if-limits_out.false)

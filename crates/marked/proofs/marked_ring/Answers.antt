@@ -18,17 +18,15 @@ clean_polygon-clean-requires c = c.points-own.ensures.1
 
 pub surviving_marks-edges-requires : goal.surviving_marks-edges-requires
 surviving_marks-edges-requires c =
-    let s = c.before.before.before.before.before.before in
     let r = c.args.ring.now in (
-      marks-of r (marking s) c.args.size c.requires c.points-own.result c.points-own.ensures.1 (ap (λ (w : Ring). w.count) c.points-own.ensures.0)
+      marks-of r (marking (goal.at.surviving_marks-edges-requires c).Start) c.args.size c.requires c.points-own.result c.points-own.ensures.1 (ap (λ (w : Ring). w.count) c.points-own.ensures.0)
           (read r c.points-own.result c.points-own.ensures.0) c.clean_polygon-clean.result c.clean_polygon-clean.ensures,
       c.requires.outline,
     )
 
 pub returns : goal.returns
 returns c =
-    let s = c.before.before.before.before.before.before.before in
     let r = c.args.ring.now in
-    prepares r (marking s) c.args.size c.requires c.points-own.result c.points-own.ensures.1 (ap (λ (w : Ring). w.count) c.points-own.ensures.0)
+    prepares r (marking (goal.at.returns c).Start) c.args.size c.requires c.points-own.result c.points-own.ensures.1 (ap (λ (w : Ring). w.count) c.points-own.ensures.0)
     (read r c.points-own.result c.points-own.ensures.0) c.clean_polygon-clean.result c.clean_polygon-clean.ensures c.surviving_marks-edges.result
     c.surviving_marks-edges.ensures

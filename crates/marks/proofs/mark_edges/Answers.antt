@@ -72,7 +72,7 @@ search-preserved c =
       search rules,
       search rules,
       o.invariant.5,
-      sym (laws.first-pass _ _ o.j (omega arith) (sym (judged c.before) ∙ c.if-joins.false)) ∙ o.invariant.6,
+      sym (laws.first-pass _ _ o.j (omega arith) (sym (judged (goal.at.search-preserved c).After-joins) ∙ c.if-joins.false)) ∙ o.invariant.6,
     )
 
 pub loop-i-preserved : goal.loop-i-preserved

@@ -36,7 +36,7 @@ pub offset_bounds-numbers-j : goal.offset_bounds-numbers-j
 offset_bounds-numbers-j c = omega (arith, (low c).1)
 
 pub bounds-numbers-j : goal.bounds-numbers-j
-bounds-numbers-j c = (low c.before).0
+bounds-numbers-j c = (low (goal.at.bounds-numbers-j c).Then-j-near).0
 
 pub overflow_cast-result : goal.overflow_cast-result
 overflow_cast-result c = omega (arith, c.shared_slice_known-then-j-near-1.given c.find_listed-j.result)

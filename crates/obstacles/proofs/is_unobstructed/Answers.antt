@@ -21,23 +21,20 @@ middle c =
 
 pub returns-then-blocked : goal.returns-then-blocked
 returns-then-blocked c =
-    let m = c.before.before.before.before in
     let h = rings.room c.args.part c.requires.0 in
-    blocking.crossing c.args.part.points c.args.part.count h (omega arith) c.args.k (omega arith) c.lerp.result (middle m)
+    blocking.crossing c.args.part.points c.args.part.count h (omega arith) c.args.k (omega arith) c.lerp.result (middle (goal.at.returns-then-blocked c).After-lerp)
     (sym c.point_in_polygon.ensures ∙ c.if-point_in_polygon.true)
     (sym c.blocked.ensures ∙ c.if-blocked.true)
 
 pub returns-then-point_in_polygon : goal.returns-then-point_in_polygon
 returns-then-point_in_polygon c =
-    let m = c.before.before.before.before.before in
     let h = rings.room c.args.part c.requires.0 in
-    blocking.inside c.args.part.points c.args.part.count h (omega arith) c.args.k (omega arith) c.lerp.result (middle m)
+    blocking.inside c.args.part.points c.args.part.count h (omega arith) c.args.k (omega arith) c.lerp.result (middle (goal.at.returns-then-point_in_polygon c).After-lerp)
     (sym c.point_in_polygon.ensures ∙ c.if-point_in_polygon.true)
     (sym c.blocked.ensures ∙ c.if-blocked.false) _ c.runs_over.ensures
 
 pub returns : goal.returns
 returns c =
-    let m = c.before.before in
     let h = rings.room c.args.part c.requires.0 in
-    blocking.outside c.args.part.points c.args.part.count h (omega arith) c.args.k (omega arith) c.lerp.result (middle m)
+    blocking.outside c.args.part.points c.args.part.count h (omega arith) c.args.k (omega arith) c.lerp.result (middle (goal.at.returns c).After-lerp)
     (sym c.point_in_polygon.ensures ∙ c.if-point_in_polygon.false)

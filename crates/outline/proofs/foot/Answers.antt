@@ -14,13 +14,13 @@ squared c = c.dot-len2.ensures ∙ (λ k. Plane.dot (c.sub-ab.ensures k) (c.sub-
 pub returns-then-len2 : goal.returns-then-len2
 unfolding Outline.foot of_bits of_int
 returns-then-len2 c =
-    let d = squared c.before in
+    let d = squared (goal.at.returns-then-len2 c).After-dot-len2 in
     rw (sym (ap (λ (x : Float). x ≤f nat 0) d) ∙ c.if-len2.true)
 
 pub returns : goal.returns
 unfolding Outline.foot of_bits of_int
 returns c =
-    let d = squared c.before.before.before.before.before in
+    let d = squared (goal.at.returns c).After-dot-len2 in
     let l = c.dot.ensures ∙ (λ k. Plane.dot (c.sub.ensures k) (c.sub-ab.ensures k)) in
     let t = c.clamp-t.ensures ∙ (λ k. clamp (nat 0) (nat 1) (l k /f d k)) in
     rw (sym (ap (λ (x : Float). x ≤f nat 0) d) ∙ c.if-len2.false) (c.lerp.ensures ∙ ap (Plane.lerp c.args.a c.args.b) t)

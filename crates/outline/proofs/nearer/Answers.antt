@@ -17,7 +17,7 @@ far c =
 pub returns-then-d-best : goal.returns-then-d-best
 unfolding Outline.nearer
 returns-then-d-best c =
-    let d = far c.before.before in
+    let d = far (goal.at.returns-then-d-best c).After-point_segment_distance-d in
     let s = c.args in
     let best = s.best in
     rw (sym (ap (λ (x : Float). x <f best.distance) d) ∙ c.if-d-best.true) (λ k. record { from = s.a; to = s.b; distance = d k })
@@ -25,6 +25,6 @@ returns-then-d-best c =
 pub returns : goal.returns
 unfolding Outline.nearer
 returns c =
-    let d = far c.before.before in
+    let d = far (goal.at.returns c).After-point_segment_distance-d in
     let best = c.args.best in
     rw (sym (ap (λ (x : Float). x <f best.distance) d) ∙ c.if-d-best.false)

@@ -8,7 +8,7 @@ use native.Mathlib.Omega.{arith}
 use Rattle.outline.proofs.nearest_in_loop.Goals as goal
 
 pub loop-i-init : goal.loop-i-init
-loop-i-init c = let s = c.args in (search rules, search rules, scan.no_turn s.t2 s.start s.m (omega (arith, c.well_formed.1.0.1)) s.p s.best)
+loop-i-init c = let s = c.args in (search rules, search rules, scan.no_turn s.points s.start s.m (omega (arith, c.well_formed.1.0.1)) s.p s.best)
 
 pub loop-i-preserved : goal.loop-i-preserved
 loop-i-preserved c =

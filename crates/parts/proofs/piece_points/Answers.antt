@@ -23,11 +23,11 @@ placed : (c : Start)
 placed c = Pieces.placed c.args.pieces c.args.i c.requires.1 c.requires.0
 
 pub overflow_sub-n : goal.overflow_sub-n
-overflow_sub-n c = let z = placed c.before.before in omega arith
+overflow_sub-n c = let z = placed (goal.at.overflow_sub-n c).Start in omega arith
 
 pub loop-j-init : goal.loop-j-init
 loop-j-init c =
-    let z = placed c.before.before in (
+    let z = placed (goal.at.loop-j-init c).Start in (
       search rules,
       omega arith,
       omega arith,
@@ -64,8 +64,7 @@ loop-j-preserved c =
 
 pub returns : goal.returns
 returns c =
-    let s = c.before.before.before.before in
-    let z = placed s in
+    let z = placed (goal.at.returns c).Start in
     let e : c.loop-j.j ≡ size c.args.pieces c.args.i = omega (arith, z.3) in
     let f : take (size c.args.pieces c.args.i) c.loop-j.out.points ≡ tab
     (λ k. corner_point c.args.ring c.args.pieces.corners (end c.args.pieces c.args.i + k)) (size c.args.pieces c.args.i) =

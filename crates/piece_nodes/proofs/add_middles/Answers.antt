@@ -58,7 +58,7 @@ add_node-r-requires c =
     let l = c.loop-i in
     let t = c.loop-i-test.true in
     let r = c.requires.0 in
-    let e = ap (λ (m : Middle). m.at) (mid c.before.before) in
+    let e = ap (λ (m : Middle). m.at) (mid (goal.at.add_node-r-requires c).After-edge_middle-m) in
     (adding.usable r l.invariant.1 l.invariant.0, subst InRange (sym e) (r.ranged l.i t), adding.ahead r l.invariant.1 t e, adding.held l.invariant.1 c.requires.2)
 
 -- edge i has a place in the list of numbers
@@ -67,23 +67,22 @@ few c =
     omega (arith, c.loop-i-test.true, c.requires.0.few)
 
 pub offset_bounds-list-i : goal.offset_bounds-list-i
-offset_bounds-list-i c = omega (arith, few c.before.before)
+offset_bounds-list-i c = omega (arith, few (goal.at.offset_bounds-list-i c).After-add_node-r)
 
 pub bounds-list-i : goal.bounds-list-i
 bounds-list-i c =
     let l = c.loop-i in
-    omega (arith, few c.before.before, l.invariant.1.long)
+    omega (arith, few (goal.at.bounds-list-i c).After-add_node-r, l.invariant.1.long)
 
 pub overflow_step-i : goal.overflow_step-i
-overflow_step-i c = omega (arith, few c.before.before.before)
+overflow_step-i c = omega (arith, few (goal.at.overflow_step-i c).After-add_node-r)
 
 pub loop-i-preserved : goal.loop-i-preserved
 loop-i-preserved c =
-    let y = c.before.before.before in
-    let m = mid c.before.before.before.before.before.before in
+    let m = mid (goal.at.loop-i-preserved c).After-edge_middle-m in
     let l = c.loop-i in (
       search rules,
-      adding.next l.invariant.1 (few y) (ap (λ (m : Middle). m.at) m) c.add_node-r.ensures.0 c.add_node-r.ensures.1,
+      adding.next l.invariant.1 (few (goal.at.loop-i-preserved c).After-add_node-r) (ap (λ (m : Middle). m.at) m) c.add_node-r.ensures.0 c.add_node-r.ensures.1,
       any_next _ l.i l.far _ l.invariant.2 (ap (λ (m : Middle). m.far) m),
     )
 

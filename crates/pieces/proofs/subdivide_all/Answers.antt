@@ -53,9 +53,8 @@ window : (c : Then-t-n)
     (a.first + a.reserve) * 4 ≤ length
     (put_mid (c.loop-i.at * 4) (length c.loop-i.cells - c.loop-i.at * 4) c.loop-i.cells c.subdivide-t.new.1.1.1.0)
 window c =
-    let x = c.before.before.before.before.before.before.before.before.before.before.before.before in
     let o = c.before.before.before.before.before.before.before.before.before.before.before.before.before.before.before.before in
-    course.clear_room c.requires.0 _ c.loop-i.invariant.2 (read x) c.subdivide-t.ensures
+    course.clear_room c.requires.0 _ c.loop-i.invariant.2 (read c.before.before.before.before.before.before.before.before.before.before.before.before) c.subdivide-t.ensures
 
 -- the places to be cleared begin within the list
 low : (c : Then-t-n)
@@ -82,25 +81,24 @@ pub piece_sides-sides-requires : goal.piece_sides-sides-requires
 piece_sides-sides-requires c = (c.requires.0.kept, c.loop-i-test.true)
 
 pub overflow_mul-start : goal.overflow_mul-start
-overflow_mul-start c = let o = c.before.before.before.before in omega (arith, room c, long o, c.well_formed.1.1.1.0)
+overflow_mul-start c = let o = c.before.before.before.before in omega (arith, room c, long (goal.at.overflow_mul-start c).At-loop-i, c.well_formed.1.1.1.0)
 
 pub offset_bounds-cells-start : goal.offset_bounds-cells-start
-offset_bounds-cells-start c = let o = c.before.before.before.before.before.before in omega (arith, room c.before.before, long o, c.well_formed.1.1.1.0)
+offset_bounds-cells-start c = let o = c.before.before.before.before.before.before in omega (arith, room (goal.at.offset_bounds-cells-start c).After-piece_sides-sides, long (goal.at.offset_bounds-cells-start c).At-loop-i, c.well_formed.1.1.1.0)
 
 pub slice_bounds-subdivide-count : goal.slice_bounds-subdivide-count
-slice_bounds-subdivide-count c = omega (arith, room c.before.before)
+slice_bounds-subdivide-count c = omega (arith, room (goal.at.slice_bounds-subdivide-count c).After-piece_sides-sides)
 
 pub slice_bounds-subdivide-start : goal.slice_bounds-subdivide-start
-slice_bounds-subdivide-start c = omega (arith, room c.before.before)
+slice_bounds-subdivide-start c = omega (arith, room (goal.at.slice_bounds-subdivide-start c).After-piece_sides-sides)
 
 pub subdivide-t-requires : goal.subdivide-t-requires
 subdivide-t-requires c =
-    let x = c.before.before.before in
     let o = c.before.before.before.before.before.before.before in (
-      course.can c.requires.0 _ c.loop-i.invariant.2 (read x),
-      simp (length-take, length-drop) (omega (arith, room x)),
+      course.can c.requires.0 _ c.loop-i.invariant.2 (read (goal.at.subdivide-t-requires c).After-piece_sides-sides),
+      simp (length-take, length-drop) (omega (arith, room (goal.at.subdivide-t-requires c).After-piece_sides-sides)),
       course.held c.requires.0 _ c.loop-i.invariant.2 c.requires.2,
-      course.rim-room c.requires.0 _ c.loop-i.invariant.2 (read x) c.requires.1,
+      course.rim-room c.requires.0 _ c.loop-i.invariant.2 (read (goal.at.subdivide-t-requires c).After-piece_sides-sides) c.requires.1,
     )
 
 pub overflow_mul-window : goal.overflow_mul-window
@@ -116,7 +114,7 @@ pub slice_bounds-clear-start : goal.slice_bounds-clear-start
 slice_bounds-clear-start c = omega (arith, window c)
 
 pub clear-requires : goal.clear-requires
-clear-requires c = simp (length-take, length-drop) (omega (arith, window c.before))
+clear-requires c = simp (length-take, length-drop) (omega (arith, window (goal.at.clear-requires c).Then-t-n))
 
 pub shape_of-nodes-then-t-n : goal.shape_of-nodes-then-t-n
 shape_of-nodes-then-t-n c =
@@ -130,33 +128,28 @@ shape_of-rims-then-t-n c =
 
 pub shape_of-cells-then-t-n : goal.shape_of-cells-then-t-n
 shape_of-cells-then-t-n c =
-    let x = c.before.before.before.before.before.before.before.before.before.before.before.before.before.before.before.before in
     let o = c.before.before.before.before.before.before.before.before.before.before.before.before.before.before.before.before.before.before.before.before in
-    course.long-cleared c.requires.0 _ c.loop-i.invariant.2 (read x) c.subdivide-t.ensures c.clear.ensures
+    course.long-cleared c.requires.0 _ c.loop-i.invariant.2 (read (goal.at.shape_of-cells-then-t-n c).After-piece_sides-sides) c.subdivide-t.ensures c.clear.ensures
 
 pub returns-then-t-n : goal.returns-then-t-n
 returns-then-t-n c =
-    let x = c.before.before.before.before.before.before.before.before.before.before.before.before.before.before.before.before in
     let o = c.before.before.before.before.before.before.before.before.before.before.before.before.before.before.before.before.before.before.before.before in
-    course.after-failure c.requires.0 _ c.loop-i.invariant.2 (read x) c.subdivide-t.ensures c.clear.ensures c.if-t-n.true
+    course.after-failure c.requires.0 _ c.loop-i.invariant.2 (read (goal.at.returns-then-t-n c).After-piece_sides-sides) c.subdivide-t.ensures c.clear.ensures c.if-t-n.true
 
 pub overflow_add-at : goal.overflow_add-at
 overflow_add-at c =
-    let x = c.before.before.before.before.before.before.before.before.before.before.before.before in
     let o = c.before.before.before.before.before.before.before.before.before.before.before.before.before.before.before.before in
-    omega (arith, room x, long o, c.well_formed.1.1.1.0)
+    omega (arith, room (goal.at.overflow_add-at c).After-piece_sides-sides, long (goal.at.overflow_add-at c).At-loop-i, c.well_formed.1.1.1.0)
 
 pub overflow_step-i : goal.overflow_step-i
 overflow_step-i c =
-    let x = c.before.before.before.before.before.before.before.before.before.before.before.before in
     let o = c.before.before.before.before.before.before.before.before.before.before.before.before.before.before.before.before in
-    omega (arith, (read x).count, c.requires.0.kept.few)
+    omega (arith, (read (goal.at.overflow_step-i c).After-piece_sides-sides).count, c.requires.0.kept.few)
 
 pub loop-i-preserved : goal.loop-i-preserved
 loop-i-preserved c =
-    let x = c.before.before.before.before.before.before.before.before.before.before.before.before in
     let o = c.before.before.before.before.before.before.before.before.before.before.before.before.before.before.before.before in
-    (search rules, search rules, course.go_on c.requires.0 _ c.loop-i.invariant.2 (read x) c.subdivide-t.ensures c.if-t-n.false)
+    (search rules, search rules, course.go_on c.requires.0 _ c.loop-i.invariant.2 (read (goal.at.loop-i-preserved c).After-piece_sides-sides) c.subdivide-t.ensures c.if-t-n.false)
 
 pub shape_of-nodes : goal.shape_of-nodes
 shape_of-nodes c = let o = c.before in course.long-nodes c.requires.0 _ c.loop-i.invariant.2 c.loop-i.invariant.0
@@ -165,7 +158,7 @@ pub shape_of-rims : goal.shape_of-rims
 shape_of-rims c = let o = c.before in course.long-rims c.requires.0 _ c.loop-i.invariant.2
 
 pub shape_of-cells : goal.shape_of-cells
-shape_of-cells c = long c.before
+shape_of-cells c = long (goal.at.shape_of-cells c).At-loop-i
 
 pub returns : goal.returns
 returns c =

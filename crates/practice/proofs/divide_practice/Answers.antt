@@ -21,10 +21,10 @@ lent s =
     }
 
 pub returns-then-over_paper : goal.returns-then-over_paper
-returns-then-over_paper c = practice-refused (lent c.before.before.before.before.before) (sym c.over_paper.ensures ∙ c.if-over_paper.true)
+returns-then-over_paper c = practice-refused (lent (goal.at.returns-then-over_paper c).Start) (sym c.over_paper.ensures ∙ c.if-over_paper.true)
 
 pub returns : goal.returns
 returns c =
-    let l = lent c.before.before.before.before.before.before.before.before.before.before.before.before.before.before.before.before in
+    let l = lent (goal.at.returns c).Start in
     practice-divided l (sym c.over_paper.ensures ∙ c.if-over_paper.false) _ c.practice.ensures _ _ _ _
     c.divide_set.ensures

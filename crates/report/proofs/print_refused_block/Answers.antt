@@ -22,4 +22,4 @@ returns c =
     let s = c.args in
     let p = c.put_filled in
     printed s.out.now (Report.refused_block s.block s.code) c.if-out-lt-MOST_TEXT.false
-    (refused-block-length s.block s.code) p.result p.new.0 p.ensures
+    (refused-block-length s.block s.code) p.result p.new.out p.ensures

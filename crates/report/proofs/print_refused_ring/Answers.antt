@@ -23,4 +23,4 @@ returns c =
     let s = c.args in
     let p = c.put_filled in
     printed s.out.now (Report.refused_ring s.ring s.code s.corners s.k) c.if-out-lt-MOST_TEXT.false
-    (refused-ring-length s.ring s.code s.corners s.k) p.result p.new.0 p.ensures
+    (refused-ring-length s.ring s.code s.corners s.k) p.result p.new.out p.ensures

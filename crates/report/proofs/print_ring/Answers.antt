@@ -39,41 +39,38 @@ put_ring-nodes-requires c =
     let n = length s.out.now in
     shorter 0 n (Report.ring_line s.a) (Report.nodes_line s.a.nodes s.a.added)
     (shorter 0 n (Report.ring_line s.a ++ Report.nodes_line s.a.nodes s.a.added) (Report.quad_lines s.cells.now (length s.cells.now / 4))
-    (room_for c.before))
+    (room_for (goal.at.put_ring-nodes-requires c).Else-cells-gt496))
 
 pub put_nodes-quads-requires : goal.put_nodes-quads-requires
 put_nodes-quads-requires c =
-    let k = c.before.before.before.before.before in
     let s = c.args in
     let t = Report.ring_line s.a in
     let u = Report.nodes_line s.a.nodes s.a.added in
     let v = Report.quad_lines s.cells.now (length s.cells.now / 4) in
-    room s.out.now 0 t u (shorter 0 (length s.out.now) (t ++ u) v (room_for k)) c.put_ring-nodes.ensures
+    room s.out.now 0 t u (shorter 0 (length s.out.now) (t ++ u) v (room_for (goal.at.put_nodes-quads-requires c).Else-cells-gt496)) c.put_ring-nodes.ensures
 
 pub put_quads-requires : goal.put_quads-requires
 put_quads-requires c =
-    let k = c.before.before.before.before.before.before.before.before.before in
     let s = c.args in
     let t = Report.ring_line s.a in
     let u = Report.nodes_line s.a.nodes s.a.added in
     let v = Report.quad_lines s.cells.now (length s.cells.now / 4) in
-    room s.out.now 0 (t ++ u) v (room_for k)
-    (join s.out.now 0 t u (shorter 0 (length s.out.now) (t ++ u) v (room_for k))
+    room s.out.now 0 (t ++ u) v (room_for (goal.at.put_quads-requires c).Else-cells-gt496)
+    (join s.out.now 0 t u (shorter 0 (length s.out.now) (t ++ u) v (room_for (goal.at.put_quads-requires c).Else-cells-gt496))
     c.put_ring-nodes.ensures c.put_nodes-quads.ensures)
 
 pub shape_of-out : goal.shape_of-out
 shape_of-out c =
-    c.put_quads.auto.0 ∙ c.put_nodes-quads.auto.0 ∙ c.put_ring-nodes.auto.0
+    c.put_quads.auto.out ∙ c.put_nodes-quads.auto.out ∙ c.put_ring-nodes.auto.out
 
 pub returns : goal.returns
 unfolding Report.ring_text
 returns c =
-    let k = c.before.before.before.before.before.before.before.before.before.before.before.before in
     let s = c.args in
     let t = Report.ring_line s.a in
     let u = Report.nodes_line s.a.nodes s.a.added in
     let v = Report.quad_lines s.cells.now (length s.cells.now / 4) in
     let p = c.put_quads in
-    let w = join s.out.now 0 t u (shorter 0 (length s.out.now) (t ++ u) v (room_for k)) c.put_ring-nodes.ensures c.put_nodes-quads.ensures in
-    printed-cells s.out.now (Report.ring_text s.a s.cells.now) c.if-out-lt-MOST_TEXT.false (text-length k) p.result p.new.0
-    (join s.out.now 0 (t ++ u) v (room_for k) w p.ensures) s.cells.now c.if-cells-gt496.false
+    let w = join s.out.now 0 t u (shorter 0 (length s.out.now) (t ++ u) v (room_for (goal.at.returns c).Else-cells-gt496)) c.put_ring-nodes.ensures c.put_nodes-quads.ensures in
+    printed-cells s.out.now (Report.ring_text s.a s.cells.now) c.if-out-lt-MOST_TEXT.false (text-length (goal.at.returns c).Else-cells-gt496) p.result p.new.out
+    (join s.out.now 0 (t ++ u) v (room_for (goal.at.returns c).Else-cells-gt496) w p.ensures) s.cells.now c.if-cells-gt496.false

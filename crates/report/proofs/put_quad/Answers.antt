@@ -28,4 +28,4 @@ returns c =
     let g = c.wide in
     let t : filled (bytes "quad # # # #\n") (g.result ∷ f.result ∷ e.result ∷ d.result ∷ []) ≡ Report.quad_line c.args.cells.now c.args.i =
     (λ j. filled (bytes "quad # # # #\n") (g.ensures j ∷ f.ensures j ∷ e.ensures j ∷ d.ensures j ∷ [])) in
-    subst (λ (x : List ℕ). Written c.args.out.now c.args.at x p.result p.new.0) t p.ensures
+    subst (λ (x : List ℕ). Written c.args.out.now c.args.at x p.result p.new.out) t p.ensures

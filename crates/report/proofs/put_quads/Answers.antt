@@ -33,9 +33,9 @@ loop-i-preserved c =
       search rules,
       search rules,
       l.invariant.2,
-      p.auto.0 ∙ l.invariant.3,
+      p.auto.out ∙ l.invariant.3,
       turn-written (Report.quad_lines s.cells.now) (Report.quad_line s.cells.now) (λ i. refl) s.out.now s.at l.i (length s.cells.now / 4)
-          l.invariant.2 (omega arith) l.next l.out l.invariant.4 p.result p.new.0 p.ensures,
+          l.invariant.2 (omega arith) l.next l.out l.invariant.4 p.result p.new.out p.ensures,
     )
 
 pub shape_of-out : goal.shape_of-out

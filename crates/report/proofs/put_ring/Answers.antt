@@ -21,5 +21,5 @@ returns c =
     let a = c.args.a in
     let p = c.put_filled in
     subst (λ (x : ℕ). Written c.args.out.now c.args.at
-    (filled (bytes "ring # corners # cuts # turned # area #\n") (a.ring ∷ a.corners ∷ a.cuts ∷ a.turned ∷ x ∷ [])) p.result p.new.0)
+    (filled (bytes "ring # corners # cuts # turned # area #\n") (a.ring ∷ a.corners ∷ a.cuts ∷ a.turned ∷ x ∷ [])) p.result p.new.out)
     c.hundredths.ensures p.ensures

@@ -16,13 +16,13 @@ pub loop-k-init : goal.loop-k-init
 loop-k-init c = (search rules, search rules, clear_none _ _)
 
 pub bounds-rims-k : goal.bounds-rims-k
-bounds-rims-k c = let l = c.before in omega (arith, long l, c.requires.1, c.loop-k-test.true)
+bounds-rims-k c = omega (arith, long (goal.at.bounds-rims-k c).At-loop-k, c.requires.1, c.loop-k-test.true)
 
 pub loop-k-preserved : goal.loop-k-preserved
 loop-k-preserved c = let l = c.loop-k in (search rules, search rules, clear_next _ l.rims _ l.k l.invariant.0 l.invariant.2)
 
 pub shape_of-rims : goal.shape_of-rims
-shape_of-rims c = long c.before
+shape_of-rims c = long (goal.at.shape_of-rims c).At-loop-k
 
 pub returns : goal.returns
 returns c =

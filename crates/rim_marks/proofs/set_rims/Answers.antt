@@ -17,7 +17,7 @@ pub loop-i-init : goal.loop-i-init
 loop-i-init c = (search rules, set-none _ _ _)
 
 pub bounds-rims-k : goal.bounds-rims-k
-bounds-rims-k c = let l = c.before.before in omega (arith, long l, c.requires.1 c.loop-i.i c.loop-i-test.true)
+bounds-rims-k c = omega (arith, long (goal.at.bounds-rims-k c).At-loop-i, c.requires.1 c.loop-i.i c.loop-i-test.true)
 
 pub loop-i-preserved : goal.loop-i-preserved
 loop-i-preserved c =
@@ -28,7 +28,7 @@ loop-i-preserved c =
     )
 
 pub shape_of-rims : goal.shape_of-rims
-shape_of-rims c = long c.before
+shape_of-rims c = long (goal.at.shape_of-rims c).At-loop-i
 
 pub returns : goal.returns
 returns c =

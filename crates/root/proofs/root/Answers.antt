@@ -16,16 +16,16 @@ pub float_to_bits-b : goal.float_to_bits-b
 float_to_bits-b c = not_nan c.args.x c.if-x.true
 
 pub root_positive-requires : goal.root_positive-requires
-root_positive-requires c = (pattern_pos c.args.x (held c.before.before) c.if-x.true, c.if-b-lt9218868437227405312.true)
+root_positive-requires c = (pattern_pos c.args.x (held (goal.at.root_positive-requires c).Start) c.if-x.true, c.if-b-lt9218868437227405312.true)
 
 pub float_from_bits-result : goal.float_from_bits-result
 float_from_bits-result c = no_nan_bits c.root_positive.result c.root_positive.ensures.1
 
 pub returns-then-b-lt9218868437227405312 : goal.returns-then-b-lt9218868437227405312
-returns-then-b-lt9218868437227405312 c = c.root_positive.ensures.0 ∙ ap root_of (of_bits-to_bits binary64 c.args.x (held c.before.before.before))
+returns-then-b-lt9218868437227405312 c = c.root_positive.ensures.0 ∙ ap root_of (of_bits-to_bits binary64 c.args.x (held (goal.at.returns-then-b-lt9218868437227405312 c).Start))
 
 pub returns-then-x : goal.returns-then-x
-returns-then-x c = infinite c.args.x (held c.before.before) c.if-x.true c.if-b-lt9218868437227405312.false
+returns-then-x c = infinite c.args.x (held (goal.at.returns-then-x c).Start) c.if-x.true c.if-b-lt9218868437227405312.false
 
 pub returns-then-x-2 : goal.returns-then-x-2
 returns-then-x-2 c = zeros c.args.x c.if-x-2.true

@@ -13,7 +13,7 @@ held c = subst T (sym c.well_formed.0.1) tt
 
 pub returns-then-t : goal.returns-then-t
 unfolding of_bits
-returns-then-t c = sym (root-above c.args.x c.args.t (held c.before.before) c.if-x.true c.if-t.true)
+returns-then-t c = sym (root-above c.args.x c.args.t (held (goal.at.returns-then-t c).Start) c.if-x.true c.if-t.true)
 
 pub returns : goal.returns
 returns c = ap (λ (d : Float). d ≤f c.args.t) c.root.ensures

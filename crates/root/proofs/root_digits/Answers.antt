@@ -32,18 +32,16 @@ pub overflow_mul-b : goal.overflow_mul-b
 overflow_mul-b c = record { fits = square-few (quot c.args.n c.root_head-a.result) (has c).few }
 
 pub overflow_sub-result : goal.overflow_sub-result
-overflow_sub-result c = omega (arith, (has c.before).from)
+overflow_sub-result c = omega (arith, (has (goal.at.overflow_sub-result c).After-root_head-a).from)
 
 pub returns-then-v-b : goal.returns-then-v-b
 returns-then-v-b c =
-    let w = c.before in
     let n = c.args.n in
     let a = c.root_head-a.result in
-    over n a (quot n a) (left n a) c.requires.0 c.requires.1 c.root_head-a.ensures (has w).split (has w).under c.if-v-b.true
+    over n a (quot n a) (left n a) c.requires.0 c.requires.1 c.root_head-a.ensures (has (goal.at.returns-then-v-b c).After-root_head-a).split (has (goal.at.returns-then-v-b c).After-root_head-a).under c.if-v-b.true
 
 pub returns-else-v-b : goal.returns-else-v-b
 returns-else-v-b c =
-    let w = c.before in
     let n = c.args.n in
     let a = c.root_head-a.result in
-    exact n a (quot n a) (left n a) c.requires.0 c.requires.1 c.root_head-a.ensures (has w).split (has w).under c.if-v-b.false
+    exact n a (quot n a) (left n a) c.requires.0 c.requires.1 c.root_head-a.ensures (has (goal.at.returns-else-v-b c).After-root_head-a).split (has (goal.at.returns-else-v-b c).After-root_head-a).under c.if-v-b.false

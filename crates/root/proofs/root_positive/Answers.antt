@@ -1,6 +1,5 @@
 -- `root_positive`: what its numbers are is in `Pattern.antt` and `Scaled.antt`.
 use mathlib.Core.Path.{◌≡◌, sym, subst}
-use mathlib.Core.Logic.{⊎_elim}
 use Prim.Native.Nat.{ℕ, ◌+◌, ◌-◌, ◌*◌, ◌/◌, ◌%◌, ◌^◌, ◌≤◌, ◌<◌}
 use native.Mathlib.Nat.{mod-eq_of_lt}
 use native.Mathlib.Omega.{arith}
@@ -9,7 +8,7 @@ use Rattle.root.specs.Root.{IsRoot}
 use Rattle.root.proofs.Pattern.{Decoded, decoded_low, decoded_high}
 use Rattle.root.proofs.Scaled.{Lead, lead, Radicand, radicand, shift, rooted, root-to}
 use Rattle.root.proofs.root_positive.Goals as goal
-use Rattle.root.proofs.root_positive.Goals.{After-root_digits-s, Joined-f-gt0}
+use Rattle.root.proofs.root_positive.Goals.{After-root_digits-s, Joined-f-gt0, then-f-gt0, else-f-gt0}
 
 -- where the branches join: m and k are what b's fields say
 moved : (b m k m' k' : ℕ) → m' ≡ m → k' ≡ k → Decoded b m k → Decoded b m' k'
@@ -19,10 +18,10 @@ at_join : (c : Joined-f-gt0) → Decoded c.args.b c.if-f-gt0.m c.if-f-gt0.k
 at_join c =
     let b = c.args.b in
     let p = c.requires in
-    ⊎_elim
-    (λ w. moved b (b % 2 ^ 52 + 2 ^ 52) (b / 2 ^ 52 - 1) c.if-f-gt0.m c.if-f-gt0.k w.1 w.2 (decoded_high b p.1 w.0.taken))
-    (λ w. moved b (b % 2 ^ 52) 0 c.if-f-gt0.m c.if-f-gt0.k w.1 w.2 (decoded_low b p.0 p.1 w.0.left))
-    c.if-f-gt0.branch
+    elim c.if-f-gt0.branch [
+      then-f-gt0 w ↦ moved b (b % 2 ^ 52 + 2 ^ 52) (b / 2 ^ 52 - 1) c.if-f-gt0.m c.if-f-gt0.k w.m-is w.k-is (decoded_high b p.1 w.if-f-gt0.true)
+    | else-f-gt0 w ↦ moved b (b % 2 ^ 52) 0 c.if-f-gt0.m c.if-f-gt0.k w.m-is w.k-is (decoded_low b p.0 p.1 w.if-f-gt0.false)
+    ]
 
 -- the shift by the leading zeros, and the number that `root_digits` is handed
 leads : (c : Joined-f-gt0) → Lead c.if-f-gt0.m (count_leading_zeros 64 c.if-f-gt0.m)
@@ -40,54 +39,50 @@ got : (c : After-root_digits-s)
     → IsRoot (c.if-f-gt0.m * 2 ^ shift c.if-f-gt0.k (count_leading_zeros 64 c.if-f-gt0.m) * 2 ^ 54)
     c.root_digits-s.result
 got c =
-    let j = c.before.before.before in
     let n = c.if-f-gt0.m * 2 ^ shift c.if-f-gt0.k (count_leading_zeros 64 c.if-f-gt0.m) in
-    subst (λ (x : ℕ). IsRoot (x * 2 ^ 54) c.root_digits-s.result) (kept n (handed j)) c.root_digits-s.ensures
+    subst (λ (x : ℕ). IsRoot (x * 2 ^ 54) c.root_digits-s.result) (kept n (handed c.before.before.before)) c.root_digits-s.ensures
 
 small : (c : After-root_digits-s) → c.root_digits-s.result < 2 ^ 54 - 1
 small c =
-    let j = c.before.before.before in
-    root-to (c.if-f-gt0.m * 2 ^ shift c.if-f-gt0.k (count_leading_zeros 64 c.if-f-gt0.m)) c.root_digits-s.result (handed j) (got c)
+    root-to (c.if-f-gt0.m * 2 ^ shift c.if-f-gt0.k (count_leading_zeros 64 c.if-f-gt0.m)) c.root_digits-s.result (handed c.before.before.before) (got c)
 
 pub overflow_cast-z : goal.overflow_cast-z
 overflow_cast-z c = omega (arith, leading_le 64 c.if-f-gt0.m)
 
 pub overflow_add-e : goal.overflow_add-e
-overflow_add-e c = omega (arith, (at_join c.before).most)
+overflow_add-e c = omega (arith, (at_join (goal.at.overflow_add-e c).Joined-f-gt0).most)
 
 pub overflow_sub-e : goal.overflow_sub-e
-overflow_sub-e c = omega (arith, (leads c.before).high)
+overflow_sub-e c = omega (arith, (leads (goal.at.overflow_sub-e c).Joined-f-gt0).high)
 
 pub overflow_sub-n : goal.overflow_sub-n
-overflow_sub-n c = (leads c.before).low
+overflow_sub-n c = (leads (goal.at.overflow_sub-n c).Joined-f-gt0).low
 
 pub overflow_add-n : goal.overflow_add-n
-overflow_add-n c = omega (arith, (leads c.before).high)
+overflow_add-n c = omega (arith, (leads (goal.at.overflow_add-n c).Joined-f-gt0).high)
 
 pub overflow_shl-n : goal.overflow_shl-n
-overflow_shl-n c = omega (arith, (leads c.before.before).high)
+overflow_shl-n c = omega (arith, (leads (goal.at.overflow_shl-n c).Joined-f-gt0).high)
 
 pub root_digits-s-requires : goal.root_digits-s-requires
 root_digits-s-requires c =
-    let j = c.before.before in
-    subst (λ (x : ℕ). (2 ^ 52 ≤ x) × (x < 2 ^ 54)) (sym (kept (c.if-f-gt0.m * 2 ^ shift c.if-f-gt0.k (count_leading_zeros 64 c.if-f-gt0.m)) (handed j)))
-    ((handed j).from, omega (arith, (handed j).to))
+    subst (λ (x : ℕ). (2 ^ 52 ≤ x) × (x < 2 ^ 54)) (sym (kept (c.if-f-gt0.m * 2 ^ shift c.if-f-gt0.k (count_leading_zeros 64 c.if-f-gt0.m)) (handed (goal.at.root_digits-s-requires c).Joined-f-gt0)))
+    ((handed (goal.at.root_digits-s-requires c).Joined-f-gt0).from, omega (arith, (handed (goal.at.root_digits-s-requires c).Joined-f-gt0).to))
 
 pub overflow_mul-result : goal.overflow_mul-result
-overflow_mul-result c = omega (arith, (at_join c.before.before.before).most)
+overflow_mul-result c = omega (arith, (at_join (goal.at.overflow_mul-result c).Joined-f-gt0).most)
 
 pub overflow_add-result-2 : goal.overflow_add-result-2
 overflow_add-result-2 c = omega (arith, small c)
 
 pub overflow_add-result-3 : goal.overflow_add-result-3
-overflow_add-result-3 c = omega (arith, (at_join c.before.before.before).most, small c)
+overflow_add-result-3 c = omega (arith, (at_join (goal.at.overflow_add-result-3 c).Joined-f-gt0).most, small c)
 
 pub returns : goal.returns
 returns c =
-    let j = c.before.before.before in
     let m = c.if-f-gt0.m in
     let k = c.if-f-gt0.k in
     let z = count_leading_zeros 64 m in
-    let d = at_join j in
+    let d = at_join (goal.at.returns c).Joined-f-gt0 in
     let s = c.root_digits-s.result in
-    (rooted _ m k z s d.value d.above d.most (leads j) (got c), omega (arith, d.most, small c))
+    (rooted _ m k z s d.value d.above d.most (leads (goal.at.returns c).Joined-f-gt0) (got c), omega (arith, d.most, small c))

@@ -14,7 +14,7 @@ use native.Mathlib.Omega.{arith}
 use Rattle.simple.proofs.point_in_polygon.Goals as goal
 use Rattle.simple.proofs.point_in_polygon.Goals.{After-ray_meets}
 
-meets-is : (k : After-ray_meets) → let s = k.args in k.ray_meets.result ≡ Simple.meets_edge (points_of s.t1) s.p
+meets-is : (k : After-ray_meets) → let s = k.args in k.ray_meets.result ≡ Simple.meets_edge (points_of s.ring) s.p
     k.loop-i.i
 unfolding Simple.meets_edge
 meets-is k =
@@ -33,16 +33,15 @@ loop-i-init c = (search rules, search rules, search rules, refl)
 
 pub loop-i-preserved : goal.loop-i-preserved
 loop-i-preserved c =
-    let k = c.before in
     let l = c.loop-i in
     let s = c.args in
-    let q = Simple.meets_edge (points_of s.t1) s.p in (
+    let q = Simple.meets_edge (points_of s.ring) s.p in (
       search rules,
       search rules,
       search rules,
       ⊎_elim
-          (λ w. w.1 ∙ search-laws.parity_flip q l.i l.inside l.invariant.3 (sym (meets-is k) ∙ w.0.taken))
-          (λ w. w.1 ∙ search-laws.parity-keep q l.i l.inside l.invariant.3 (sym (meets-is k) ∙ w.0.left))
+          (λ w. w.1 ∙ search-laws.parity_flip q l.i l.inside l.invariant.3 (sym (meets-is (goal.at.loop-i-preserved c).After-ray_meets) ∙ w.0.taken))
+          (λ w. w.1 ∙ search-laws.parity-keep q l.i l.inside l.invariant.3 (sym (meets-is (goal.at.loop-i-preserved c).After-ray_meets) ∙ w.0.left))
           c.if-ray_meets.branch,
     )
 

@@ -17,11 +17,11 @@ use Rattle.simple.proofs.polygon_simple.Goals.{After-edges_cross}
 pub returns-then-n-lt3 : goal.returns-then-n-lt3
 returns-then-n-lt3 c =
     let a = c.args in
-    pairs.too_few (points_of a.t1) (rw (length-take-le a.t1.count a.t1.points (rings.room a.t1 c.requires)) c.if-n-lt3.true)
+    pairs.too_few (points_of a.ring) (rw (length-take-le a.ring.count a.ring.points (rings.room a.ring c.requires)) c.if-n-lt3.true)
 
 -- what the crossing test of edge j against edge i answers
 judged : (k : After-edges_cross) → let a = k.args in
-    k.edges_cross.result ≡ Simple.edges_cross (points_of a.t1) k.scan.i
+    k.edges_cross.result ≡ Simple.edges_cross (points_of a.ring) k.scan.i
     k.loop-j.j
 judged k =
     let l = k.loop-j in
@@ -39,7 +39,7 @@ pub loop-j-init : goal.loop-j-init
 loop-j-init c =
     let s = c.scan in
     let a = c.args in
-    (search rules, search rules, s.invariant.2, search rules, search rules, s.invariant.4, pairs.none_before (points_of a.t1) s.i (s.i + 2) (omega arith))
+    (search rules, search rules, s.invariant.2, search rules, search rules, s.invariant.4, pairs.none_before (points_of a.ring) s.i (s.i + 2) (omega arith))
 
 pub edges_cross-requires : goal.edges_cross-requires
 edges_cross-requires c =
@@ -48,9 +48,8 @@ edges_cross-requires c =
 
 pub loop-j-preserved : goal.loop-j-preserved
 loop-j-preserved c =
-    let k = c.before in
     let l = c.loop-j in
-    (search rules, search rules, l.invariant.2, search rules, search rules, l.invariant.5, search-laws.any-pass _ _ l.invariant.6 (sym (judged k) ∙ c.if-edges_cross.false))
+    (search rules, search rules, l.invariant.2, search rules, search rules, l.invariant.5, search-laws.any-pass _ _ l.invariant.6 (sym (judged (goal.at.loop-j-preserved c).After-edges_cross) ∙ c.if-edges_cross.false))
 
 pub scan-preserved : goal.scan-preserved
 scan-preserved c =
@@ -68,9 +67,9 @@ pub returns : goal.returns
 returns c =
     let s = c.scan in
     let a = c.args in
-    let h = rings.room a.t1 c.requires in
-    let e = sym (length-take-le a.t1.count a.t1.points h) in
-    let r = points_of a.t1 in
+    let h = rings.room a.ring c.requires in
+    let e = sym (length-take-le a.ring.count a.ring.points h) in
+    let r = points_of a.ring in
     pairs.simple-is r c.scan-test.found
     (⊎_elim
     (λ w. w.1 ∙ s.invariant.4 ∙ sym (pairs.any-fewer _ s.i _ s.invariant.5 w.0.left))

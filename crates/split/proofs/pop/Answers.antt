@@ -72,29 +72,26 @@ range g k e =
     (r.0, r.1, omega (arith, r.2, g.requires.3))
 
 pub overflow_sub-n : goal.overflow_sub-n
-overflow_sub-n c = let z = top c.before.before.before.before in omega arith
+overflow_sub-n c = let z = top (goal.at.overflow_sub-n c).Start in omega arith
 
 pub load-vs-requires : goal.load-vs-requires
 load-vs-requires c =
-    let s = c.before.before.before.before.before in
-    let z = top s in
+    let z = top (goal.at.load-vs-requires c).Start in
     (omega arith, omega arith, c.requires.0.waiting.below)
 
 pub rotated_points-requires : goal.rotated_points-requires
 rotated_points-requires c =
-    let s = c.before.before.before.before.before.before in
-    let z = top s in
+    let z = top (goal.at.rotated_points-requires c).Start in
     (omega arith, omega arith, c.load-vs.ensures.1, c.requires.2)
 
 pub worst-worst-requires : goal.worst-worst-requires
 worst-worst-requires c =
-    let z = top c.before.before.before.before.before.before.before in
+    let z = top (goal.at.worst-worst-requires c).Start in
     (c.rotated_points.ensures.1, omega (arith, c.rotated_points.ensures.2))
 
 pub split_polygon_at-d-requires : goal.split_polygon_at-d-requires
 split_polygon_at-d-requires c =
-    let s = c.before.before.before.before.before.before.before.before in
-    let z = top s in
+    let z = top (goal.at.split_polygon_at-d-requires c).Start in
     let f = c.rotated_points.ensures.0 ∙ from_first c.args.ring c.load-vs.result _ in (
       omega arith,
       omega arith,
@@ -107,30 +104,27 @@ split_polygon_at-d-requires c =
 pub push-more-requires : goal.push-more-requires
 push-more-requires c =
     let g = c.before.before in
-    let s = c.before.before.before.before.before.before.before.before.before.before.before in
-    let z = top s in
+    let z = top (goal.at.push-more-requires c).Start in
     let h = c.requires.0 in
     (h.pieces, omega (arith, h.parts, h.cuts), omega arith, omega arith, omega (arith, h.cuts), c.load-vs.ensures.1)
 
 pub returns-in_default : goal.returns-in_default
 returns-in_default c =
     let g = c.before.before.before in
-    let s = c.before.before.before.before.before.before.before.before.before.before.before.before in
-    let z = top s in (
-      Popped.within-gone c.args.s _ z.4 c.requires.0 (loaded g) (size g) refl c.push-more.result c.push-more.ensures,
+    let z = top (goal.at.returns-in_default c).Start in (
+      Popped.within-gone c.args.s _ z.4 c.requires.0 (loaded (goal.at.returns-in_default c).After-split_polygon_at-d) (size (goal.at.returns-in_default c).After-split_polygon_at-d) refl c.push-more.result c.push-more.ensures,
       λ es len u w.
-          Popped.follows-gone c.args.s _ z.4 c.requires.0 (loaded g) (size g) refl c.args.ring es c.load-vs.ensures.0
-          c.args.limits u w (at g) (worst-is g) (sym (ap answer c.enum_told-1.given.1) ∙ c.split_polygon_at-d.ensures) c.push-more.result
+          Popped.follows-gone c.args.s _ z.4 c.requires.0 (loaded (goal.at.returns-in_default c).After-split_polygon_at-d) (size (goal.at.returns-in_default c).After-split_polygon_at-d) refl c.args.ring es c.load-vs.ensures.0
+          c.args.limits u w (at (goal.at.returns-in_default c).After-split_polygon_at-d) (worst-is (goal.at.returns-in_default c).After-split_polygon_at-d) (sym (ap answer c.enum_told-1.given.1) ∙ c.split_polygon_at-d.ensures) c.push-more.result
           c.push-more.ensures,
     )
 
 pub push_parts-cut-requires : goal.push_parts-cut-requires
 push_parts-cut-requires c =
     let g = c.before.before.before in
-    let s = c.before.before.before.before.before.before.before.before.before.before.before.before in
-    let z = top s in
+    let z = top (goal.at.push_parts-cut-requires c).Start in
     let h = c.requires.0 in
-    let r = range g _ c.d-1.given.1 in (
+    let r = range (goal.at.push_parts-cut-requires c).After-split_polygon_at-d _ c.d-1.given.1 in (
       Popped.kept-without c.args.s _ z.4 h,
       omega (arith, h.parts, r.2),
       omega (arith, r.2),
@@ -153,15 +147,14 @@ overflow_add-result-2 c =
 pub returns : goal.returns
 returns c =
     let g = c.before.before.before.before.before.before in
-    let s = c.before.before.before.before.before.before.before.before.before.before.before.before.before.before.before in
-    let z = top s in
+    let z = top (goal.at.returns c).Start in
     let d = c.d-1 in
     let k = d.given.0.0 in
-    let r = range g k d.given.1 in
+    let r = range (goal.at.returns c).After-split_polygon_at-d k d.given.1 in
     let q = c.push_parts-cut in (
-      Popped.within-cut c.args.s _ z.4 c.requires.0 (loaded g) (size g) refl c.args.ring (at g) k r.2 q.result.parts q.result.turned
+      Popped.within-cut c.args.s _ z.4 c.requires.0 (loaded (goal.at.returns c).After-split_polygon_at-d) (size (goal.at.returns c).After-split_polygon_at-d) refl c.args.ring (at (goal.at.returns c).After-split_polygon_at-d) k r.2 q.result.parts q.result.turned
           q.ensures,
       λ es len u w.
-          Popped.follows-cut c.args.s _ z.4 c.requires.0 (loaded g) (size g) refl c.args.ring es c.load-vs.ensures.0
-          c.args.limits u w (at g) (worst-is g) len k (chosen g k d.given.1) q.result.parts q.result.turned q.ensures,
+          Popped.follows-cut c.args.s _ z.4 c.requires.0 (loaded (goal.at.returns c).After-split_polygon_at-d) (size (goal.at.returns c).After-split_polygon_at-d) refl c.args.ring es c.load-vs.ensures.0
+          c.args.limits u w (at (goal.at.returns c).After-split_polygon_at-d) (worst-is (goal.at.returns c).After-split_polygon_at-d) len k (chosen (goal.at.returns c).After-split_polygon_at-d k d.given.1) q.result.parts q.result.turned q.ensures,
     )

@@ -31,10 +31,9 @@ any_out-out-requires c = omega (arith, full c, c.block_end-to.ensures.1, c.requi
 
 pub collect_block-n-requires : goal.collect_block-n-requires
 collect_block-n-requires c =
-    let b = c.before.before.before in
     let e = c.block_end-to.ensures in
     let o = c.before.before.before.before.before in
-    (omega (arith, e.1, c.requires.0), omega (arith, e.1, c.requires.1), le_of_lt e.0, e.2, full b, c.loop-i.invariant.1, c.loop-i.invariant.2)
+    (omega (arith, e.1, c.requires.0), omega (arith, e.1, c.requires.1), le_of_lt e.0, e.2, full (goal.at.collect_block-n-requires c).After-block_end-to, c.loop-i.invariant.1, c.loop-i.invariant.2)
 
 pub loop-i-smaller : goal.loop-i-smaller
 loop-i-smaller c =
@@ -43,14 +42,13 @@ loop-i-smaller c =
 
 pub loop-i-preserved : goal.loop-i-preserved
 loop-i-preserved c =
-    let b = c.before.before.before.before.before.before.before.before in
     let e = c.block_end-to.ensures in
     let o = c.before.before.before.before.before.before.before.before.before.before in
     (
       e.1,
       c.collect_block-n.auto.1.1.1.1.0 ∙ c.loop-i.invariant.1,
       c.collect_block-n.auto.1.1.1.1.1.0 ∙ c.loop-i.invariant.2,
-      block c.args.nodes.now c.loop-i.i c.block_end-to.result (full b) e.2 (le_of_lt e.0) c.loop-i.out c.any_out-out.result c.loop-i.invariant.3
+      block c.args.nodes.now c.loop-i.i c.block_end-to.result (full (goal.at.loop-i-preserved c).After-block_end-to) e.2 (le_of_lt e.0) c.loop-i.out c.any_out-out.result c.loop-i.invariant.3
           c.any_out-out.ensures,
       c.collect_block-n.ensures _ _ c.requires.3 c.requires.4 c.loop-i.invariant.4,
     )

@@ -25,10 +25,9 @@ low k = let a = k.args in low-number a.ring.now a.chain.now a.size a.number (len
 -- after the ring's block the destination is as long as before
 long : (y : After-write_block) → 1024 ≤ length y.write_block.new.0
 long y =
-    let k = y.before.before in
     let a = y.args in
-    let e = as_long a.ring.now a.chain.now a.size a.number a.out.now (passed k) y.write_block.new.0 y.write_block.ensures in
-    omega (arith, e, space k)
+    let e = as_long a.ring.now a.chain.now a.size a.number a.out.now (passed y.before.before) y.write_block.new.0 y.write_block.ensures in
+    omega (arith, e, space y.before.before)
 
 pub returns-then-code-gt0 : goal.returns-then-code-gt0
 returns-then-code-gt0 c =
@@ -39,35 +38,31 @@ returns-then-code-gt0 c =
 
 pub write_block-requires : goal.write_block-requires
 write_block-requires c =
-    let k = c.before in
     let a = c.args in
-    let h : 512 ≤ length a.out.now = omega (arith, space k) in
-    (h, few-ring a.ring.now a.chain.now a.size a.number (length a.out.now) (passed k), omega (arith, low k))
+    let h : 512 ≤ length a.out.now = omega (arith, space (goal.at.write_block-requires c).Else-code-gt0) in
+    (h, few-ring a.ring.now a.chain.now a.size a.number (length a.out.now) (passed (goal.at.write_block-requires c).Else-code-gt0), omega (arith, low (goal.at.write_block-requires c).Else-code-gt0))
 
 pub slice_bounds-write_block-count : goal.slice_bounds-write_block-count
-slice_bounds-write_block-count c = omega (arith, long c.before.before)
+slice_bounds-write_block-count c = omega (arith, long (goal.at.slice_bounds-write_block-count c).After-write_block)
 
 pub slice_bounds-write_block-start : goal.slice_bounds-write_block-start
-slice_bounds-write_block-start c = let h = long c.before.before in search rules
+slice_bounds-write_block-start c = let h = long (goal.at.slice_bounds-write_block-start c).After-write_block in search rules
 
 pub overflow_add-number : goal.overflow_add-number
-overflow_add-number c = omega (arith, low c.before.before.before.before.before)
+overflow_add-number c = omega (arith, low (goal.at.overflow_add-number c).Else-code-gt0)
 
 pub write_block-requires-2 : goal.write_block-requires-2
 write_block-requires-2 c =
-    let y = c.before.before.before in
-    let k = c.before.before.before.before.before in
     let a = c.args in (
-      part-long c.write_block.new.0 (long y),
-      few-chain a.ring.now a.chain.now a.size a.number (length a.out.now) (passed k),
-      omega (arith, low k),
+      part-long c.write_block.new.0 (long (goal.at.write_block-requires-2 c).After-write_block),
+      few-chain a.ring.now a.chain.now a.size a.number (length a.out.now) (passed (goal.at.write_block-requires-2 c).Else-code-gt0),
+      omega (arith, low (goal.at.write_block-requires-2 c).Else-code-gt0),
     )
 
 pub returns : goal.returns
 returns c =
-    let k = c.before.before.before.before.before.before.before.before in
     let a = c.args in (
-      sym (passed k),
-      both a.ring.now a.chain.now a.size a.number a.out.now (passed k) c.write_block.new.0 _ c.write_block.ensures
+      sym (passed (goal.at.returns c).Else-code-gt0),
+      both a.ring.now a.chain.now a.size a.number a.out.now (passed (goal.at.returns c).Else-code-gt0) c.write_block.new.0 _ c.write_block.ensures
           c.write_block-2.ensures,
     )

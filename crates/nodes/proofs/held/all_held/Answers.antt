@@ -23,14 +23,13 @@ pub any_out-requires : goal.any_out-requires
 any_out-requires c = omega (arith, full c, c.block_end-to.ensures.1, c.requires)
 
 pub returns-then-any_out : goal.returns-then-any_out
-returns-then-any_out c = let b = c.before.before in one_of _ 64 _ _ (full b) c.block_end-to.ensures.1 (sym c.any_out.ensures ∙ c.if-any_out.true)
+returns-then-any_out c = one_of _ 64 _ _ (full (goal.at.returns-then-any_out c).After-block_end-to) c.block_end-to.ensures.1 (sym c.any_out.ensures ∙ c.if-any_out.true)
 
 pub loop-i-preserved : goal.loop-i-preserved
 loop-i-preserved c =
-    let b = c.before.before in
     let e = c.block_end-to.ensures in (
       e.1,
-      go_on c.args.l.now 64 c.loop-i.i c.block_end-to.result (full b) e.2
+      go_on c.args.l.now 64 c.loop-i.i c.block_end-to.result (full (goal.at.loop-i-preserved c).After-block_end-to) e.2
           c.loop-i.invariant.1 (sym c.any_out.ensures ∙ c.if-any_out.false),
     )
 

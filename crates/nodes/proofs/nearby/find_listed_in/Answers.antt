@@ -37,31 +37,31 @@ pub loop-j-init : goal.loop-j-init
 loop-j-init c = (search rules, refl)
 
 pub bounds-xs-j : goal.bounds-xs-j
-bounds-xs-j c = (room c.before).3
+bounds-xs-j c = (room (goal.at.bounds-xs-j c).In-loop-j).3
 
 pub bounds-numbers-j : goal.bounds-numbers-j
-bounds-numbers-j c = (room c.before.before.before.before).2
+bounds-numbers-j c = (room (goal.at.bounds-numbers-j c).In-loop-j).2
 
 pub overflow_cast-k : goal.overflow_cast-k
-overflow_cast-k c = let i = c.before.before.before.before in omega (arith, low i, (room i).1)
+overflow_cast-k c = omega (arith, low (goal.at.overflow_cast-k c).In-loop-j, (room (goal.at.overflow_cast-k c).In-loop-j).1)
 
 pub overflow_mul-k : goal.overflow_mul-k
-overflow_mul-k c = let i = c.before.before.before.before in omega (arith, low i, (room i).1)
+overflow_mul-k c = omega (arith, low (goal.at.overflow_mul-k c).In-loop-j, (room (goal.at.overflow_mul-k c).In-loop-j).1)
 
 pub overflow_add-k : goal.overflow_add-k
-overflow_add-k c = let i = c.before.before.before.before in omega (arith, low i, (room i).1)
+overflow_add-k c = omega (arith, low (goal.at.overflow_add-k c).In-loop-j, (room (goal.at.overflow_add-k c).In-loop-j).1)
 
 pub offset_bounds-nodes-k : goal.offset_bounds-nodes-k
-offset_bounds-nodes-k c = let i = c.before.before.before.before in omega (arith, low i, (room i).1)
+offset_bounds-nodes-k c = omega (arith, low (goal.at.offset_bounds-nodes-k c).In-loop-j, (room (goal.at.offset_bounds-nodes-k c).In-loop-j).1)
 
 pub bounds-nodes-k : goal.bounds-nodes-k
-bounds-nodes-k c = omega (arith, (room c.before.before.before.before.before).0)
+bounds-nodes-k c = omega (arith, (room (goal.at.bounds-nodes-k c).In-loop-j).0)
 
 pub has_key-requires : goal.has_key-requires
 has_key-requires c =
     let i = c.before.before.before.before.before in
     let p = c.requires in
-    let h = p.0.ranged _ (low i) in
+    let h = p.0.ranged _ (low (goal.at.has_key-requires c).In-loop-j) in
     (subst (λ (x : Float). Within 1024 x) (sym (p.1.same _ c.loop-j-test.true)) h.0, h.1, p.3, p.4)
 
 pub returns-then-has_key : goal.returns-then-has_key
