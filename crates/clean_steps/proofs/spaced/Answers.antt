@@ -1,3 +1,5 @@
+use mathlib.Core.Bool.{not}
+use mathlib.Core.Path.{ap}
 use Prim.Native.Nat.{◌-◌}
 use native.Mathlib.Omega.{arith}
 use mathlib.Core.Path.{refl}
@@ -36,12 +38,12 @@ loop-i-preserved c =
     let n = c.near in
     elim c.if-not-near.branch [ then-not-near w ↦ rw (w.out-is, w.k-is) (
       spaced-keep c.args.tol c.args.ring c.args.r l.out.places l.k l.i c.requires.0 l.invariant.0 c.loop-i-test.true l.invariant.1
-          n.result n.ensures w.if-not-near.true,
+          n.result n.ensures (ap not w.if-not-near.true),
       omega arith,
       refl,
     ) | else-not-near w ↦ rw (w.out-is, w.k-is) (
       spaced_skip c.args.tol c.args.ring c.args.r l.out.places l.k l.i c.requires.0 l.invariant.0 c.loop-i-test.true l.invariant.1
-          n.result n.ensures w.if-not-near.false,
+          n.result n.ensures (ap not w.if-not-near.false),
       l.invariant.1,
       refl,
     ) ]

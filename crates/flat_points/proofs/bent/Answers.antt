@@ -1,12 +1,12 @@
 use Prim.Native.Nat.{◌-◌}
 use mathlib.Core.Path.{refl}
-use mathlib.Core.Logic.{⊎_elim}
 use borrow.Author.Rules.{rules}
 use Rattle.clean_steps.specs.Choices.{bent_places, chosen}
 use Rattle.clean_steps.proofs.Choices.{place-fits, offset_fits}
 use Rattle.clean_steps.proofs.Filter.{done}
 use Rattle.clean_steps.proofs.Turns.{bent-keep, bent_skip}
 use Rattle.flat_points.proofs.bent.Goals as goal
+use Rattle.flat_points.proofs.bent.Goals.{then-not-flat, else-not-flat}
 
 pub loop-i-init : goal.loop-i-init
 unfolding bent_places
@@ -47,20 +47,15 @@ pub loop-i-preserved : goal.loop-i-preserved
 loop-i-preserved c =
     let l = c.loop-i in
     let f = c.flat in
-    ⊎_elim
-    (λ w.
-    rw (w.1, w.2) (
+    elim c.if-not-flat.branch [ then-not-flat w ↦ rw (w.out-is, w.k-is) (
       bent-keep c.args.tol c.args.ring c.args.r l.out.places l.k l.i c.requires l.invariant.0 c.loop-i-test.true c.prev.result
-          c.next.result c.prev.ensures.0 c.next.ensures.0 f.result f.ensures w.0.taken,
+          c.next.result c.prev.ensures.0 c.next.ensures.0 f.result f.ensures w.if-not-flat.true,
       refl,
-    ))
-    (λ w.
-    rw (w.1, w.2) (
+    ) | else-not-flat w ↦ rw (w.out-is, w.k-is) (
       bent_skip c.args.tol c.args.ring c.args.r l.out.places l.k l.i c.requires l.invariant.0 c.loop-i-test.true c.prev.result
-          c.next.result c.prev.ensures.0 c.next.ensures.0 f.result f.ensures w.0.left,
+          c.next.result c.prev.ensures.0 c.next.ensures.0 f.result f.ensures w.if-not-flat.false,
       refl,
-    ))
-    c.if-not-flat.branch
+    ) ]
 
 pub returns : goal.returns
 returns c =

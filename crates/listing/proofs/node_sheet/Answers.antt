@@ -26,7 +26,7 @@ put_lines-requires c =
     (usable s.nodes.now s.node_count (sym c.nodes_out.ensures ∙ c.if-nodes_out.false), c.if-out-node_count.false)
 
 pub shape_of-out : goal.shape_of-out
-shape_of-out c = c.put_lines.auto.0
+shape_of-out c = c.put_lines.auto.out
 
 pub returns : goal.returns
 returns c =
@@ -34,4 +34,4 @@ returns c =
     let p = c.put_lines in
     written s.nodes.now s.node_count s.out.now
     (sym c.nodes_out.ensures ∙ c.if-nodes_out.false)
-    c.if-out-node_count.false p.result p.new.0 p.ensures
+    c.if-out-node_count.false p.result p.new.out p.ensures

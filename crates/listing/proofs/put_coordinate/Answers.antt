@@ -39,11 +39,11 @@ put_decimals-requires c =
     let n = c.ten_thousandths-n.result in
     let w = c.columns in
     let p = c.put_spaces-start in
-    right-room c.args.out.now c.args.at 28 w.result (decimals m n) w.ensures.0 (fit m n) c.requires.1 p.result p.new.0 p.ensures
+    right-room c.args.out.now c.args.at 28 w.result (decimals m n) w.ensures.0 (fit m n) c.requires.1 p.result p.new.out p.ensures
 
 pub shape_of-out : goal.shape_of-out
 shape_of-out c =
-    c.put_decimals.auto.0 ∙ c.put_spaces-start.auto.0
+    c.put_decimals.auto.out ∙ c.put_spaces-start.auto.out
 
 pub returns : goal.returns
 returns c =
@@ -52,7 +52,7 @@ returns c =
     let w = c.columns in
     let p = c.put_spaces-start in
     let q = c.put_decimals in
-    subst (λ (t : List ℕ). Written c.args.out.now c.args.at (right 28 t) q.result q.new.0)
+    subst (λ (t : List ℕ). Written c.args.out.now c.args.at (right 28 t) q.result q.new.out)
     (same c.args.x m.result n.result m.ensures n.ensures)
     (right-written c.args.out.now c.args.at 28 w.result (decimals m.result n.result) w.ensures.0 (fit m.result n.result)
-    c.requires.1 p.result p.new.0 p.ensures q.result q.new.0 q.ensures)
+    c.requires.1 p.result p.new.out p.ensures q.result q.new.out q.ensures)

@@ -10,13 +10,13 @@ use Rattle.listing.proofs.put_line.Goals as goal
 pub put_coordinate-y-requires : goal.put_coordinate-y-requires
 put_coordinate-y-requires c =
     let p = c.put_number-x in
-    (c.requires.2, omega (arith, p.auto.0, p.ensures.place, number-long c.args.i c.requires.0, c.requires.4))
+    (c.requires.2, omega (arith, p.auto.out, p.ensures.place, number-long c.args.i c.requires.0, c.requires.4))
 
 pub put_coordinate-end-requires : goal.put_coordinate-end-requires
 put_coordinate-end-requires c =
     let p = c.put_number-x in
     let q = c.put_coordinate-y in
-    let e : length q.new.0 ≡ length c.args.out.now = q.auto.0 ∙ p.auto.0 in (
+    let e : length q.new.out ≡ length c.args.out.now = q.auto.out ∙ p.auto.out in (
       c.requires.3,
       omega (
         arith,
@@ -34,7 +34,7 @@ put_byte-requires c =
     let p = c.put_number-x in
     let q = c.put_coordinate-y in
     let r = c.put_coordinate-end in
-    let e : length r.new.0 ≡ length c.args.out.now = r.auto.0 ∙ q.auto.0 ∙ p.auto.0 in
+    let e : length r.new.out ≡ length c.args.out.now = r.auto.out ∙ q.auto.out ∙ p.auto.out in
     omega (
       arith,
       e,
@@ -50,7 +50,7 @@ put_byte-requires c =
 -- the line's parts, from the last back to the first: the line feed, y, x, the number
 pub shape_of-out : goal.shape_of-out
 shape_of-out c =
-    c.put_byte.auto.0 ∙ c.put_coordinate-end.auto.0 ∙ c.put_coordinate-y.auto.0 ∙ c.put_number-x.auto.0
+    c.put_byte.auto.out ∙ c.put_coordinate-end.auto.out ∙ c.put_coordinate-y.auto.out ∙ c.put_number-x.auto.out
 
 pub returns : goal.returns
 returns c =

@@ -17,11 +17,11 @@ put_decimal-requires c =
     let w = c.width in
     let p = c.put_spaces-start in
     right-room c.args.out.now c.args.at 8 w.result (decimal c.args.i) w.ensures.0 (number-most c.args.i c.requires.0) c.requires.1
-    p.result p.new.0 p.ensures
+    p.result p.new.out p.ensures
 
 pub shape_of-out : goal.shape_of-out
 shape_of-out c =
-    c.put_decimal.auto.0 ∙ c.put_spaces-start.auto.0
+    c.put_decimal.auto.out ∙ c.put_spaces-start.auto.out
 
 pub returns : goal.returns
 returns c =
@@ -29,4 +29,4 @@ returns c =
     let p = c.put_spaces-start in
     let q = c.put_decimal in
     right-written c.args.out.now c.args.at 8 w.result (decimal c.args.i) w.ensures.0 (number-most c.args.i c.requires.0) c.requires.1
-    p.result p.new.0 p.ensures q.result q.new.0 q.ensures
+    p.result p.new.out p.ensures q.result q.new.out q.ensures

@@ -32,9 +32,9 @@ loop-i-preserved c =
     let p = c.put_byte-next in (
       search rules,
       l.invariant.1,
-      p.auto.0 ∙ l.invariant.2,
+      p.auto.out ∙ l.invariant.2,
       turn-written spaces (λ i. 32 ∷ []) more-spaces s.out.now s.at l.i s.n (all s.out.now s.at s.n l.invariant.1) (omega arith) l.next
-          l.out l.invariant.3 p.result p.new.0 p.ensures,
+          l.out l.invariant.3 p.result p.new.out p.ensures,
     )
 
 pub shape_of-out : goal.shape_of-out

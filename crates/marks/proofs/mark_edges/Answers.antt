@@ -15,7 +15,7 @@ use Rattle.marks.specs.Marks.{joins, mark}
 use Rattle.marks.specs.Edges.{Marked}
 use Rattle.marks.proofs.Edges.{mark-snap, mark-straight, marked-none, marked-snap, marked-straight}
 use Rattle.marks.proofs.mark_edges.Goals as goal
-use Rattle.marks.proofs.mark_edges.Goals.{After-joins, Left-search}
+use Rattle.marks.proofs.mark_edges.Goals.{After-joins, Left-search, else-search-test, then-search-test+then-joins}
 
 -- whether stretch j joins the ends of edge i
 judged : (k : After-joins) →
@@ -29,7 +29,6 @@ judged k =
 joined : (c : Left-search) →
     Marked (stretches_in c.args.chain) (points_of c.args.ring) (c.loop-i.i + 1) c.search-test.edges
 joined c =
-    let q = c.before in
     let o = c.search in
     let i = c.loop-i.i in
     let n = c.args.ring.count in
@@ -39,22 +38,20 @@ joined c =
     let ss = stretches_in chain in
     let a = rings.at_in ps n h (omega arith) i (omega arith) in
     let b = rings.at_next ps n h (omega arith) i _ c.next.ensures.0 in
-    ⊎_elim
-    (λ w.
-    let f = sym (laws.first-end _ chain.count o.j (omega arith)) ∙ o.invariant.6 in
-    rw w.1
-    (marked-straight ss (take n ps) i o.edges o.invariant.5 (omega arith)
-    ((λ j. mark ss (a j) (b j)) ∙ mark-straight chain _ _ chain.count f (omega arith))))
-    (λ w.
-    let j = judged (record {
-      before = record { before = record { before = record { before = q; search-test = w.0 }; joins-arg = w.1 }; joins-arg2 = w.2 };
-      joins = w.3;
-    }) in
-    let f = sym (laws.first_hit _ chain.count o.j w.0.taken (sym j ∙ w.4.taken)) ∙ o.invariant.6 in
-    rw w.6
-    (marked-snap ss (take n ps) i o.edges o.invariant.5 (omega arith) _
-    (sym ((λ j. mark ss (a j) (b j)) ∙ mark-snap chain _ _ o.j f w.0.taken))))
-    c.search-test.branch
+    elim c.search-test.branch [
+      else-search-test w ↦
+        let f = sym (laws.first-end _ chain.count o.j (omega arith)) ∙ o.invariant.6 in
+        rw w.edges-is
+        (marked-straight ss (take n ps) i o.edges o.invariant.5 (omega arith)
+        ((λ j. mark ss (a j) (b j)) ∙ mark-straight chain _ _ chain.count f (omega arith)))
+    | then-search-test+then-joins w ↦
+        let j : w.joins.result ≡ joins (get_or ps i origin) (get_or ps c.next.result origin) (stretch_in chain.points chain.snaps o.j) =
+        rw (add-one o.j) at (w.joins.ensures (get_or chain.snaps o.j no_stretch.snap)) in
+        let f = sym (laws.first_hit _ chain.count o.j w.search-test.true (sym j ∙ w.if-joins.true)) ∙ o.invariant.6 in
+        rw w.edges-is
+        (marked-snap ss (take n ps) i o.edges o.invariant.5 (omega arith) _
+        (sym ((λ j. mark ss (a j) (b j)) ∙ mark-snap chain _ _ o.j f w.search-test.true)))
+    ]
 
 pub loop-i-init : goal.loop-i-init
 loop-i-init c = (search rules, search rules, search rules, search rules, marked-none _ _)

@@ -11,8 +11,8 @@ use native.Mathlib.Omega.{arith}
 use Rattle.obstacles.proofs.is_unobstructed.Goals as goal
 use Rattle.obstacles.proofs.is_unobstructed.Goals.{After-lerp}
 
-middle : (c : After-lerp) → let s = c.args in c.lerp.result ≡ lerp (in_mm (get_or s.t1.points 0 origin))
-    (in_mm (get_or s.t1.points s.k origin)) (lit 5 1)
+middle : (c : After-lerp) → let s = c.args in c.lerp.result ≡ lerp (in_mm (get_or s.part.points 0 origin))
+    (in_mm (get_or s.part.points s.k origin)) (lit 5 1)
 unfolding lit of_bits round
 middle c =
     let x = c.new.ensures in

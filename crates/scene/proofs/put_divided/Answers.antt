@@ -46,8 +46,8 @@ put_form-requires c =
 
 pub shape_of-out : goal.shape_of-out
 shape_of-out c =
-    c.put_form.auto.0 ∙ c.put_quads-end.auto.0 ∙ c.put_form-quads.auto.0
-    ∙ c.put_points-closed.auto.0 ∙ c.put_form-outline.auto.0
+    c.put_form.auto.out ∙ c.put_quads-end.auto.out ∙ c.put_form-quads.auto.out
+    ∙ c.put_points-closed.auto.out ∙ c.put_form-outline.auto.out
 
 pub returns : goal.returns
 unfolding bytes

@@ -47,7 +47,7 @@ put_form-requires c =
 
 pub shape_of-out : goal.shape_of-out
 shape_of-out c =
-    c.put_form.auto.0 ∙ c.put_points-closed.auto.0 ∙ c.put_form-first.auto.0
+    c.put_form.auto.out ∙ c.put_points-closed.auto.out ∙ c.put_form-first.auto.out
 
 pub returns : goal.returns
 unfolding bytes

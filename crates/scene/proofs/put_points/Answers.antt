@@ -35,10 +35,10 @@ loop-i-preserved c =
       search rules,
       l.invariant.1,
       l.invariant.2,
-      p.auto.0 ∙ l.invariant.3,
+      p.auto.out ∙ l.invariant.3,
       turn-written (Scene.points_text s.ring.now) (Scene.point_text s.ring.now) (λ i. refl) s.out.now s.at l.i s.count l.invariant.2
           (omega arith) l.next l.out
-          l.invariant.4 p.result p.new.0 (written_as (λ j. Scene.placed (x j) (y j)) p.ensures),
+          l.invariant.4 p.result p.new.out (written_as (λ j. Scene.placed (x j) (y j)) p.ensures),
     )
 
 pub shape_of-out : goal.shape_of-out

@@ -51,8 +51,8 @@ put_snap-requires c =
 
 pub shape_of-out : goal.shape_of-out
 shape_of-out c =
-    c.put_snap.auto.0 ∙ c.put_half-third.auto.0
-    ∙ c.put_half-second.auto.0 ∙ c.put_cell-first.auto.0
+    c.put_snap.auto.out ∙ c.put_half-third.auto.out
+    ∙ c.put_half-second.auto.out ∙ c.put_cell-first.auto.out
 
 pub returns : goal.returns
 unfolding Scene.quad_text

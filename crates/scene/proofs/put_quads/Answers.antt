@@ -37,10 +37,10 @@ loop-i-preserved c =
       search rules,
       l.invariant.2,
       l.invariant.3,
-      p.auto.0 ∙ l.invariant.4,
+      p.auto.out ∙ l.invariant.4,
       turn-written (Scene.quads_text s.nodes.now s.rims.now s.cells.now)
           (λ i. Scene.quad_text (Scene.quad_of s.nodes.now s.rims.now s.cells.now i)) (λ i. refl)
-          s.out.now s.at l.i (length s.cells.now / 4) l.invariant.3 (omega arith) l.next l.out l.invariant.5 p.result p.new.0
+          s.out.now s.at l.i (length s.cells.now / 4) l.invariant.3 (omega arith) l.next l.out l.invariant.5 p.result p.new.out
           (written_as (ap Scene.quad_text c.read_quad.ensures) p.ensures),
     )
 

@@ -6,13 +6,12 @@ use Rattle.simple.specs.Simple as Simple
 use lib.Seq.{length-take-le}
 use lib.ListN.{length}
 use Rattle.vector.specs.Rings.{points_of}
-use mathlib.Core.Logic.{⊎_elim}
 use mathlib.Core.Path.{◌≡◌, refl, sym, ap, ◌∙◌}
 use Prim.Native.Nat.{◌-◌}
 use borrow.Author.Rules.{rules}
 use native.Mathlib.Omega.{arith}
 use Rattle.simple.proofs.point_in_polygon.Goals as goal
-use Rattle.simple.proofs.point_in_polygon.Goals.{After-ray_meets}
+use Rattle.simple.proofs.point_in_polygon.Goals.{After-ray_meets, then-ray_meets, else-ray_meets}
 
 meets-is : (k : After-ray_meets) → let s = k.args in k.ray_meets.result ≡ Simple.meets_edge (points_of s.ring) s.p
     k.loop-i.i
@@ -23,7 +22,7 @@ meets-is k =
     let e = rings.room k.args.ring k.requires.0 in
     let ps = k.args.ring.points in
     let n = k.args.ring.count in
-    let a = k.new.ensures ∙ ap Plane.in_mm (sym (rings.at_in ps n e (omega arith) i t)) in
+    let a = k.new-a.ensures ∙ ap Plane.in_mm (sym (rings.at_in ps n e (omega arith) i t)) in
     let b = k.new-b.ensures ∙ ap Plane.in_mm (sym (rings.at_next ps n e (omega arith) i _ k.next.ensures.0)) in
     k.ray_meets.ensures ∙ (λ j. Simple.ray_meets (a j) (b j) k.args.p)
 
@@ -39,10 +38,10 @@ loop-i-preserved c =
       search rules,
       search rules,
       search rules,
-      ⊎_elim
-          (λ w. w.1 ∙ search-laws.parity_flip q l.i l.inside l.invariant.3 (sym (meets-is (goal.at.loop-i-preserved c).After-ray_meets) ∙ w.0.taken))
-          (λ w. w.1 ∙ search-laws.parity-keep q l.i l.inside l.invariant.3 (sym (meets-is (goal.at.loop-i-preserved c).After-ray_meets) ∙ w.0.left))
-          c.if-ray_meets.branch,
+      elim c.if-ray_meets.branch [
+        then-ray_meets w ↦ w.inside-is ∙ search-laws.parity_flip q l.i l.inside l.invariant.3 (sym (meets-is (goal.at.loop-i-preserved c).After-ray_meets) ∙ w.if-ray_meets.true)
+      | else-ray_meets w ↦ w.inside-is ∙ search-laws.parity-keep q l.i l.inside l.invariant.3 (sym (meets-is (goal.at.loop-i-preserved c).After-ray_meets) ∙ w.if-ray_meets.false)
+      ],
     )
 
 pub returns : goal.returns

@@ -1,6 +1,5 @@
 use Prim.Native.Nat.{◌+◌, ◌-◌}
 use mathlib.Core.Path.{◌≡◌, refl, sym, ◌∙◌}
-use mathlib.Core.Logic.{⊎_elim}
 use mathlib.Core.Bool.{true, false}
 use lib.Seq.{length-take-le}
 use borrow.Author.Rules.{rules}
@@ -12,7 +11,7 @@ use Rattle.simple.specs.Simple as Simple
 use Rattle.simple.proofs.Pairs as pairs
 use native.Mathlib.Omega.{arith}
 use Rattle.simple.proofs.polygon_simple.Goals as goal
-use Rattle.simple.proofs.polygon_simple.Goals.{After-edges_cross}
+use Rattle.simple.proofs.polygon_simple.Goals.{After-edges_cross, else-scan-test, then-scan-test+then-loop-j-test+then-edges_cross}
 
 pub returns-then-n-lt3 : goal.returns-then-n-lt3
 returns-then-n-lt3 c =
@@ -71,44 +70,17 @@ returns c =
     let e = sym (length-take-le a.ring.count a.ring.points h) in
     let r = points_of a.ring in
     pairs.simple-is r c.scan-test.found
-    (⊎_elim
-    (λ w. w.1 ∙ s.invariant.4 ∙ sym (pairs.any-fewer _ s.i _ s.invariant.5 w.0.left))
-    (λ w. w.11
-    ∙ sym
-    (search-laws.any_hit _ s.i _ w.0.taken
-    (search-laws.any_hit _ w.4.j _ w.5.taken
-    (sym
-    (judged
-    (record {
-      before =
-          record {
-            before =
-                record {
-                  before =
-                      record {
-                        before =
-                            record {
-                              before =
-                                  record {
-                                    before =
-                                        record {
-                                          before =
-                                              record { before = record { before = record { before = c.before; scan-test = w.0 }; a = w.1 }; next = w.2 };
-                                          b = w.3;
-                                        };
-                                    loop = w.4;
-                                  };
-                              loop-test = w.5;
-                            };
-                        next2 = w.6;
-                      };
-                  edges-cross-arg = w.7;
-                };
-            edges-cross-arg2 = w.8;
-          };
-      edges-cross = w.9;
-    }))
-    ∙ w.10.taken))))
-    c.scan-test.branch
+    (elim c.scan-test.branch [
+      else-scan-test w ↦ w.found-is ∙ s.invariant.4 ∙ sym (pairs.any-fewer _ s.i _ s.invariant.5 w.scan-test.false)
+    | then-scan-test+then-loop-j-test+then-edges_cross w ↦
+        let j : w.edges_cross.result ≡ Simple.edges_cross r s.i w.loop-j.j =
+        w.edges_cross.ensures
+        ∙ pairs.judged a.ring.points a.ring.count h (omega arith) s.i w.next.result w.loop-j.j w.next-k.result
+        (omega arith) w.next.ensures.0 w.loop-j.invariant.4 (omega arith) w.next-k.ensures.0 in
+        w.found-is
+        ∙ sym
+        (search-laws.any_hit _ s.i _ w.scan-test.true
+        (search-laws.any_hit _ w.loop-j.j _ w.loop-j-test.true (sym j ∙ w.if-edges_cross.true)))
+    ]
     ∙ (λ q. any (λ i. any (Simple.edges_cross r i) (e q)) (e q)))
-    (rw (length-take-le a.t1.count a.t1.points h) s.invariant.0)
+    (rw (length-take-le a.ring.count a.ring.points h) s.invariant.0)

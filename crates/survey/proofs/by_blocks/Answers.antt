@@ -46,8 +46,8 @@ loop-i-preserved c =
     let o = c.before.before.before.before.before.before.before.before.before.before in
     (
       e.1,
-      c.collect_block-n.auto.1.1.1.1.0 ∙ c.loop-i.invariant.1,
-      c.collect_block-n.auto.1.1.1.1.1.0 ∙ c.loop-i.invariant.2,
+      c.collect_block-n.auto.numbers.numbers.1.1.0 ∙ c.loop-i.invariant.1,
+      c.collect_block-n.auto.numbers.1.1.1.1.0 ∙ c.loop-i.invariant.2,
       block c.args.nodes.now c.loop-i.i c.block_end-to.result (full (goal.at.loop-i-preserved c).After-block_end-to) e.2 (le_of_lt e.0) c.loop-i.out c.any_out-out.result c.loop-i.invariant.3
           c.any_out-out.ensures,
       c.collect_block-n.ensures _ _ c.requires.3 c.requires.4 c.loop-i.invariant.4,

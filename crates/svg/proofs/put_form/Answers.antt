@@ -24,7 +24,7 @@ loop-i-preserved c =
       search rules,
       search rules,
       omega arith,
-      part-written l.invariant.3 (omega arith) n.result n.ensures t.result p.result p.new.0 t.ensures.0 p.auto.0 p.ensures,
+      part-written l.invariant.3 (omega arith) n.result n.ensures t.result p.result p.new.out t.ensures.0 p.auto.out p.ensures,
     )
 
 pub shape_of-out : goal.shape_of-out

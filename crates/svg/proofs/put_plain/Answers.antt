@@ -28,7 +28,7 @@ put_decimal-requires c =
     room c.args.out.now c.args.at (45 ∷ []) (decimal ((origin - c.args.n) / 10000)) h c.put_byte-next.ensures
 
 pub shape_of-out-then-n-lt-ORIGIN : goal.shape_of-out-then-n-lt-ORIGIN
-shape_of-out-then-n-lt-ORIGIN c = c.put_decimal.auto.0 ∙ c.put_byte-next.auto.0
+shape_of-out-then-n-lt-ORIGIN c = c.put_decimal.auto.out ∙ c.put_byte-next.auto.out
 
 pub returns-then-n-lt-ORIGIN : goal.returns-then-n-lt-ORIGIN
 returns-then-n-lt-ORIGIN c =

@@ -18,12 +18,12 @@ pub returns-in-Ring : goal.returns-in-Ring
 returns-in-Ring c =
     let a = c.args in
     let p = c.print_row in
-    printed_as true a.text.now _ _ p.result p.new.0 refl
+    printed_as true a.text.now _ _ p.result p.new.out refl
     (tells-ring a.told a.cells.now _ _ _ c.told.given.1) p.ensures
 
 pub returns-in-Block : goal.returns-in-Block
 returns-in-Block c =
     let a = c.args in
     let p = c.print_refused_block in
-    printed_as (Report.holds a.text.now) a.text.now _ _ p.result p.new.0 (has_room a.text.now c.requires.1)
+    printed_as (Report.holds a.text.now) a.text.now _ _ p.result p.new.out (has_room a.text.now c.requires.1)
     (tells-block a.told a.cells.now _ _ c.told-in-Block-1.given.1) p.ensures

@@ -12,7 +12,7 @@ pub returns-then-v-ne0 : goal.returns-then-v-ne0
 returns-then-v-ne0 c =
     let a = c.args in
     let p = c.print_refused_ring in
-    printed_as (Report.holds a.text.now) a.text.now _ _ p.result p.new.0 (has_room a.text.now c.requires.2)
+    printed_as (Report.holds a.text.now) a.text.now _ _ p.result p.new.out (has_room a.text.now c.requires.2)
     (row-refused a.ring a.used a.v a.cells.now c.if-v-ne0.true) p.ensures
 
 pub overflow_sub-row : goal.overflow_sub-row
@@ -33,6 +33,6 @@ returns c =
     let a = c.args in
     let p = c.print_ring in
     let z = c.if-v-ne0.false in
-    printed_as _ a.text.now _ _ p.result p.new.0
+    printed_as _ a.text.now _ _ p.result p.new.out
     (has_both a.text.now a.cells.now (a.v.cells * 4) c.requires.2 c.requires.1 (c.requires.0.listed z))
     (row-accepted a.ring a.used a.v a.cells.now z) p.ensures

@@ -13,10 +13,7 @@ use Rattle.keys.specs.Keys.{key_of}
 use Rattle.nodes.specs.Nearby.{has_listed}
 use Rattle.nodes.proofs.Collection.{listed-is, not-close}
 use Rattle.nodes.proofs.nearby.find_listed_in.Goals as goal
-use Rattle.nodes.proofs.nearby.find_listed_in.Goals.{In-loop-j, Joined-is_near, Start}
-
-abbrev begin : In-loop-j → Start
-begin c = c.before.before.before.before.before
+use Rattle.nodes.proofs.nearby.find_listed_in.Goals.{In-loop-j, Joined-is_near, then-is_near+else-has_key, else-is_near}
 
 -- the number that is read is that of a node
 low : (c : In-loop-j) → get_or c.args.numbers.now c.loop-j.j 0 < c.args.old
@@ -59,30 +56,26 @@ bounds-nodes-k c = omega (arith, (room (goal.at.bounds-nodes-k c).In-loop-j).0)
 
 pub has_key-requires : goal.has_key-requires
 has_key-requires c =
-    let i = c.before.before.before.before.before in
     let p = c.requires in
     let h = p.0.ranged _ (low (goal.at.has_key-requires c).In-loop-j) in
     (subst (λ (x : Float). Within 1024 x) (sym (p.1.same _ c.loop-j-test.true)) h.0, h.1, p.3, p.4)
 
 pub returns-then-has_key : goal.returns-then-has_key
 returns-then-has_key c =
-    let i = c.before.before.before.before.before.before.before in
     sym (first_hit _ _ _ c.loop-j-test.true
     (listed-is _ _ _ _ _ _ _ _ c.requires.1 c.loop-j-test.true ∙ sym c.has_key.ensures ∙ c.if-has_key.true)) ∙ c.loop-j.invariant.1
 
 -- the node of this turn has not both keys
 other : (c : Joined-is_near)
-    → let i = c.before.before.before in
-    let a = c.args in
+    → let a = c.args in
     has_listed a.nodes.now a.numbers.now (key_of a.kx) (key_of a.ky) c.loop-j.j ≡ false
 other c =
-    let i = c.before.before.before in
     let p = c.requires in
     let h = c.loop-j-test.true in
-    ⊎_elim
-    (λ t. listed-is _ _ _ _ _ _ _ _ p.1 h ∙ sym t.3.ensures ∙ t.4.left)
-    (λ t. not-close _ _ _ _ _ c.args.kx (key_of c.args.ky) _ p.1 p.3 p.0 h (sym c.is_near.ensures ∙ t.left))
-    c.if-is_near.branch
+    elim c.if-is_near.branch [
+      then-is_near+else-has_key w ↦ listed-is _ _ _ _ _ _ _ _ p.1 h ∙ sym w.has_key.ensures ∙ w.if-has_key.false
+    | else-is_near w ↦ not-close _ _ _ _ _ c.args.kx (key_of c.args.ky) _ p.1 p.3 p.0 h (sym c.is_near.ensures ∙ w.if-is_near.false)
+    ]
 
 pub loop-j-preserved : goal.loop-j-preserved
 loop-j-preserved c =
