@@ -65,7 +65,7 @@ first_failing-f-requires c =
 
 pub shape_of-nodes : goal.shape_of-nodes
 shape_of-nodes c =
-    c.add_node-z.auto.0 ∙ c.add_middles-m.auto.0 ∙ c.add_corners-u.auto.0
+    c.add_node-z.auto.nodes ∙ c.add_middles-m.auto.nodes ∙ c.add_corners-u.auto.nodes
 
 pub returns : goal.returns
 returns c =

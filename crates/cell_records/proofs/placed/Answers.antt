@@ -11,17 +11,17 @@ use Rattle.cell_records.proofs.placed.Goals as goal
 use Rattle.cell_records.proofs.placed.Goals.{Joined-v-eq8}
 
 pub cell_reserve-count-requires : goal.cell_reserve-count-requires
-cell_reserve-count-requires c = c.requires.1 (sym (ap (λ (v : Row). v.code) c.new.ensures) ∙ c.if-v-eq8.true)
+cell_reserve-count-requires c = c.requires.1 (sym (ap (λ (v : Row). v.code) c.new-v.ensures) ∙ c.if-v-eq8.true)
 
-counted : (c : Joined-v-eq8) → let a = c.args in c.if-v-eq8.count ≡ new_cells c.new.result (cell_reserve a.limits a.own)
+counted : (c : Joined-v-eq8) → let a = c.args in c.if-v-eq8.count ≡ new_cells c.new-v.result (cell_reserve a.limits a.own)
 counted c = ⊎_elim (λ w. w.2 ∙ w.1.ensures ∙ sym (rw (eq-eqb _ _ w.0.taken))) (λ w. w.1 ∙ sym (rw (ne_eqb _ _ w.0.left))) c.if-v-eq8.branch
 
 pub overflow_add-v : goal.overflow_add-v
-overflow_add-v c = record { fits = rw c.new.ensures c.requires.0 }
+overflow_add-v c = record { fits = rw c.new-v.ensures c.requires.0 }
 
 pub returns : goal.returns
 returns c =
     let s = c.args in
-    let v = c.new in
+    let v = c.new-v in
     (λ j. record { numbers = s.numbers; at = s.at; count = counted (goal.at.returns c).Joined-v-eq8 j; values = with_cells v.result (s.at + v.result.cells) })
     ∙ ap (λ (v : Row). laid_of v s.numbers s.at (cell_reserve s.limits s.own)) v.ensures

@@ -1,22 +1,15 @@
 use mathlib.Core.Path.{◌≡◌, sym, ap, ◌∙◌}
-use Prim.Native.Nat.{ℕ, ◌-◌}
-use mathlib.Core.List.{List}
-use mathlib.Core.Bool.{Bool, not}
-use lib.ListN.{get_or, take}
-use lib.Ieee.{Float}
+use Prim.Native.Nat.{◌-◌}
+use mathlib.Core.Bool.{not}
 use Rattle.laws.proofs.Search.{first_hit, first-pass, first-end, first-start}
 use Rattle.nodes.specs.Flat.{nodes_in}
 use Rattle.quads.specs.Quads as Quads
-use Rattle.quads.specs.Quads.{cells_to, no_cell}
 use Rattle.quads.proofs.CellList as cell
 use borrow.Author.Rules.{rules}
 use native.Mathlib.Omega.{arith}
 use Rattle.cell_tests.proofs.first_failing.Goals as goal
+use Rattle.cell_tests.proofs.first_failing.Invariants.{fails}
 use Rattle.cell_tests.proofs.first_failing.Goals.{After-holds}
-
--- cell k fails
-abbrev fails : List Float → ℕ → ℕ → List ℕ → List ℕ → ℕ → ℕ → Bool
-fails l u c ms vs n k = not (Quads.holds (nodes_in l u) (get_or (cells_to c (take n ms) (take n vs) n) k no_cell))
 
 -- what the test says of cell k
 abbrev Tested : After-holds → Type 0

@@ -13,11 +13,7 @@ use Rattle.diagonal.proofs.Choosing.{held, fits}
 use borrow.Author.Rules.{rules}
 use native.Mathlib.Omega.{arith}
 use Rattle.diagonal.proofs.best_diagonal.Goals as goal
-use Rattle.diagonal.proofs.best_diagonal.Goals.{After-judge-j, At-loop-k, Joined-improves, Start}
-
--- what is known where the loop stands
-abbrev start : At-loop-k → Start
-start c = c.before.before.before.before.before.before.before.before
+use Rattle.diagonal.proofs.best_diagonal.Goals.{After-judge-j, At-loop-k, Joined-improves}
 
 room : (c : At-loop-k) → c.args.part.count ≤ length c.args.part.points
 room c = rings.room c.args.part c.requires.0

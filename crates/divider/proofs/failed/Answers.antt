@@ -8,4 +8,4 @@ pub returns-in_default : goal.returns-in_default
 returns-in_default c = sym (ap (λ (s : Subdivision). failed_answer s c.args.cells) c.enum_told-1.given.1)
 
 pub returns : goal.returns
-returns c = sym (ap (λ (s : Subdivision). failed_answer s c.args.cells) c.laid-1.given.1)
+returns c = sym (ap (λ (s : Subdivision). failed_answer s c.args.cells) c.in-Failed.is)

@@ -83,7 +83,7 @@ overflow_add-result c =
     let x = lists_in a.nodes.now a.node_count a.rims.now a.cells.now a.cell_count in
     let o = outcome-is a.limits a.own a.ring a.nodes.now a.node_count a.rims.now a.cells.now a.cell_count (sought (goal.at.overflow_add-result c).Start) t.result w in
     let y =
-    if_done (outcome_of a.limits (part_in a.ring) x) (sym (ap row c.laid-1.given.1) ∙ d.ensures.0 ∙ ap row_of o) in
+    if_done (outcome_of a.limits (part_in a.ring) x) (sym (ap row c.in-Done.is) ∙ d.ensures.0 ∙ ap row_of o) in
     let h = cell_room a.limits a.own a.ring a.nodes.now a.node_count a.rims.now a.cells.now a.cell_count (sought (goal.at.overflow_add-result c).Start) _ _ y in
     omega (arith, c.good.1.1.1.1.1.1.1.0)
 
@@ -100,7 +100,7 @@ returns c =
     rims-are a.limits a.own a.ring a.nodes.now a.node_count a.rims.now a.cells.now a.cell_count (sought (goal.at.returns c).Start) t.result w
     c.requires.0.held.marks (t.ensures.0 every_mark every_length) in
     let y =
-    if_done (outcome_of a.limits (part_in a.ring) x) (sym (ap row c.laid-1.given.1) ∙ d.ensures.0 ∙ ap row_of o) in
+    if_done (outcome_of a.limits (part_in a.ring) x) (sym (ap row c.in-Done.is) ∙ d.ensures.0 ∙ ap row_of o) in
     let z = shown a.limits a.own a.ring a.nodes.now a.node_count a.rims.now a.cells.now a.cell_count (sought (goal.at.returns c).Start) t.result w in
     moved (d.ensures.1 ∙ ap (λ (o : Outcome). over a.nodes.now (nodes_of o)) o) (d.ensures.3 ∙ g)
     (d.ensures.2 ∙ ap (λ (o : Outcome). over_from a.cells.now a.cell_count (cells_left_of r.result o)) o)

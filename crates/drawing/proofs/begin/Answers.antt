@@ -5,9 +5,9 @@ use Rattle.drawing.proofs.begin.Goals as goal
 pub returns-then-c-gt0 : goal.returns-then-c-gt0
 returns-then-c-gt0 c =
     let a = c.args in
-    begins-not a.line a.size a.o a.ring.now a.chain.now c.close-c.result c.close-c.new.1.1.1.0 c.close-c.ensures c.if-c-gt0.true
+    begins-not a.line a.size a.o a.ring.now a.chain.now c.close-c.result c.close-c.new.out c.close-c.ensures c.if-c-gt0.true
 
 pub returns : goal.returns
 returns c =
     let a = c.args in
-    begins_so a.line a.size a.o a.ring.now a.chain.now c.close-c.result c.close-c.new.1.1.1.0 c.close-c.ensures c.if-c-gt0.false
+    begins_so a.line a.size a.o a.ring.now a.chain.now c.close-c.result c.close-c.new.out c.close-c.ensures c.if-c-gt0.false

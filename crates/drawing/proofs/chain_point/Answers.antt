@@ -9,5 +9,5 @@ returns-then-o-eq60 c =
 
 pub returns : goal.returns
 returns c =
-    chain_more c.args.o c.args.h c.args.chain.now c.put_point.new.0 c.if-o-eq60.false
+    chain_more c.args.o c.args.h c.args.chain.now c.put_point.new.places c.if-o-eq60.false
     c.put_point.ensures

@@ -30,12 +30,12 @@ returns-then-code-gt0 c =
     let w = c.blocks_write-code in
     closes-refused a.o a.ring.now a.chain.now a.out.now c.requires
     c.if-o-eq0.false w.result w.ensures.0 c.fails.result
-    w.new.1.1.1.1.0 c.if-code-gt0.true c.fails.ensures (w.auto.1.1.1.1.0 ∙ c.requires.out_long)
+    w.new.out c.if-code-gt0.true c.fails.ensures (w.auto.out ∙ c.requires.out_long)
 
 pub returns : goal.returns
 returns c =
     let a = c.args in
     let w = c.blocks_write-code in
     closes-written a.o a.ring.now a.chain.now a.out.now c.requires
-    c.if-o-eq0.false w.result w.ensures.0 w.new.1.1.1.1.0
-    (omega (arith, c.if-code-gt0.false)) w.ensures.1 (w.auto.1.1.1.1.0 ∙ c.requires.out_long)
+    c.if-o-eq0.false w.result w.ensures.0 w.new.out
+    (omega (arith, c.if-code-gt0.false)) w.ensures.1 (w.auto.out ∙ c.requires.out_long)

@@ -9,5 +9,5 @@ returns-then-o-eq60 c =
 
 pub returns : goal.returns
 returns c =
-    ring-more c.args.o c.args.h c.args.ring.now c.put_point.new.0 c.if-o-eq60.false
+    ring-more c.args.o c.args.h c.args.ring.now c.put_point.new.places c.if-o-eq60.false
     c.put_point.ensures

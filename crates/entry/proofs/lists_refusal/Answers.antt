@@ -8,10 +8,7 @@ use Rattle.survey.specs.declared.NodeSurvey.{NodeSurvey}
 use Rattle.survey.proofs.Gathering as gathering
 use Rattle.entry.proofs.Tests.{over, fit, counts_hold, looked_none, looked_all, nothing, all}
 use Rattle.entry.proofs.lists_refusal.Goals as goal
-use Rattle.entry.proofs.lists_refusal.Goals.{After-counts_over, Else-counts_over, Start}
-
-abbrev start : After-counts_over → Start
-start c = c.before.before.before.before.before
+use Rattle.entry.proofs.lists_refusal.Goals.{Else-counts_over}
 
 pub returns-then-counts_over : goal.returns-then-counts_over
 returns-then-counts_over c =

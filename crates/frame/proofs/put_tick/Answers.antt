@@ -17,7 +17,7 @@ put_beside-requires c =
     (c.requires.0, c.requires.1, room a.out.now a.at (Head.below_text a.f a.i) (Head.beside_text a.f a.i) c.requires.2 c.put_below-next.ensures)
 
 pub shape_of-out : goal.shape_of-out
-shape_of-out c = c.put_beside.auto.0 ∙ c.put_below-next.auto.0
+shape_of-out c = c.put_beside.auto.out ∙ c.put_below-next.auto.out
 
 pub returns : goal.returns
 unfolding Head.tick_text

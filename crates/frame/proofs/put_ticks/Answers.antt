@@ -32,9 +32,9 @@ loop-i-preserved c =
       search rules,
       l.invariant.1,
       l.invariant.2,
-      p.auto.0 ∙ l.invariant.3,
+      p.auto.out ∙ l.invariant.3,
       turn-written (Head.ticks_text s.f) (Head.tick_text s.f) (λ i. refl) s.out.now s.at l.i 9 l.invariant.2 (omega arith) l.next l.out
-          l.invariant.4 p.result p.new.0 p.ensures,
+          l.invariant.4 p.result p.new.out p.ensures,
     )
 
 pub shape_of-out : goal.shape_of-out

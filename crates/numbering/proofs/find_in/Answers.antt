@@ -1,6 +1,5 @@
 use Prim.Native.Nat.{◌-◌}
 use native.Mathlib.Omega.{arith}
-use mathlib.Core.Logic.{⊎_elim}
 use mathlib.Core.Path.{◌≡◌, refl, sym, ◌∙◌}
 use mathlib.Core.Bool.{false}
 use borrow.Author.Rules.{rules}
@@ -9,7 +8,7 @@ use Rattle.keys.specs.Keys.{key_of}
 use Rattle.nodes.specs.Flat.{has_at}
 use Rattle.nodes.proofs.Scan.{has-is, not-near}
 use Rattle.numbering.proofs.find_in.Goals as goal
-use Rattle.numbering.proofs.find_in.Goals.{Joined-is_near}
+use Rattle.numbering.proofs.find_in.Goals.{Joined-is_near, then-is_near+else-has_key, else-is_near, then-is_near+else-has_key, else-is_near}
 
 pub loop-i-init : goal.loop-i-init
 loop-i-init c = (search rules, refl)
@@ -33,11 +32,12 @@ other : (c : Joined-is_near)
 other c =
     let l = c.loop-i in
     let a = c.args in
-    ⊎_elim
-    (λ t. has-is a.nodes.now (key_of a.kx) (key_of a.ky) l.i ∙ sym t.2.ensures ∙ t.3.left)
-    (λ t. not-near a.nodes.now a.kx (key_of a.ky) l.i c.requires.2 (c.requires.0.ranged l.i c.loop-i-test.true).0
-    (sym c.is_near.ensures ∙ t.left))
-    c.if-is_near.branch
+    elim c.if-is_near.branch [
+      then-is_near+else-has_key w ↦ has-is a.nodes.now (key_of a.kx) (key_of a.ky) l.i ∙ sym w.has_key.ensures ∙ w.if-has_key.false
+    | else-is_near w ↦
+        not-near a.nodes.now a.kx (key_of a.ky) l.i c.requires.2 (c.requires.0.ranged l.i c.loop-i-test.true).0
+        (sym c.is_near.ensures ∙ w.if-is_near.false)
+    ]
 
 pub loop-i-preserved : goal.loop-i-preserved
 loop-i-preserved c =

@@ -1,6 +1,5 @@
 use Prim.Native.Nat.{◌+◌, ◌-◌, ◌%◌}
 use mathlib.Core.Bool.{true, false}
-use mathlib.Core.Logic.{⊎_elim}
 use mathlib.Core.Path.{◌≡◌, refl, sym, ap, ◌∙◌}
 use lib.ListN.{take}
 use Rattle.laws.specs.Bounded.{any}
@@ -12,6 +11,7 @@ use Rattle.obstacles.proofs.Blocking as blocking
 use borrow.Author.Rules.{rules}
 use native.Mathlib.Omega.{arith}
 use Rattle.obstacles.proofs.blocked.Goals as goal
+use Rattle.obstacles.proofs.blocked.Goals.{then-clear_of+else-segments_cross, else-clear_of}
 
 pub scan-init : goal.scan-init
 unfolding any
@@ -32,13 +32,15 @@ scan-preserved c =
       search rules,
       l.invariant.3,
       l.invariant.4,
-      ⊎_elim
-          (λ w. any-pass p l.e l.invariant.5
-          (blocking.crosses ps n h (omega arith) c.args.k (omega arith) l.e w.2.result (omega arith) w.2.ensures.0
-          (sym c.clear_of.ensures ∙ w.0.taken) false (sym w.4.ensures ∙ w.5.left)))
-          (λ w. any-pass p l.e l.invariant.5
-          (blocking.touches ps n h (omega arith) c.args.k (omega arith) l.e ((l.e + 1) % n) (omega arith) refl (sym c.clear_of.ensures ∙ w.left)))
-          c.if-clear_of.branch,
+      elim c.if-clear_of.branch [
+        then-clear_of+else-segments_cross w ↦
+          any-pass p l.e l.invariant.5
+          (blocking.crosses ps n h (omega arith) c.args.k (omega arith) l.e w.next.result (omega arith) w.next.ensures.0
+          (sym c.clear_of.ensures ∙ w.if-clear_of.true) false (sym w.segments_cross.ensures ∙ w.if-segments_cross.false))
+      | else-clear_of w ↦
+          any-pass p l.e l.invariant.5
+          (blocking.touches ps n h (omega arith) c.args.k (omega arith) l.e ((l.e + 1) % n) (omega arith) refl (sym c.clear_of.ensures ∙ w.if-clear_of.false))
+      ],
     )
 
 pub returns-after-scan : goal.returns-after-scan

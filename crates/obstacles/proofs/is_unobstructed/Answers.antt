@@ -15,7 +15,7 @@ middle : (c : After-lerp) → let s = c.args in c.lerp.result ≡ lerp (in_mm (g
     (in_mm (get_or s.part.points s.k origin)) (lit 5 1)
 unfolding lit of_bits round
 middle c =
-    let x = c.new.ensures in
+    let x = c.new-a.ensures in
     let y = c.new-b.ensures in
     c.lerp.ensures ∙ (λ i. lerp (x i) (y i) (lit 5 1))
 

@@ -8,7 +8,7 @@ use Rattle.parts.proofs.load.Given as goal
 
 abbrev pub invariant-loop-i : goal.invariant-loop-i
 invariant-loop-i l =
-    (l.i ≤ l.n) × (l.n ≤ 60) × (l.a + l.n ≤ 124) × (length l.out ≡ 60) × (take l.i l.out ≡ tab (λ l.i. vertex l.vs (l.a + l.i)) l.i) × Below l.out × Below l.vs
+    (l.i ≤ l.n) × (l.n ≤ 60) × (l.a + l.n ≤ 124) × (length l.out ≡ 60) × (take l.i l.out ≡ tab (λ k. vertex l.vs (l.a + k)) l.i) × Below l.out × Below l.vs
 
 abbrev pub decreases-loop-i : goal.decreases-loop-i
 decreases-loop-i l =

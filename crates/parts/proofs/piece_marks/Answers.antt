@@ -1,6 +1,5 @@
 use Prim.Native.Nat.{ℕ, ◌+◌, ◌-◌, ◌≤◌}
 use mathlib.Core.Path.{◌≡◌, refl, sym, ◌∙◌}
-use mathlib.Core.Logic.{⊎_elim}
 use lib.ListN.{length-set, get_or-eq_default}
 use lib.Seq.{get_or-set_other}
 use Rattle.laws.proofs.Lists.{all_same}
@@ -13,7 +12,7 @@ use Rattle.parts.proofs.Pieces.{mark_at}
 use borrow.Author.Rules.{rules}
 use native.Mathlib.Omega.{arith}
 use Rattle.parts.proofs.piece_marks.Goals as goal
-use Rattle.parts.proofs.piece_marks.Goals.{Start}
+use Rattle.parts.proofs.piece_marks.Goals.{Start, then-k-lt-MOST_POINTS, else-k-lt-MOST_POINTS}
 
 placed : (c : Start)
     → let p = c.args.pieces in
@@ -36,10 +35,10 @@ loop-j-preserved c =
     let p = c.args.pieces in
     let f : ℕ → Edge = (λ k. mark_at marks p.corners (end p c.args.i + k)) in
     let e : c.if-k-lt-MOST_POINTS.e ≡ f o.j =
-    ⊎_elim
-    (λ w. w.2)
-    (λ w. w.1 ∙ sym (get_or-eq_default marks straight_edge (omega (arith, w.0.left, c.well_formed.0.1.0.1))))
-    c.if-k-lt-MOST_POINTS.branch in (
+    elim c.if-k-lt-MOST_POINTS.branch [
+      then-k-lt-MOST_POINTS w ↦ w.e-is
+    | else-k-lt-MOST_POINTS w ↦ w.e-is ∙ sym (get_or-eq_default marks straight_edge (omega (arith, w.if-k-lt-MOST_POINTS.false, c.well_formed.0.1.0.1)))
+    ] in (
       search rules,
       search rules,
       search rules,

@@ -19,7 +19,7 @@ pub attempt-requires : goal.attempt-requires
 attempt-requires c =
     (
       two.try-second c.requires.0 c.args.cells.now c.args.sides c.args.rims.now c.attempt-t.ensures c.if-t-ring.false c.if-t.false,
-      omega (arith, c.requires.1, c.attempt-t.auto.1.1.1.0),
+      omega (arith, c.requires.1, c.attempt-t.auto.cells),
       two.held_first c.requires.0 c.args.cells.now c.args.sides c.args.rims.now c.attempt-t.ensures c.requires.2,
       two.rims-second c.requires.0 c.args.cells.now c.args.sides c.args.rims.now c.attempt-t.ensures c.if-t-ring.false c.if-t.false
           c.requires.3,

@@ -51,7 +51,7 @@ window : (c : Then-t-n)
     → let o = c.before.before.before.before.before.before.before.before.before.before.before.before.before.before.before.before in
     let a = c.args in
     (a.first + a.reserve) * 4 ≤ length
-    (put_mid (c.loop-i.at * 4) (length c.loop-i.cells - c.loop-i.at * 4) c.loop-i.cells c.subdivide-t.new.1.1.1.0)
+    (put_mid (c.loop-i.at * 4) (length c.loop-i.cells - c.loop-i.at * 4) c.loop-i.cells c.subdivide-t.new.cells)
 window c =
     let o = c.before.before.before.before.before.before.before.before.before.before.before.before.before.before.before.before in
     course.clear_room c.requires.0 _ c.loop-i.invariant.2 (read c.before.before.before.before.before.before.before.before.before.before.before.before) c.subdivide-t.ensures
@@ -119,12 +119,12 @@ clear-requires c = simp (length-take, length-drop) (omega (arith, window (goal.a
 pub shape_of-nodes-then-t-n : goal.shape_of-nodes-then-t-n
 shape_of-nodes-then-t-n c =
     let o = c.before.before.before.before.before.before.before.before.before.before.before.before.before.before.before.before.before.before.before.before in
-    c.subdivide-t.auto.0 ∙ course.long-nodes c.requires.0 _ c.loop-i.invariant.2 c.loop-i.invariant.0
+    c.subdivide-t.auto.nodes ∙ course.long-nodes c.requires.0 _ c.loop-i.invariant.2 c.loop-i.invariant.0
 
 pub shape_of-rims-then-t-n : goal.shape_of-rims-then-t-n
 shape_of-rims-then-t-n c =
     let o = c.before.before.before.before.before.before.before.before.before.before.before.before.before.before.before.before.before.before.before.before in
-    c.subdivide-t.auto.1.1.0 ∙ course.long-rims c.requires.0 _ c.loop-i.invariant.2
+    c.subdivide-t.auto.rims ∙ course.long-rims c.requires.0 _ c.loop-i.invariant.2
 
 pub shape_of-cells-then-t-n : goal.shape_of-cells-then-t-n
 shape_of-cells-then-t-n c =

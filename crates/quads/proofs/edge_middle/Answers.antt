@@ -3,7 +3,7 @@ use Rattle.quads.proofs.edge_middle.Goals as goal
 
 pub returns-in-Straight : goal.returns-in-Straight
 returns-in-Straight c =
-    let a = c.args in edge.plain a.share a.m a.a a.b _ c.halfway-c.ensures c.enum_told-1.given.1
+    let a = c.args in edge.plain a.share a.m a.a a.b _ c.halfway-c.ensures c.in-Straight.is
 
 pub returns-then-d-share : goal.returns-then-d-share
 returns-then-d-share c =

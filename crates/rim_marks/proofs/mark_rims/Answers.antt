@@ -8,12 +8,12 @@ use Rattle.rim_marks.proofs.mark_rims.Goals as goal
 pub set_rims-requires : goal.set_rims-requires
 set_rims-requires c =
     let p = c.requires in
-    (p.2, λ j h. omega (arith, p.3 j h, p.1, c.clear_rims.auto.0))
+    (p.2, λ j h. omega (arith, p.3 j h, p.1, c.clear_rims.auto.rims))
 
 pub set_rims-requires-2 : goal.set_rims-requires-2
 set_rims-requires-2 c =
     let p = c.requires in
-    (p.2, λ j h. omega (arith, p.4 j h, p.1, c.clear_rims.auto.0, c.set_rims.auto.0))
+    (p.2, λ j h. omega (arith, p.4 j h, p.1, c.clear_rims.auto.rims, c.set_rims.auto.rims))
 
 pub returns : goal.returns
 returns c =

@@ -15,8 +15,8 @@ put_lead-requires c =
     let a = c.args in
     let r = c.read_block-reading.result in
     let same = same_lead a.job.now a.i _ r k c.read_block-reading.ensures in (
-      subst (λ (z : Block). points z ≤ 60) c.block-in-Chain-1.given.1 (few-points _ _ r c.read_block-reading.ensures),
-      room_as (lead_of-chain r.points r.block _ c.block-in-Chain-1.given.1 ∙ same) a.at _ c.requires.2,
+      subst (λ (z : Block). points z ≤ 60) c.in-Chain.is (few-points _ _ r c.read_block-reading.ensures),
+      room_as (lead_of-chain r.points r.block _ c.in-Chain.is ∙ same) a.at _ c.requires.2,
     )
 
 pub returns-in-Ring : goal.returns-in-Ring
@@ -25,7 +25,7 @@ returns-in-Ring c =
     let a = c.args in
     let r = c.read_block-reading.result in
     let same = same_lead a.job.now a.i _ r k c.read_block-reading.ensures in
-    written_as (lead_of-ring r.points r.block _ _ c.block-1.given.1 ∙ same) (nothing a.out.now a.at (omega (arith, c.requires.2)))
+    written_as (lead_of-ring r.points r.block _ _ c.in-Ring.is ∙ same) (nothing a.out.now a.at (omega (arith, c.requires.2)))
 
 pub returns-in-Chain : goal.returns-in-Chain
 returns-in-Chain c =
@@ -33,7 +33,7 @@ returns-in-Chain c =
     let a = c.args in
     let r = c.read_block-reading.result in
     let same = same_lead a.job.now a.i _ r k c.read_block-reading.ensures in
-    written_as (lead_of-chain r.points r.block _ c.block-in-Chain-1.given.1 ∙ same) c.put_lead.ensures
+    written_as (lead_of-chain r.points r.block _ c.in-Chain.is ∙ same) c.put_lead.ensures
 
 pub returns-in-Refused : goal.returns-in-Refused
 returns-in-Refused c =
@@ -41,4 +41,4 @@ returns-in-Refused c =
     let a = c.args in
     let r = c.read_block-reading.result in
     let same = same_lead a.job.now a.i _ r k c.read_block-reading.ensures in
-    written_as (lead_of-refused r.points r.block _ _ c.block-in-Refused-1.given.1 ∙ same) (nothing a.out.now a.at (omega (arith, c.requires.2)))
+    written_as (lead_of-refused r.points r.block _ _ c.in-Refused.is ∙ same) (nothing a.out.now a.at (omega (arith, c.requires.2)))

@@ -124,7 +124,7 @@ push_parts-cut-requires c =
     let g = c.before.before.before in
     let z = top (goal.at.push_parts-cut-requires c).Start in
     let h = c.requires.0 in
-    let r = range (goal.at.push_parts-cut-requires c).After-split_polygon_at-d _ c.d-1.given.1 in (
+    let r = range (goal.at.push_parts-cut-requires c).After-split_polygon_at-d _ c.in-To.is in (
       Popped.kept-without c.args.s _ z.4 h,
       omega (arith, h.parts, r.2),
       omega (arith, r.2),

@@ -8,4 +8,4 @@ returns-in_default c = absurd (never_refused c.args.block c.in_default.keys2 c.r
 
 pub returns : goal.returns
 returns c =
-    λ ps qs l rs. refuses c.args.s ps l rs qs c.args.block _ _ c.closed.result c.block-1.given.1 c.closed.ensures
+    λ ps qs l rs. refuses c.args.s ps l rs qs c.args.block _ _ c.closed.result c.in-Refused.is c.closed.ensures

@@ -16,4 +16,4 @@ returns c =
     let a = c.args in
     let k = c.keep in
     λ l rs.
-    ring-waits a.s a.ring.now l rs a.points.now a.head _ _ c.head-1.given.1 k.new.0 k.ensures
+    ring-waits a.s a.ring.now l rs a.points.now a.head _ _ c.in-Ring.is k.new.ring k.ensures

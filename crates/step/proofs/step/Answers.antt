@@ -9,7 +9,7 @@ returns-then-at_end c =
     let a = c.args in
     let t = c.at_end in
     let k = c.clear in (
-      cells_as _ _ a.ring.now a.nodes.now a.rims.now k.new.0 k.ensures
+      cells_as _ _ a.ring.now a.nodes.now a.rims.now k.new.cells k.ensures
           (has_ended a.s a.ring.now a.nodes.now a.rims.now a.bytes.now t.result t.ensures c.if-at_end.true c.closed.result
           c.closed.ensures),
       λ i. omega (arith, c.shared_slice_known-1.given i),
@@ -35,7 +35,7 @@ returns-then-s-eq0 c =
     let r = c.read_block-reading in
     let k = c.clear in
     let b = c.ring_block in (
-      cells_as _ b.result _ a.nodes.now a.rims.now k.new.0 k.ensures
+      cells_as _ b.result _ a.nodes.now a.rims.now k.new.cells k.ensures
           (goes_on a.s a.ring.now a.nodes.now a.rims.now a.bytes.now t.result t.ensures
           c.if-at_end.false r.result r.ensures _ a.nodes.now a.rims.now _
           b.result (b.ensures a.nodes.now a.rims.now)),

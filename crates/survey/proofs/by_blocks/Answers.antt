@@ -7,10 +7,7 @@ use Rattle.laws.specs.Bounded.{any}
 use Rattle.survey.proofs.Tested.{block, told}
 use Rattle.survey.proofs.Gathering as gathering
 use Rattle.survey.proofs.by_blocks.Goals as goal
-use Rattle.survey.proofs.by_blocks.Goals.{After-block_end-to, At-loop-i, Start}
-
-abbrev begin : At-loop-i → Start
-begin c = c.before.before.before.before
+use Rattle.survey.proofs.by_blocks.Goals.{After-block_end-to}
 
 pub loop-i-init : goal.loop-i-init
 unfolding any
@@ -46,8 +43,8 @@ loop-i-preserved c =
     let o = c.before.before.before.before.before.before.before.before.before.before in
     (
       e.1,
-      c.collect_block-n.auto.numbers.numbers.1.1.0 ∙ c.loop-i.invariant.1,
-      c.collect_block-n.auto.numbers.1.1.1.1.0 ∙ c.loop-i.invariant.2,
+      c.collect_block-n.auto.numbers ∙ c.loop-i.invariant.1,
+      c.collect_block-n.auto.xs ∙ c.loop-i.invariant.2,
       block c.args.nodes.now c.loop-i.i c.block_end-to.result (full (goal.at.loop-i-preserved c).After-block_end-to) e.2 (le_of_lt e.0) c.loop-i.out c.any_out-out.result c.loop-i.invariant.3
           c.any_out-out.ensures,
       c.collect_block-n.ensures _ _ c.requires.3 c.requires.4 c.loop-i.invariant.4,

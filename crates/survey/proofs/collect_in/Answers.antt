@@ -1,21 +1,13 @@
-use Prim.Native.Nat.{ℕ, ◌+◌, ◌-◌, ◌≤◌}
+use Prim.Native.Nat.{◌+◌, ◌-◌}
 use native.Mathlib.Omega.{arith}
-use mathlib.Core.Logic.{⊎_elim}
 use mathlib.Core.Path.{◌≡◌, refl, sym, ◌∙◌}
-use mathlib.Core.List.{List}
 use borrow.Author.Rules.{rules}
-use lib.ListN.{length, length-set}
-use lib.Ieee.{Float}
-use Rattle.nodes.specs.declared.nearby.Window.{Window}
-use Rattle.nodes.specs.Nearby.{most_nearby, inside_at}
-use Rattle.survey.specs.Survey.{GoesOn}
+use lib.ListN.{length-set}
+use Rattle.nodes.specs.Nearby.{inside_at}
 use Rattle.survey.proofs.Gathering as gathering
 use Rattle.survey.proofs.collect_in.Goals as goal
-use Rattle.survey.proofs.collect_in.Goals.{Joined-holds}
-
-abbrev State : List Float → Window → ℕ → List ℕ → List Float → ℕ → ℕ → List ℕ → List Float → ℕ → Type 0
-State nodes w from numbers₀ xs₀ n i numbers xs k =
-    (k ≤ most_nearby) × (length numbers ≡ most_nearby) × (length xs ≡ most_nearby) × GoesOn nodes w from numbers₀ xs₀ n i numbers xs k
+use Rattle.survey.proofs.collect_in.Invariants.{State}
+use Rattle.survey.proofs.collect_in.Goals.{Joined-holds, then-holds+else-k-ge-MOST_NEARBY, else-holds}
 
 pub loop-i-init : goal.loop-i-init
 loop-i-init c = (search rules, (c.requires.5, c.requires.3, c.requires.4, λ a b p q g. g))
@@ -50,21 +42,19 @@ joined c =
     let a = c.args in
     let q = c.loop-i in
     let P = State a.nodes.now a.w a.from a.numbers.now a.xs.now a.n (q.i + 1) in
-    ⊎_elim
-    (λ t. gathering.carried P _ _ _ _ _ _ t.2 t.3 t.4 (
-      omega (arith, t.1.left),
+    elim c.if-holds.branch [ then-holds+else-k-ge-MOST_NEARBY t ↦ gathering.carried P _ _ _ _ _ _ t.numbers-is t.xs-is t.k-is (
+      omega (arith, t.if-k-ge-MOST_NEARBY.false),
       length-set q.numbers q.k q.i ∙ q.invariant.1.1,
       length-set q.xs q.k _ ∙ q.invariant.1.2,
-      λ u v p r g. gathering.put _ _ u v q.i q.k q.numbers q.xs (sym c.holds.ensures ∙ t.0.taken) (q.invariant.1.3 u v p r g)
-          t.1.left p r,
-    ))
-    (λ t. gathering.carried P _ _ _ _ _ _ t.1 t.2 t.3 (
+      λ u v p r g. gathering.put _ _ u v q.i q.k q.numbers q.xs (sym c.holds.ensures ∙ t.if-holds.true) (q.invariant.1.3 u v p r g)
+          t.if-k-ge-MOST_NEARBY.false p r,
+    )
+    | else-holds t ↦ gathering.carried P _ _ _ _ _ _ t.numbers-is t.xs-is t.k-is (
       q.invariant.1.0,
       q.invariant.1.1,
       q.invariant.1.2,
-      λ u v p r g. gathering.past _ _ u v q.i q.k q.numbers q.xs (sym c.holds.ensures ∙ t.0.left) (q.invariant.1.3 u v p r g),
-    ))
-    c.if-holds.branch
+      λ u v p r g. gathering.past _ _ u v q.i q.k q.numbers q.xs (sym c.holds.ensures ∙ t.if-holds.false) (q.invariant.1.3 u v p r g),
+    ) ]
 
 pub loop-i-preserved : goal.loop-i-preserved
 loop-i-preserved c = (search rules, joined c)

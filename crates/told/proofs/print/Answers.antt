@@ -7,23 +7,23 @@ use Rattle.told.proofs.print.Goals as goal
 
 pub print_row-requires : goal.print_row-requires
 print_row-requires c =
-    (can_show c.args.told c.args.cells.now _ _ _ c.told.given.1 c.requires.0.shown, c.requires.0.few, c.requires.1)
+    (can_show c.args.told c.args.cells.now _ _ _ c.in-Ring.is c.requires.0.shown, c.requires.0.few, c.requires.1)
 
 pub returns-in-Nothing : goal.returns-in-Nothing
 returns-in-Nothing c =
     let a = c.args in
-    printed_as true a.text.now _ _ 0 a.text.now refl (tells-nothing a.told a.cells.now c.enum_told-1.given.1) (no_text a.text.now)
+    printed_as true a.text.now _ _ 0 a.text.now refl (tells-nothing a.told a.cells.now c.in-Nothing.is) (no_text a.text.now)
 
 pub returns-in-Ring : goal.returns-in-Ring
 returns-in-Ring c =
     let a = c.args in
     let p = c.print_row in
-    printed_as true a.text.now _ _ p.result p.new.out refl
-    (tells-ring a.told a.cells.now _ _ _ c.told.given.1) p.ensures
+    printed_as true a.text.now _ _ p.result p.new.text refl
+    (tells-ring a.told a.cells.now _ _ _ c.in-Ring.is) p.ensures
 
 pub returns-in-Block : goal.returns-in-Block
 returns-in-Block c =
     let a = c.args in
     let p = c.print_refused_block in
     printed_as (Report.holds a.text.now) a.text.now _ _ p.result p.new.out (has_room a.text.now c.requires.1)
-    (tells-block a.told a.cells.now _ _ c.told-in-Block-1.given.1) p.ensures
+    (tells-block a.told a.cells.now _ _ c.in-Block.is) p.ensures

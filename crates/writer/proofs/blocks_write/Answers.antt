@@ -23,10 +23,10 @@ low : (k : Else-code-gt0) → k.args.number ≤ 65534
 low k = let a = k.args in low-number a.ring.now a.chain.now a.size a.number (length a.out.now) (passed k)
 
 -- after the ring's block the destination is as long as before
-long : (y : After-write_block) → 1024 ≤ length y.write_block.new.0
+long : (y : After-write_block) → 1024 ≤ length y.write_block.new.out
 long y =
     let a = y.args in
-    let e = as_long a.ring.now a.chain.now a.size a.number a.out.now (passed y.before.before) y.write_block.new.0 y.write_block.ensures in
+    let e = as_long a.ring.now a.chain.now a.size a.number a.out.now (passed y.before.before) y.write_block.new.out y.write_block.ensures in
     omega (arith, e, space y.before.before)
 
 pub returns-then-code-gt0 : goal.returns-then-code-gt0
@@ -54,7 +54,7 @@ overflow_add-number c = omega (arith, low (goal.at.overflow_add-number c).Else-c
 pub write_block-requires-2 : goal.write_block-requires-2
 write_block-requires-2 c =
     let a = c.args in (
-      part-long c.write_block.new.0 (long (goal.at.write_block-requires-2 c).After-write_block),
+      part-long c.write_block.new.out (long (goal.at.write_block-requires-2 c).After-write_block),
       few-chain a.ring.now a.chain.now a.size a.number (length a.out.now) (passed (goal.at.write_block-requires-2 c).Else-code-gt0),
       omega (arith, low (goal.at.write_block-requires-2 c).Else-code-gt0),
     )
@@ -63,6 +63,6 @@ pub returns : goal.returns
 returns c =
     let a = c.args in (
       sym (passed (goal.at.returns c).Else-code-gt0),
-      both a.ring.now a.chain.now a.size a.number a.out.now (passed (goal.at.returns c).Else-code-gt0) c.write_block.new.0 _ c.write_block.ensures
+      both a.ring.now a.chain.now a.size a.number a.out.now (passed (goal.at.returns c).Else-code-gt0) c.write_block.new.out _ c.write_block.ensures
           c.write_block-2.ensures,
     )
