@@ -32,7 +32,7 @@ score-here c =
 
 -- where the turn's branches meet: the diagonal won, an edge hides it, or it was passed over
 joined : (c : Joined-improves)
-    →     (held c.if-improves.found c.if-improves.at ≡ best_to c.args.limits (ring c.before.before.before.before.before) (c.loop-k.k + 1 - 2))
+    → (held c.if-improves.found c.if-improves.at ≡ best_to c.args.limits (ring c.before.before.before.before.before) (c.loop-k.k + 1 - 2))
     × (c.if-improves.found ≡ true → c.if-improves.least ≡ score (ring c.before.before.before.before.before) c.if-improves.at)
 joined c =
     let L = c.args.limits in
@@ -41,24 +41,25 @@ joined c =
     let ok = c.judge-j.result.ok in
     let s = c.judge-j.result.score in
     elim c.if-improves.branch [
-      then-improves+then-is_unobstructed v ↦ (
-      (λ i. held (v.found-is i) (v.at-is i))
-          ∙ choosing.won L r o.k o.invariant.0 o.found o.at o.least o.invariant.3 o.invariant.4 ok s (fits-here c.before.before) (score-here c.before.before)
-          (sym c.improves.ensures ∙ v.if-improves.true) (sym v.is_unobstructed.ensures ∙ v.if-is_unobstructed.true),
-      λ e. v.least-is ∙ score-here c.before.before ∙ ap (score r) (sym v.at-is),
-    )
-    | then-improves+else-is_unobstructed v ↦ (
-      (λ i. held (v.found-is i) (v.at-is i))
-          ∙ choosing.hidden L r o.k o.invariant.0 o.found o.at o.least o.invariant.3 o.invariant.4 ok s (fits-here c.before.before) (score-here c.before.before)
-          (sym v.is_unobstructed.ensures ∙ v.if-is_unobstructed.false),
-      λ e. v.least-is ∙ o.invariant.4 (sym v.found-is ∙ e) ∙ ap (score r) (sym v.at-is),
-    )
-    | else-improves v ↦ (
-      (λ i. held (v.found-is i) (v.at-is i))
-          ∙ choosing.passed L r o.k o.invariant.0 o.found o.at o.least o.invariant.3 o.invariant.4 ok s (fits-here c.before.before) (score-here c.before.before)
-          (sym c.improves.ensures ∙ v.if-improves.false),
-      λ e. v.least-is ∙ o.invariant.4 (sym v.found-is ∙ e) ∙ ap (score r) (sym v.at-is),
-    ) ]
+      | then-improves+then-is_unobstructed v ↦ (
+        (λ i. held (v.found-is i) (v.at-is i))
+            ∙ choosing.won L r o.k o.invariant.0 o.found o.at o.least o.invariant.3 o.invariant.4 ok s (fits-here c.before.before) (score-here c.before.before)
+            (sym c.improves.ensures ∙ v.if-improves.true) (sym v.is_unobstructed.ensures ∙ v.if-is_unobstructed.true),
+        λ e. v.least-is ∙ score-here c.before.before ∙ ap (score r) (sym v.at-is),
+      )
+      | then-improves+else-is_unobstructed v ↦ (
+        (λ i. held (v.found-is i) (v.at-is i))
+            ∙ choosing.hidden L r o.k o.invariant.0 o.found o.at o.least o.invariant.3 o.invariant.4 ok s (fits-here c.before.before) (score-here c.before.before)
+            (sym v.is_unobstructed.ensures ∙ v.if-is_unobstructed.false),
+        λ e. v.least-is ∙ o.invariant.4 (sym v.found-is ∙ e) ∙ ap (score r) (sym v.at-is),
+      )
+      | else-improves v ↦ (
+        (λ i. held (v.found-is i) (v.at-is i))
+            ∙ choosing.passed L r o.k o.invariant.0 o.found o.at o.least o.invariant.3 o.invariant.4 ok s (fits-here c.before.before) (score-here c.before.before)
+            (sym c.improves.ensures ∙ v.if-improves.false),
+        λ e. v.least-is ∙ o.invariant.4 (sym v.found-is ∙ e) ∙ ap (score r) (sym v.at-is),
+      )
+    ]
 
 pub sub-a-requires : goal.sub-a-requires
 sub-a-requires c = let s = c.requires.0.points in (s _, s _)

@@ -33,10 +33,10 @@ other c =
     let l = c.loop-i in
     let a = c.args in
     elim c.if-is_near.branch [
-      then-is_near+else-has_key w ↦ has-is a.nodes.now (key_of a.kx) (key_of a.ky) l.i ∙ sym w.has_key.ensures ∙ w.if-has_key.false
-    | else-is_near w ↦
-        not-near a.nodes.now a.kx (key_of a.ky) l.i c.requires.2 (c.requires.0.ranged l.i c.loop-i-test.true).0
-        (sym c.is_near.ensures ∙ w.if-is_near.false)
+      | then-is_near+else-has_key w ↦ has-is a.nodes.now (key_of a.kx) (key_of a.ky) l.i ∙ sym w.has_key.ensures ∙ w.if-has_key.false
+      | else-is_near w ↦
+          not-near a.nodes.now a.kx (key_of a.ky) l.i c.requires.2 (c.requires.0.ranged l.i c.loop-i-test.true).0
+          (sym c.is_near.ensures ∙ w.if-is_near.false)
     ]
 
 pub loop-i-preserved : goal.loop-i-preserved
