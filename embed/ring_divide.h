@@ -1,4 +1,4 @@
-/* The ring divider as a static library: libexports.a, made by `rt staticlib exports`.
+/* The ring divider as a static library: libexports.a, made by `embed/library exports`.
  *
  * Every call is answered, whatever it is handed. Nothing is allocated, and nothing is written but the lists that a call is
  * lent. Lengths count numbers; the lists of a call may not overlap, and one of length 0 may be any aligned pointer that is not

@@ -1,7 +1,9 @@
 // Records: the divider call over a list of cell records.
 //
 // It is the outermost layer for callers that keep cells as records of four node numbers. The call is the divider's, its
-// cells first written as plain numbers; then they go into the caller's list, one record after the other.
+// cells first written as plain numbers; then they go into the caller's list, one record after the other. `cell_records_c`
+// has the call as a C function.
+#![tactic(auto)]
 
 ghost use Rattle.std.specs.Prelude.{◌≡◌, List, ◌+◌, ◌^◌, ◌≤◌, ◌<◌, length};
 ghost use Rattle.limits.specs.Limits.{delivered};
@@ -110,9 +112,8 @@ fn flat_divide(
     placed(limits, ring.len() / 2, a, numbers, cell_count)
 }
 
-// The divider call over a list of cell records, for callers here and in other languages.
-#[unsafe(no_mangle)]
-pub extern "C" fn ring_divide_cells<'a, 'b, 'c, 'd, 'e>(
+// The divider call over a list of cell records.
+pub fn ring_divide_cells<'a, 'b, 'c, 'd, 'e>(
     ring: &'a [i32],
     chain: &'b [i32],
     size: u32,

@@ -1,7 +1,9 @@
-// Exports: the functions that programs in other languages call, in one static library (`rt staticlib exports`, embed/).
+// Exports: the functions that programs in other languages call, in one library. `exports_c` has each of them as a C function
+// (embed/), and `replay` calls these here.
 //
-// It stands at the top. Each function is thin over the crate that does the work and has its promise word for word. A slice
-// arrives as its address and its length, a struct comes back by value. Nothing is asked of a caller.
+// It stands at the top. Each function is thin over the crate that does the work and has its promise word for word. Nothing is
+// asked of a caller.
+#![tactic(auto)]
 
 ghost use Rattle.std.specs.Prelude.{◌≡◌, length};
 ghost use Rattle.root.specs.Root.{root_bits};
@@ -22,8 +24,7 @@ use table::Row;
 use wear::Wear;
 
 // The divider call: one row of the table, and the lists as it says: nodes, their rim marks, and cells.
-#[unsafe(no_mangle)]
-pub extern "C" fn ring_divide(
+pub fn ring_divide(
     ring: &[i32],
     chain: &[i32],
     size: u32,
@@ -57,8 +58,7 @@ fn set_of(corner: f64, least: f64, greatest: f64, cuts: u32, share: f64) -> Limi
 
 // The same with the caller's set of limits: the bad-corner limit, the least and the greatest cosine of a diagonal, the
 // number of cuts and the snap share.
-#[unsafe(no_mangle)]
-pub extern "C" fn ring_divide_set(
+pub fn ring_divide_set(
     corner: f64,
     least: f64,
     greatest: f64,
@@ -85,8 +85,7 @@ pub extern "C" fn ring_divide_set(
 }
 
 // The divider call with given marks: 0 straight, 1 snapped to its given point, 2 snapped to the outline.
-#[unsafe(no_mangle)]
-pub extern "C" fn ring_divide_marked(
+pub fn ring_divide_marked(
     ring: &[i32],
     kinds: &[u8],
     snaps: &[f64],
@@ -100,8 +99,8 @@ pub extern "C" fn ring_divide_marked(
     cell_count: usize,
 ) -> Row
     ensures { MarkedPromise delivered (record {
-      ring = ring.entry.now;
-      marking = record { kinds = kinds.entry.now; snaps = snaps.now; outline = outline.now; loops = loops.now };
+      ring = ring.now;
+      marking = record { kinds = kinds.now; snaps = snaps.now; outline = outline.now; loops = loops.now };
       size = size;
       nodes = nodes.old;
       node_count_of = node_count;
@@ -118,8 +117,7 @@ pub extern "C" fn ring_divide_marked(
 }
 
 // The same with the caller's set of limits.
-#[unsafe(no_mangle)]
-pub extern "C" fn ring_divide_marked_set(
+pub fn ring_divide_marked_set(
     corner: f64,
     least: f64,
     greatest: f64,
@@ -139,8 +137,8 @@ pub extern "C" fn ring_divide_marked_set(
 ) -> Row
     ensures { MarkedPromise (record { cuts = cuts; corner = corner; least = least; greatest = greatest; share = share })
         (record {
-          ring = ring.entry.now;
-          marking = record { kinds = kinds.entry.now; snaps = snaps.now; outline = outline.now; loops = loops.now };
+          ring = ring.now;
+          marking = record { kinds = kinds.now; snaps = snaps.now; outline = outline.now; loops = loops.now };
           size = size;
           nodes = nodes.old;
           node_count_of = node_count;
@@ -159,8 +157,7 @@ pub extern "C" fn ring_divide_marked_set(
 }
 
 // The divider call of the practice paper.
-#[unsafe(no_mangle)]
-pub extern "C" fn ring_divide_practice(
+pub fn ring_divide_practice(
     ring: &[i32],
     chain: &[i32],
     size: u32,
@@ -180,22 +177,14 @@ pub extern "C" fn ring_divide_practice(
 }
 
 // The smallest choice of a ring's points that is still refused with the ring's own number, 5 to 8; or 1, 2, 18 or 19.
-#[unsafe(no_mangle)]
-pub extern "C" fn smallest_refused(ring: &[i32], chain: &[i32], size: u32) -> Smallest
+pub fn smallest_refused(ring: &[i32], chain: &[i32], size: u32) -> Smallest
     ensures { result ≡ Rule.smallest_refused ring.now chain.now size }
 {
     smallest::smallest_refused(ring, chain, size)
 }
 
 // A ring and its chain saved as blocks `number` and `number + 1`: 0, or the refusal 1, 2 or 12.
-#[unsafe(no_mangle)]
-pub extern "C" fn blocks_write(
-    ring: &[i32],
-    chain: &[i32],
-    size: u32,
-    number: u32,
-    out: &mut [u8],
-) -> u64
+pub fn blocks_write(ring: &[i32], chain: &[i32], size: u32, number: u32, out: &mut [u8]) -> u64
     ensures { (result ≡ Write.refusal ring.now chain.now size number (length out.old))
         × (out.new ≡ Write.written ring.now chain.now size number out.old) }
 {
@@ -203,8 +192,7 @@ pub extern "C" fn blocks_write(
 }
 
 // The cell sheet of the first `node_count` nodes: 0, or the refusal 3 or 17.
-#[unsafe(no_mangle)]
-pub extern "C" fn node_sheet(nodes: &[f64], node_count: usize, out: &mut [u8]) -> u64
+pub fn node_sheet(nodes: &[f64], node_count: usize, out: &mut [u8]) -> u64
     ensures { (result ≡ Sheet.answer nodes.now node_count out.old)
         × (out.new ≡ Sheet.left nodes.now node_count out.old) }
 {
@@ -212,8 +200,7 @@ pub extern "C" fn node_sheet(nodes: &[f64], node_count: usize, out: &mut [u8]) -
 }
 
 // A divider call's answer, its number and its cuts, into the record of the last 32 rings, in 34 bytes: the three values, or 20.
-#[unsafe(no_mangle)]
-pub extern "C" fn wear_add(record: &mut [u8], code: u64, cuts: u64) -> Wear
+pub fn wear_add(record: &mut [u8], code: u64, cuts: u64) -> Wear
     ensures { (result ≡ Bytes.returned «record».old code cuts) × («record».new ≡ Bytes.left «record».old code cuts) }
 {
     wear::wear_add(record, code, cuts)
@@ -221,8 +208,7 @@ pub extern "C" fn wear_add(record: &mut [u8], code: u64, cuts: u64) -> Wear
 
 // The square root, over bit patterns: a NaN that crosses as a double has bits that no promise names. `bench/root` runs it beside
 // the processor's own.
-#[unsafe(no_mangle)]
-pub extern "C" fn ring_root_bits(b: u64) -> u64
+pub fn ring_root_bits(b: u64) -> u64
     ensures { result ≡ root_bits b }
 {
     root::root_bits(b)

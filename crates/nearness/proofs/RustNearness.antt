@@ -1,7 +1,7 @@
 -- Claim: the tests of cleaning are the Rust's, which takes the points in mm and computes in doubles. For points on the sheet
 --   `dist <= tol` is `near`, and `dist > tol` its opposite (`same-near`, `same_kept`);
 --   `len2 <= 0.0` holds exactly if the segment's ends are the same point (`no_segment`);
---   point_segment_distance is `point_segment_distance`, bit for bit (`same_distance`): where its quotient is 0, of either sign, the
+--   its point_segment_distance is `point_segment_distance`, bit for bit (`same_distance`): where its quotient is 0, of either sign, the
 --   foot is the first end;
 --   and a corner that the Rust marks to be dropped is flat between its neighbours (`same-flat`).
 use mathlib.Core.Path.{◌≡◌, refl, sym, ap, ◌∙◌, subst}

@@ -3,7 +3,6 @@ use mathlib.Core.Path.{ap}
 use Prim.Native.Nat.{◌-◌}
 use Rattle.drawing.proofs.State.goes.Goals as goal
 
--- src/lib.rt:279:5
 pub returns : goal.returns
 returns c =
     let a = c.args in

@@ -2,7 +2,6 @@ use Rattle.drawing.specs.declared.Draft.{Draft}
 use mathlib.Core.Path.{ap}
 use Rattle.drawing.proofs.State.stops.Goals as goal
 
--- src/lib.rt:293:5
 pub returns : goal.returns
 returns c =
     let s = c.args.self in
