@@ -1,5 +1,6 @@
 -- `say_more`: each arm has the words of its number.
 use mathlib.Core.Path.{refl}
+use native.Mathlib.Omega.{arith}
 use Rattle.text.specs.Text.{bytes}
 use Rattle.draw.specs.Said.{said_more}
 use Rattle.draw.proofs.Saying.{for-more, last-words}
@@ -32,5 +33,4 @@ say-requires-in-30 g c = for-more _ 30 _ c.requires c.in-30.is refl
 pub say-requires-in_default : goal.say-requires-in_default
 unfolding bytes
 say-requires-in_default g c =
-    let r = c.in_default.rest in
-    last-words _ c.requires r.0.0.0.0.0.1 r.0.0.0.0.1 r.0.0.0.1 r.0.0.1 r.0.1 r.1
+    last-words _ c.requires (λ e. omega arith) (λ e. omega arith) (λ e. omega arith) (λ e. omega arith) (λ e. omega arith) (λ e. omega arith)

@@ -1,5 +1,6 @@
 -- `say_wrong`: each arm has the words of its number.
 use mathlib.Core.Path.{refl}
+use native.Mathlib.Omega.{arith}
 use Rattle.text.specs.Text.{bytes}
 use Rattle.draw.specs.Said.{said}
 use Rattle.draw.proofs.Saying.{for-number, more-words}
@@ -31,5 +32,4 @@ say-requires-in-24 g c = for-number _ 24 _ c.in-24.is refl
 
 pub say_more-requires : goal.say_more-requires
 say_more-requires g c =
-    let r = c.in_default.rest in
-    more-words _ r.0.0.0.0.0.1 r.0.0.0.0.1 r.0.0.0.1 r.0.0.1 r.0.1 r.1
+    more-words _ (λ e. omega arith) (λ e. omega arith) (λ e. omega arith) (λ e. omega arith) (λ e. omega arith) (λ e. omega arith)
