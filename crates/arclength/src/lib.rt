@@ -2,6 +2,8 @@
 //
 // It stands below the chain, whose kept stretches have their snap points at half their length. A chain is held as a ring is.
 
+#![tactic(auto)]
+
 ghost use Rattle.std.specs.Prelude.{◌≡◌, cond, suc, ◌-◌, ◌≤◌, take, get_or};
 ghost use Rattle.std.specs.Float.{nan};
 ghost use Rattle.laws.specs.Double.{nat, ◌-f◌, ◌/f◌, ◌≤f◌};

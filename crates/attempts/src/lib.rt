@@ -3,6 +3,8 @@
 // The pieces of the split come here one after the other, over the shared node list, and their cells go into the part of the
 // caller's cell list that starts after those already there. The definitions are those of Cells; the retry is `piece_cells`.
 
+#![tactic(auto)]
+
 ghost use Rattle.std.specs.Prelude.{◌≡◌, ◌*◌, ◌≤◌, length};
 ghost use Rattle.nodes.specs.Flat.{over};
 ghost use Rattle.nodes.specs.Nearby.{ValidNearby};

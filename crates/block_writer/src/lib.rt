@@ -4,6 +4,8 @@
 // blocks' specs/Writing has the bytes of a block as one list. proofs/Written and Rewritten tie it to the reader: what was
 // written is read as it was, and what was read is written as it was.
 
+#![tactic(auto)]
+
 ghost use Rattle.std.specs.Prelude.{◌≡◌, ◌++◌, ◌/◌, ◌≤◌, length, get_or, drop, pos};
 ghost use Rattle.blocks.specs.Writing as Writing;
 

@@ -3,6 +3,8 @@
 // It stands under Cells: an attempt at a piece lists its nodes, lays its cells, and asks here whether they hold. The
 // definitions are those of Quads.
 
+#![tactic(auto)]
+
 ghost use Rattle.std.specs.Prelude.{◌≡◌, not, ◌*◌, ◌≤◌, ◌<◌, length, get_or, take};
 ghost use Rattle.laws.specs.Bounded.{first};
 ghost use Rattle.nodes.specs.Flat.{nodes_in};

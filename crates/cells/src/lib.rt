@@ -4,6 +4,8 @@
 // `piece_cells`, both above it. A cell stands in the caller's list as four numbers; specs/Flat has the words for that, and for
 // what a function asks of the lists.
 
+#![tactic(auto)]
+
 // What an attempt at a piece came to: the used nodes, the first cell that fails or the number of cells, and whether a
 // snap was too far.
 #[derive(Clone, Copy)]

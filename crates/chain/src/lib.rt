@@ -3,6 +3,8 @@
 // It stands on arclength, the lengths along a chain, and before the marks, which lay the kept stretches along the edges of the
 // cleaned ring. A chain is held as a ring is.
 
+#![tactic(auto)]
+
 ghost use Rattle.std.specs.Prelude.{◌≡◌, false, ◌||◌};
 ghost use Rattle.laws.specs.Double.{lit, ◌<f◌};
 ghost use Rattle.vector.specs.Grid as Grid;

@@ -3,6 +3,8 @@
 // It stands below least, the search for the smallest choice that gets a number, and has nothing of the divider: the search
 // is defined here, in specs/Search, for any trial of a choice, and proofs/Searching proves that it finds the least.
 
+#![tactic(auto)]
+
 ghost use Rattle.std.specs.Prelude.{◌≡◌, ◌*◌, ◌^◌, ◌≤◌, length, take};
 ghost use Rattle.choice.specs.Choice.{chosen};
 

@@ -5,6 +5,8 @@
 // are defined in specs/Steps, of the points, and in specs/Choices, of their places. Those that look at two points are here, and
 // the one that looks at three is `flat_points`.
 
+#![tactic(auto)]
+
 ghost use Rattle.std.specs.Prelude.{◌≡◌, ◌≤◌};
 ghost use Rattle.clean_steps.specs.Steps as Steps;
 ghost use Rattle.clean_steps.specs.Choices.{among, spaced_places, places_of, chosen, ValidChoice};

@@ -3,6 +3,8 @@
 // It stands between the points (vector) and the split, which cuts each part at its worst corner while that is bad. The
 // measure of a corner rises with its inner angle, without a trigonometric function: 1 at 90 degrees, 2 at 180, 3 at 270.
 
+#![tactic(auto)]
+
 ghost use Rattle.std.specs.Prelude.{◌≡◌, ◌^◌, ◌≤◌, ◌<◌, nat_abs};
 ghost use Rattle.laws.specs.Double.{nat};
 ghost use Rattle.vector.specs.Grid as Grid;

@@ -3,6 +3,8 @@
 //
 // specs/Cosine is 01's; proofs/RustCosine says that it is no NaN, lies in [-1, 1] and is the Rust's.
 
+#![tactic(auto)]
+
 ghost use Rattle.std.specs.Prelude.{◌≡◌};
 ghost use Rattle.vector.specs.Size.{Step};
 ghost use Rattle.root.specs.Norm as Norm;

@@ -3,3 +3,5 @@
 //
 // It has no code. It stands on the definitions of the split; the demands on a divider call cite it, and the code that lays
 // the pieces out asks it for their sizes.
+
+#![tactic(auto)]

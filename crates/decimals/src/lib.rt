@@ -4,6 +4,8 @@
 // A coordinate is shown as the whole number of ten-thousandths of a mm nearest to the exact value of its double, ties to
 // even. It is worked out from the double's fields in integers of 64 bits.
 
+#![tactic(auto)]
+
 ghost use Rattle.std.specs.Prelude.{◌≡◌, ◌+◌, ◌^◌, ◌≤◌, ◌<◌, length};
 ghost use Rattle.laws.specs.Within.{Within};
 ghost use Rattle.text.specs.Text.{Written};

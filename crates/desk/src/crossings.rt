@@ -4,6 +4,7 @@ ghost use Rattle.std.specs.Prelude.{◌^◌, ◌≤◌, nat_abs};
 ghost use Rattle.vector.specs.Size.{OnSheet};
 
 use segments::Crossing;
+use std::io::Read;
 use vector::GridPoint;
 
 // A signed coordinate of 32 bits; 0 where it is beyond the sheet.
@@ -20,11 +21,11 @@ fn coordinate(u: u64) -> i32
     0
 }
 
-fn point(fd: i32) -> GridPoint
+fn point<R: Read>(input: &mut R) -> GridPoint
     ensures { OnSheet result }
 {
-    let x = coordinate(words::word(fd) as u64);
-    let y = coordinate(words::word(fd) as u64);
+    let x = coordinate(words::word(input) as u64);
+    let y = coordinate(words::word(input) as u64);
     GridPoint { x, y }
 }
 
@@ -37,10 +38,10 @@ fn told(c: Crossing) -> u32 {
     }
 }
 
-pub fn crossing(fd: i32) -> bool {
-    let a = point(fd);
-    let b = point(fd);
-    let c = point(fd);
-    let d = point(fd);
-    told(segments::segments_meet(a, b, c, d)) == words::word(fd)
+pub fn crossing<R: Read>(input: &mut R) -> bool {
+    let a = point(input);
+    let b = point(input);
+    let c = point(input);
+    let d = point(input);
+    told(segments::segments_meet(a, b, c, d)) == words::word(input)
 }

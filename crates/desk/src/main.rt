@@ -2,17 +2,22 @@
 // and every byte that is left: the cell sheet, the record of wear, the smallest ring still refused, and how two segments meet.
 // docs/REPLAY.md has the form of the lists.
 
+#![tactic(auto)]
+
 mod crossings;
 
+use std::fs;
+use std::io::{Read, Write};
+use std::rt::Files;
 use words::Tally;
 
 // A cell sheet: the used count, the node list, the bytes of the destination.
-fn sheet(fd: i32) -> bool {
-    let used = words::long(fd) as usize;
-    let n = words::count(fd);
-    let room = words::count(fd);
+fn sheet<R: Read>(input: &mut R) -> bool {
+    let used = words::long(input) as usize;
+    let n = words::count(input);
+    let room = words::count(input);
     let mut nodes = [0.0f64; 64];
-    words::read_nodes(fd, &mut nodes, n);
+    words::read_nodes(input, &mut nodes, n);
     if 64 < n {
         return false;
     }
@@ -22,95 +27,97 @@ fn sheet(fd: i32) -> bool {
     let mut out = [0u8; 1536];
     words::fill(&mut out);
     let code = listing::node_sheet(&nodes[..n], used, &mut out[..room]);
-    let answered = code == words::word(fd) as u64;
-    answered & words::same_bytes(fd, &out)
+    let answered = code == words::word(input) as u64;
+    answered & words::same_bytes(input, &out)
 }
 
 // An answer into a record of wear: its number and its cuts, the bytes of the record.
-fn wear_record(fd: i32) -> bool {
-    let number = words::long(fd);
-    let cuts = words::long(fd);
-    let n = words::count(fd);
+fn wear_record<R: Read>(input: &mut R) -> bool {
+    let number = words::long(input);
+    let cuts = words::long(input);
+    let n = words::count(input);
     let mut bytes = [0u8; 1536];
     words::fill(&mut bytes);
-    words::read_bytes(fd, &mut bytes, n);
+    words::read_bytes(input, &mut bytes, n);
     if 1536 < n {
         return false;
     }
     let w = wear::wear_add(&mut bytes[..n], number, cuts);
-    let code = w.code == words::word(fd) as u64;
-    let total = w.total == words::word(fd) as u64;
-    let highest = w.highest == words::word(fd) as u64;
-    let rings = w.rings == words::word(fd) as u64;
-    code & total & highest & rings & words::same_bytes(fd, &bytes)
+    let code = w.code == words::word(input) as u64;
+    let total = w.total == words::word(input) as u64;
+    let highest = w.highest == words::word(input) as u64;
+    let rings = w.rings == words::word(input) as u64;
+    code & total & highest & rings & words::same_bytes(input, &bytes)
 }
 
 // The smallest ring still refused: the ring and its chain, two numbers a point.
-fn smallest_ring(fd: i32) -> bool {
-    let size = words::word(fd);
-    let r = words::count_to(fd, 256);
-    let c = words::count_to(fd, 256);
+fn smallest_ring<R: Read>(input: &mut R) -> bool {
+    let size = words::word(input);
+    let r = words::count_to(input, 256);
+    let c = words::count_to(input, 256);
     let mut ring = [0i32; 256];
     let mut chain = [0i32; 256];
-    words::read_numbers(fd, &mut ring, r);
-    words::read_numbers(fd, &mut chain, c);
+    words::read_numbers(input, &mut ring, r);
+    words::read_numbers(input, &mut chain, c);
     let s = smallest::smallest_refused(&ring[..r], &chain[..c], size);
-    let code = s.code == words::word(fd) as u64;
-    let refusal = s.refusal == words::word(fd) as u64;
-    let choice = s.choice == words::word(fd) as u64;
-    let points = s.points == words::word(fd) as u64;
+    let code = s.code == words::word(input) as u64;
+    let refusal = s.refusal == words::word(input) as u64;
+    let choice = s.choice == words::word(input) as u64;
+    let points = s.points == words::word(input) as u64;
     code & refusal & choice & points
 }
 
-fn step(fd: i32, kind: u32) -> bool {
+fn step<R: Read>(input: &mut R, kind: u32) -> bool {
     if kind == 5 {
-        return sheet(fd);
+        return sheet(input);
     }
     if kind == 6 {
-        return wear_record(fd);
+        return wear_record(input);
     }
     if kind == 7 {
-        return smallest_ring(fd);
+        return smallest_ring(input);
     }
     if kind == 9 {
-        return crossings::crossing(fd);
+        return crossings::crossing(input);
     }
     false
 }
 
 // All records of a file, which has fewer than a million.
-fn records(fd: i32) -> Tally {
+fn records<R: Read>(input: &mut R) -> Tally {
     let mut t = Tally::NONE;
     for _ in 0u32..1000000 {
-        let kind = words::word(fd);
+        let kind = words::word(input);
         if kind == 0 {
             break;
         }
-        t = t.ran(step(fd, kind));
+        t = t.ran(step(input, kind));
     }
     t
 }
 
 // A file that cannot be opened counts as one that differs.
-fn tally(path: &[u8]) -> Tally {
-    let fd = os::open_read(path);
-    if fd < 0 {
-        os::fail(path);
-        return Tally::NONE.ran(false);
+fn tally<F: Files, E: Write>(files: &F, errors: &mut E, path: &str) -> Tally {
+    match fs::open(files, path) {
+        Ok(mut list) => records(&mut list),
+        Err(error) => {
+            stream::fail(errors, path, error);
+            Tally::NONE.ran(false)
+        }
     }
-    let t = records(fd);
-    libc::close(fd);
-    t
 }
 
-fn file(path: &[u8]) {
-    tally(path).print(path);
+fn file<F: Files, W: Write, E: Write>(files: &F, output: &mut W, errors: &mut E, path: &str) {
+    tally(files, errors, path).print(output, path.as_bytes());
 }
 
-fn main() {
-    file(b"sheets.list");
-    file(b"wear.list");
-    file(b"smallest.list");
-    file(b"crossings.list");
-    tally(b"wrong.list").print_told(b"wrong.list");
+fn main(rt: HostRuntime) {
+    let mut output = rt.stdout();
+    let mut errors = rt.stderr();
+    file(&rt, &mut output, &mut errors, "sheets.list");
+    file(&rt, &mut output, &mut errors, "wear.list");
+    file(&rt, &mut output, &mut errors, "smallest.list");
+    file(&rt, &mut output, &mut errors, "crossings.list");
+    let wrong = tally(&rt, &mut errors, "wrong.list");
+    wrong.print_told(&mut output, b"wrong.list");
 }

@@ -5,6 +5,8 @@
 // comes first, the two cosines against the best so far (judge); only for a diagonal that would win it is asked whether anything stands
 // in its way (obstacles).
 
+#![tactic(auto)]
+
 ghost use Rattle.std.specs.Prelude.{◌≡◌, not, ◌&&◌, ◌||◌, ◌-◌, ◌≤◌};
 ghost use Rattle.laws.specs.Double.{◌<f◌};
 ghost use Rattle.vector.specs.Rings.{points_of, OnSheetRing};

@@ -5,6 +5,8 @@
 // ends, returns one row of the table and says of every place of the lists what is left there. specs/Promise has the
 // promise, in which stands what holds of every accepted ring.
 
+#![tactic(auto)]
+
 ghost use Rattle.std.specs.Prelude.{◌≡◌, List, nat_abs, length};
 ghost use Rattle.vector.specs.Grid.{polygon_area};
 ghost use Rattle.vector.specs.Rings.{points_of, OnSheetRing};

@@ -1,24 +1,12 @@
--- What a read came to, by the sign of what it gave, and the words of a number: of one in the tables (`for-number`, `for-more`), and of any other
--- (`more-words`, `last-words`).
+-- The words of a number: of one in the tables (`for-number`, `for-more`), and of any other (`more-words`, `last-words`).
 use Prim.Native.Nat.{ℕ}
 use mathlib.Core.Path.{◌≡◌, refl, sym, ◌∙◌}
 use mathlib.Core.Bool.{true, false, true≢false}
 use mathlib.Core.List.{List}
 use native.Mathlib.Omega.{arith}
-use lib.IntN.{ℤ, pos, negsuc}
-use lib.Signed.{lt_z}
-use borrow.Author.Tests.{ne_eqb, le-ltb}
-use Rattle.io.specs.Counts.{clamp_len}
+use borrow.Author.Tests.{ne_eqb}
 use Rattle.text.specs.Text.{bytes}
-use Rattle.draw.specs.Said.{came_to, said, said_more}
-
-pub read-failed : (z : ℤ) (most : ℕ) → lt_z z (pos 0) ≡ true → 2 ≡ came_to z most
-read-failed (pos k) most e = absurd (true≢false (sym e ∙ le-ltb k 0 (omega arith)))
-read-failed (negsuc k) most e = refl
-
-pub read_some : (z : ℤ) (most : ℕ) → lt_z z (pos 0) ≡ false → clamp_len z most ≡ came_to z most
-read_some (pos k) most e = refl
-read_some (negsuc k) most e = absurd (true≢false e)
+use Rattle.draw.specs.Said.{said, said_more}
 
 pub for-number : (n k : ℕ) (w : List ℕ) → n ≡ k → w ≡ said k → w ≡ said n
 for-number n k w e h = rw e h

@@ -1,12 +1,12 @@
 -- What a read came to, and the words that `draw` says for a number: of what is wrong with a drawing, or of why it was cut short. Definitions only.
-use Rattle.std.specs.Prelude.{ℕ, cond, List, eqb, ℤ, pos, negsuc}
-use Rattle.io.specs.Counts.{clamp_len}
+use Rattle.std.specs.Prelude.{ℕ, cond, List, eqb, min, Ok, Err}
+use Rattle.std.specs.declared.result.Result.{Result}
 use Rattle.text.specs.Text.{bytes}
 
--- a read into `most` places that gave z: 2 where it failed, else how many bytes there are
-abbrev pub came_to : ℤ → ℕ → ℕ
-came_to (pos k) most = clamp_len (pos k) most
-came_to (negsuc k) most = 2
+-- a read into `most` places: 2 where it failed, else how many bytes there are
+abbrev pub came_to : {E : Type 0} → Result ℕ E → ℕ → ℕ
+came_to (Ok k) most = min k most
+came_to (Err e) most = 2
 
 -- 25 to 29 are those of too much, 30 and 31 of standard input and output
 unfoldable pub said_more : ℕ → List ℕ

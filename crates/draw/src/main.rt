@@ -5,13 +5,16 @@
 // standard error, in the words that `said`, in specs/Said, has for its number. The loop's invariant is that the state and the
 // lists are those of the bytes read so far.
 
+#![tactic(auto)]
+
 ghost use Rattle.std.specs.Prelude.{◌≡◌, true, false, ◌&&◌, ◌+◌, length, eqb};
 ghost use Rattle.drawing.specs.Page as Page;
 ghost use Rattle.draw.specs.Reached.{Reached, LineEnded, Sendable, Ends, ending, written};
 ghost use Rattle.draw.specs.Said.{came_to, said, said_more};
 
 use drawing::State;
-use libc::{STDERR_FILENO, STDIN_FILENO, STDOUT_FILENO};
+use std::io;
+use std::io::{Read, Write};
 
 // Why a run can be cut short: numbers beside those of what is wrong with a drawing.
 const READING: u32 = 30;
@@ -78,20 +81,20 @@ fn cut_short(why: u32) -> Ended
 
 // What a read of one byte came to: how many bytes there are, none where the input has ended, 2 where it cannot be read, so that
 // part of a drawing is not taken for the whole.
-fn came_to(got: isize, byte: &[u8]) -> usize
+fn came_to(got: io::Result<usize>, byte: &[u8]) -> usize
     ensures { result ≡ came_to got (length byte.now) }
 {
-    if got < 0 {
+    let Ok(more) = got else {
         return 2;
-    }
-    io::count(got, byte)
+    };
+    more.min(byte.len())
 }
 
 // Reads the next byte.
-fn read_byte(byte: &mut [u8]) -> usize
+fn read_byte<R: Read>(input: &mut R, byte: &mut [u8]) -> usize
     requires { length byte.old ≡ 1 }
 {
-    let got = libc::read(STDIN_FILENO, byte);
+    let got = input.read(byte);
     came_to(got, byte)
 }
 
@@ -105,27 +108,28 @@ fn end_after(t: Taken, sent: u64) -> Ended
     cut_short(WRITING)
 }
 
-fn send_pair(s: State, out: &[u8], sent: &mut u64) -> bool
+fn send_pair<W: Write>(output: &mut W, s: State, out: &[u8], sent: &mut u64) -> bool
     requires { Sendable s out.now sent.old }
     ensures { result ≡ true → sent.new ≡ sent.old + length out.now }
 {
-    stream::write_counted(STDOUT_FILENO, out, sent)
+    stream::write_counted(output, out, sent)
 }
 
 // Writes the pair that the last step completed, if it did, after `sent` bytes.
-fn send(s: State, out: &[u8], sent: &mut u64) -> bool
+fn send<W: Write>(output: &mut W, s: State, out: &[u8], sent: &mut u64) -> bool
     requires { Sendable s out.now sent.old }
     ensures { result ≡ true → sent.new ≡ sent.old + length (written s out.now) }
 {
     let d = s.draft;
     if d.wrote {
-        return send_pair(s, out, sent);
+        return send_pair(output, s, out, sent);
     }
     true
 }
 
 // Steps over one byte, and writes the pair that it completes.
-fn take(
+fn take<W: Write>(
+    output: &mut W,
     s: State,
     b: u8,
     text: &mut [u8],
@@ -140,7 +144,7 @@ fn take(
         × (result.sent ≡ true → sent.new ≡ sent.old + length (written result.state out.new)) }
 {
     let state = drawing::feed(s, b, text, ring, chain, out);
-    let written = send(state, out, sent);
+    let written = send(output, state, out, sent);
     Taken {
         state,
         sent: written,
@@ -156,7 +160,8 @@ fn goes_on(t: Taken) -> bool
 }
 
 // The last line has ended, and with it the text.
-fn close(
+fn close<W: Write>(
+    output: &mut W,
     a: State,
     text: &[u8],
     ring: &[i32],
@@ -168,7 +173,7 @@ fn close(
     ensures { result.failed ≡ false → Ends result }
 {
     let b = drawing::finish(a, text, ring, chain, out);
-    let written = send(b, out, sent);
+    let written = send(output, b, out, sent);
     let t = Taken {
         state: b,
         sent: written,
@@ -177,7 +182,8 @@ fn close(
 }
 
 // All is read: the last line ends, and then the text.
-fn finish(
+fn finish<W: Write>(
+    output: &mut W,
     s: State,
     text: &mut [u8],
     ring: &mut [i32],
@@ -188,15 +194,15 @@ fn finish(
     requires { Reached s text.old ring.old chain.old out.old sent.old × (s.draft.wrong ≡ 0) }
     ensures { result.failed ≡ false → Ends result }
 {
-    let t = take(s, b'\n', text, ring, chain, out, sent);
+    let t = take(output, s, b'\n', text, ring, chain, out, sent);
     if goes_on(t) {
-        return close(t.state, text, ring, chain, out, sent);
+        return close(output, t.state, text, ring, chain, out, sent);
     }
     end_after(t, *sent)
 }
 
 // The whole run.
-fn draw() -> Ended
+fn draw<R: Read, W: Write>(input: &mut R, output: &mut W) -> Ended
     ensures { result.failed ≡ false → Ends result }
 {
     let mut text = [0u8; 80];
@@ -207,89 +213,114 @@ fn draw() -> Ended
     let mut t = begin();
     let mut sent: u64 = 0;
     while goes_on(t) {
-        let got = read_byte(&mut byte);
+        let got = read_byte(input, &mut byte);
         if got == 2 {
             return cut_short(READING);
         }
         let s = t.state;
         if got == 0 {
-            return finish(s, &mut text, &mut ring, &mut chain, &mut out, &mut sent);
+            return finish(
+                output, s, &mut text, &mut ring, &mut chain, &mut out, &mut sent,
+            );
         }
         t = take(
-            s, byte[0], &mut text, &mut ring, &mut chain, &mut out, &mut sent,
+            output, s, byte[0], &mut text, &mut ring, &mut chain, &mut out, &mut sent,
         );
     }
     end_after(t, sent)
 }
 
 // Hands over the words of a number, and answers the number.
-fn say(wrong: u32, words: &[u8]) -> u32
+fn say<W: Write>(output: &mut W, wrong: u32, words: &[u8]) -> u32
     requires { words.now ≡ said wrong }
     ensures { result ≡ wrong }
 {
-    io::write_all(STDERR_FILENO, words);
+    stream::write_all(output, words);
     wrong
 }
 
 // Says of what there is too much, or why the run was cut short.
-fn say_more(wrong: u32) -> u32
+fn say_more<W: Write>(output: &mut W, wrong: u32) -> u32
     requires { said wrong ≡ said_more wrong }
     ensures { result ≡ wrong }
 {
     match wrong {
-        25 => say(wrong, b"expected no more than 60 points in a ring\n"),
-        26 => say(wrong, b"expected no more than 60 points in a chain\n"),
-        27 => say(wrong, b"expected no more than one `chain` in a ring\n"),
+        25 => say(
+            output,
+            wrong,
+            b"expected no more than 60 points in a ring\n",
+        ),
+        26 => say(
+            output,
+            wrong,
+            b"expected no more than 60 points in a chain\n",
+        ),
+        27 => say(
+            output,
+            wrong,
+            b"expected no more than one `chain` in a ring\n",
+        ),
         28 => say(
+            output,
             wrong,
             b"expected no more than 80 characters beside a comment\n",
         ),
         29 => say(
+            output,
             wrong,
             b"expected no more than 16777216 characters in a drawing\n",
         ),
-        READING => say(wrong, b"draw: standard input failed\n"),
-        _ => say(wrong, b"draw: standard output failed\n"),
+        READING => say(output, wrong, b"draw: standard input failed\n"),
+        _ => say(output, wrong, b"draw: standard output failed\n"),
     }
 }
 
 // Says what is wrong with a ring, or with a line alone.
-fn say_wrong(wrong: u32) -> u32
+fn say_wrong<W: Write>(output: &mut W, wrong: u32) -> u32
     ensures { result ≡ wrong }
 {
     match wrong {
         1 => say(
+            output,
             wrong,
             b"expected 3 to 60 points in the ring that begins here\n",
         ),
-        12 => say(wrong, b"expected no more than 32768 rings\n"),
+        12 => say(output, wrong, b"expected no more than 32768 rings\n"),
         21 => say(
+            output,
             wrong,
             b"expected `ring SIZE`, `chain`, or a point `x y` in mm, such as 12.5 -3\n",
         ),
         22 => say(
+            output,
             wrong,
             b"expected a sheet size after `ring`, a whole number from 1 to 2048\n",
         ),
-        23 => say(wrong, b"expected coordinates from -1024 to 1024 mm\n"),
+        23 => say(
+            output,
+            wrong,
+            b"expected coordinates from -1024 to 1024 mm\n",
+        ),
         24 => say(
+            output,
             wrong,
             b"expected `ring SIZE` before the first point or `chain`\n",
         ),
-        _ => say_more(wrong),
+        _ => say_more(output, wrong),
     }
 }
 
-fn main() {
-    let end = draw();
+fn main(rt: HostRuntime) {
+    let end = draw(&mut rt.stdin(), &mut rt.stdout());
+    let mut output = rt.stderr();
     if end.failed {
-        say_wrong(end.wrong);
+        say_wrong(&mut output, end.wrong);
         return;
     }
     if end.wrong > 0 {
-        io::write_all(STDERR_FILENO, b"line ");
-        io::print_decimal(STDERR_FILENO, end.line as u64);
-        io::write_all(STDERR_FILENO, b": ");
-        say_wrong(end.wrong);
+        stream::write_all(&mut output, b"line ");
+        stream::print_decimal(&mut output, end.line as u64);
+        stream::write_all(&mut output, b": ");
+        say_wrong(&mut output, end.wrong);
     }
 }

@@ -5,6 +5,8 @@
 // the next one begins or the text ends; only then is its pair of blocks written. The points of the open ring and of its chain
 // stand in lists that the caller lends, 60 places each, x and y in turn, and so do the bytes of the line and of the pair.
 
+#![tactic(auto)]
+
 ghost use Rattle.std.specs.Prelude.{◌≡◌, [], ◌∷◌, ◌++◌, ◌+◌, ◌*◌, ◌≤◌, ◌<◌, length, take};
 ghost use Rattle.numeral.specs.Numeral.{signed};
 ghost use Rattle.lines.specs.Line.{HeardOnSheet};

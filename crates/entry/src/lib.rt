@@ -5,6 +5,8 @@
 // rim mark is a byte, a cell four numbers. Nothing is asked of them: every count and every number is tested. While the used
 // nodes are tested, those in the ring's box are collected (`survey`).
 
+#![tactic(auto)]
+
 ghost use Rattle.std.specs.Prelude.{◌≡◌, ◌||◌, not, cond, List, ◌/◌, ◌≤◌, ltb, length, get_or};
 ghost use Rattle.laws.specs.Bounded.{any};
 ghost use Rattle.vector.specs.Rings.{most_points};

@@ -1,30 +1,33 @@
 // Expected: what a call, a block or a saved pair leaves, compared with a fixed list that says what the Rust leaves. It stands
 // under `replay`, and reads the list's words by `words`.
 
+#![tactic(auto)]
+
 mod pairs;
 
 use blocks::{Block, Reading};
 pub use pairs::same_pair;
+use std::io::Read;
 use table::Row;
 
-fn same_row(fd: i32, v: Row) -> bool {
-    let mut same = v.code == words::word(fd) as u64;
-    same = same & (v.corners == words::word(fd) as u64);
-    same = same & (v.k == words::word(fd) as u64);
-    same = same & (v.marked == words::word(fd) as u64);
-    same = same & (v.cuts == words::word(fd) as u64);
-    same = same & (v.pieces == words::word(fd) as u64);
-    same = same & (v.turned == words::long(fd));
-    same = same & (v.area == words::long(fd));
-    same = same & (v.nodes == words::word(fd) as u64);
-    same & (v.cells == words::word(fd) as u64)
+fn same_row<R: Read>(input: &mut R, v: Row) -> bool {
+    let mut same = v.code == words::word(input) as u64;
+    same = same & (v.corners == words::word(input) as u64);
+    same = same & (v.k == words::word(input) as u64);
+    same = same & (v.marked == words::word(input) as u64);
+    same = same & (v.cuts == words::word(input) as u64);
+    same = same & (v.pieces == words::word(input) as u64);
+    same = same & (v.turned == words::long(input));
+    same = same & (v.area == words::long(input));
+    same = same & (v.nodes == words::word(input) as u64);
+    same & (v.cells == words::word(input) as u64)
 }
 
 // Number i of the node list: new ones from `at` on come from the file, all others are as they were.
-fn node_before(fd: i32, before: &[f64], i: usize, at: usize, n: usize) -> f64 {
+fn node_before<R: Read>(input: &mut R, before: &[f64], i: usize, at: usize, n: usize) -> f64 {
     if at <= i {
         if i - at < n {
-            return words::double(words::long(fd));
+            return words::double(words::long(input));
         }
     }
     if i < before.len() {
@@ -33,32 +36,32 @@ fn node_before(fd: i32, before: &[f64], i: usize, at: usize, n: usize) -> f64 {
     0.0
 }
 
-fn same_nodes(fd: i32, nodes: &[f64], before: &[f64], at: usize) -> bool {
-    let n = words::count(fd);
+fn same_nodes<R: Read>(input: &mut R, nodes: &[f64], before: &[f64], at: usize) -> bool {
+    let n = words::count(input);
     let mut same = true;
     for i in 0..nodes.len() {
-        let x = node_before(fd, before, i, at, n);
+        let x = node_before(input, before, i, at, n);
         same = same & words::same_bits(nodes[i], x);
     }
     same
 }
 
 // Number i of the cell list, which was filled with 65,535 before the call.
-fn cell_before(fd: i32, i: usize, at: usize, n: usize) -> u32 {
+fn cell_before<R: Read>(input: &mut R, i: usize, at: usize, n: usize) -> u32 {
     if at <= i {
         if i - at < n {
-            return words::word(fd);
+            return words::word(input);
         }
     }
     65535
 }
 
-fn same_cells(fd: i32, cells: &[u32]) -> bool {
-    let at = words::count(fd);
-    let n = words::count(fd);
+fn same_cells<R: Read>(input: &mut R, cells: &[u32]) -> bool {
+    let at = words::count(input);
+    let n = words::count(input);
     let mut same = true;
     for i in 0..cells.len() {
-        let x = cell_before(fd, i, at, n);
+        let x = cell_before(input, i, at, n);
         same = same & (cells[i] == x);
     }
     same
@@ -87,10 +90,10 @@ fn mark_after(want: &[u8], before: &[u8], i: usize, n: usize) -> u8 {
     byte_at(before, i)
 }
 
-fn same_rims(fd: i32, rims: &[u8], before: &[u8]) -> bool {
-    let n = words::count(fd);
+fn same_rims<R: Read>(input: &mut R, rims: &[u8], before: &[u8]) -> bool {
+    let n = words::count(input);
     let mut want = [0u8; 1536];
-    words::read_packed(fd, &mut want, n);
+    words::read_packed(input, &mut want, n);
     let mut same = true;
     for i in 0..rims.len() {
         same = same & (rims[i] == mark_after(&want, before, i, n));
@@ -99,8 +102,8 @@ fn same_rims(fd: i32, rims: &[u8], before: &[u8]) -> bool {
 }
 
 // All that a call leaves: its row and every place of its lists, of which `before` and `marks` are what it found.
-pub fn same_left(
-    fd: i32,
+pub fn same_left<R: Read>(
+    input: &mut R,
     v: Row,
     nodes: &[f64],
     before: &[f64],
@@ -109,35 +112,35 @@ pub fn same_left(
     rims: &[u8],
     marks: &[u8],
 ) -> bool {
-    let row = same_row(fd, v);
-    let listed = same_nodes(fd, nodes, before, words::doubled(used));
-    let laid = same_cells(fd, cells);
-    row & listed & laid & same_rims(fd, rims, marks)
+    let row = same_row(input, v);
+    let listed = same_nodes(input, nodes, before, words::doubled(used));
+    let laid = same_cells(input, cells);
+    row & listed & laid & same_rims(input, rims, marks)
 }
 
-fn same_points(fd: i32, points: &[i32]) -> bool {
+fn same_points<R: Read>(input: &mut R, points: &[i32]) -> bool {
     let mut same = true;
     for i in 0..points.len() {
-        let x = blocks::signed(words::word(fd));
+        let x = blocks::signed(words::word(input));
         same = same & (points[i] == x);
     }
     same
 }
 
-fn same_reading(fd: i32, kind: u32, n: usize, size: u32, points: &[i32]) -> bool {
-    let mut same = words::word(fd) == 0;
-    same = same & (words::word(fd) == kind);
-    same = same & (words::count(fd) == n);
-    same = same & (words::word(fd) == size);
-    same & same_points(fd, points)
+fn same_reading<R: Read>(input: &mut R, kind: u32, n: usize, size: u32, points: &[i32]) -> bool {
+    let mut same = words::word(input) == 0;
+    same = same & (words::word(input) == kind);
+    same = same & (words::count(input) == n);
+    same = same & (words::word(input) == size);
+    same & same_points(input, points)
 }
 
-pub fn same_block(fd: i32, number: u32, r: Reading) -> bool {
+pub fn same_block<R: Read>(input: &mut R, number: u32, r: Reading) -> bool {
     let answer = r.block;
     let points = r.points;
     match answer {
-        Block::Refused { code, block } => (block == number) & (words::word(fd) == code),
-        Block::Ring { count, size } => same_reading(fd, 1, count, size, &points),
-        Block::Chain { count } => same_reading(fd, 2, count, 0, &points),
+        Block::Refused { code, block } => (block == number) & (words::word(input) == code),
+        Block::Ring { count, size } => same_reading(input, 1, count, size, &points),
+        Block::Chain { count } => same_reading(input, 2, count, 0, &points),
     }
 }

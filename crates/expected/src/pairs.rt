@@ -2,16 +2,18 @@
 
 ghost use Rattle.std.specs.Prelude.{◌*◌, ◌+◌, ◌≤◌, ◌<◌, length};
 
+use std::io::Read;
+
 fn four(a: u8, b: u8, c: u8, d: u8) -> u32 {
     words::wide(a) + 256 * words::wide(b) + 65536 * words::wide(c) + 16777216 * words::wide(d)
 }
 
 // Word k of a destination: the first n come from the file, all others are as found.
-fn word_left(fd: i32, k: usize, n: usize) -> u32
+fn word_left<R: Read>(input: &mut R, k: usize, n: usize) -> u32
     requires { k < 384 }
 {
     if k < n {
-        return words::word(fd);
+        return words::word(input);
     }
     let i = k * 4;
     four(
@@ -23,12 +25,12 @@ fn word_left(fd: i32, k: usize, n: usize) -> u32
 }
 
 // The answer, and all 1,536 bytes that were filled, those beyond the lent ones too.
-pub fn same_pair(fd: i32, code: u64, out: &[u8; 1536]) -> bool {
-    let mut same = code == words::word(fd) as u64;
-    let n = words::count(fd);
+pub fn same_pair<R: Read>(input: &mut R, code: u64, out: &[u8; 1536]) -> bool {
+    let mut same = code == words::word(input) as u64;
+    let n = words::count(input);
     for k in 0..384 {
         let i = k * 4;
-        let x = word_left(fd, k, n);
+        let x = word_left(input, k, n);
         same = same & (four(out[i], out[i + 1], out[i + 2], out[i + 3]) == x);
     }
     same

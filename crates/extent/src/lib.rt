@@ -5,6 +5,8 @@
 // promised of it but that it is one. The ring's points make it, as they were lent, and where its edges may snap to; middles and
 // means lie between them, up to rounding, for which it is a unit wider.
 
+#![tactic(auto)]
+
 ghost use Rattle.std.specs.Prelude.{◌+◌, ◌*◌, ◌/◌, ◌≤◌, length};
 ghost use Rattle.laws.specs.Within.{Within};
 ghost use Rattle.vector.specs.Rings.{most_points};

@@ -3,6 +3,8 @@
 // It stands between nearness, whose test of a point it makes, and clean, whose passes end with it. The definitions are those of
 // clean_steps.
 
+#![tactic(auto)]
+
 ghost use Rattle.std.specs.Prelude.{◌≡◌};
 ghost use Rattle.clean_steps.specs.Choices.{among, bent_places, places_of, chosen, ValidChoice};
 

@@ -3,6 +3,8 @@
 //
 // All numbers are places or lengths in ten-thousandths of a mm; nothing is negative, and a difference below nothing is nothing.
 
+#![tactic(auto)]
+
 ghost use Rattle.std.specs.Prelude.{◌≡◌, ◌+◌, ◌-◌, ◌*◌, ◌/◌, ◌≤◌, ◌<◌, min, max, length};
 ghost use Rattle.text.specs.Text.{Written};
 ghost use Rattle.job.specs.Run.{block_at};

@@ -4,6 +4,8 @@
 // It stands beside `chain` and `marks` in the way of a ring: they mark the edges along a drawn chain, this crate takes the
 // marks as they are lent, once given_tests has let them pass. The definitions are those of call's specs/Marked.
 
+#![tactic(auto)]
+
 ghost use Rattle.std.specs.Prelude.{◌≡◌, false, cond, ◌≤◌, length, take};
 ghost use Rattle.vector.specs.Rings.{most_points, points_of};
 ghost use Rattle.marks.specs.declared.EdgeMark.TheVariants.{Straight};

@@ -3,6 +3,8 @@
 // It stands before `given`, which takes the marks that have passed. Nothing is asked of what is lent. The definitions are
 // those of call's specs/Marked.
 
+#![tactic(auto)]
+
 ghost use Rattle.std.specs.Prelude.{◌≡◌, ◌+◌, ◌*◌, ◌≤◌, length};
 ghost use Rattle.vector.specs.Rings.{most_points};
 ghost use Rattle.nodes.specs.Flat.{node_in_of};

@@ -4,6 +4,8 @@
 // specs/Step says what one step leaves and tells, and specs/Run what the program prints as one definition, `printed`, from the
 // bytes that go in to those that come out.
 
+#![tactic(auto)]
+
 ghost use Rattle.std.specs.Prelude.{◌≡◌, ◌*◌, ◌≤◌, ◌<◌, length, take};
 ghost use Rattle.job.specs.Step.{no_cells, divides, Steps, CanStep};
 

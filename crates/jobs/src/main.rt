@@ -4,54 +4,64 @@
 //
 // It shares the run with divide, so that the gate sees more inputs than one. docs/REPLAY.md says how the files were made.
 
-use libc::STDOUT_FILENO;
+#![tactic(auto)]
 
-fn job(path: &[u8]) {
-    let fd = os::open_read(path);
-    if fd < 0 {
-        os::fail(path);
-        return;
-    }
-    stream::write_all(STDOUT_FILENO, path);
-    stream::write_all(STDOUT_FILENO, b"\n");
-    run::run(fd, STDOUT_FILENO);
-    libc::close(fd);
-}
+use std::fs;
+use std::fs::File;
+use std::io::Write;
+use std::rt::Files;
 
-// A descriptor that is open for reading takes no text.
-fn unwritten(path: &[u8]) {
-    let fd = os::open_read(path);
-    if fd < 0 {
-        os::fail(path);
-        return;
-    }
-    let sent = run::run(fd, fd);
-    libc::close(fd);
-    stream::write_all(STDOUT_FILENO, path);
-    if sent.failed {
-        stream::write_all(STDOUT_FILENO, b", read only: writing failed\n");
+fn job<F: Files, W: Write, E: Write>(files: &F, output: &mut W, errors: &mut E, path: &str) {
+    match fs::open(files, path) {
+        Ok(mut file) => {
+            stream::write_all(output, path.as_bytes());
+            stream::write_all(output, b"\n");
+            run::run(&mut file, output);
+        }
+        Err(error) => stream::fail(errors, path, error),
     }
 }
 
-fn main() {
-    job(b"whole.job");
-    job(b"empty.job");
-    job(b"one-byte.job");
-    job(b"torn-ring.job");
-    job(b"torn-chain.job");
-    job(b"missing-chain.job");
-    job(b"missing-later-chain.job");
-    job(b"torn-before-check.job");
-    job(b"check.job");
-    job(b"check-before-kind.job");
-    job(b"kind.job");
-    job(b"count.job");
-    job(b"number.job");
-    job(b"unused-point.job");
-    job(b"size-of-chain.job");
-    job(b"zeros.job");
-    job(b"rounding.job");
-    job(b"third.job");
-    job(b".");
-    unwritten(b"whole.job");
+// A file that is open for reading takes no text.
+fn unwritten<F: Files<File = File>, W: Write, E: Write>(
+    files: &F,
+    output: &mut W,
+    errors: &mut E,
+    path: &str,
+) {
+    match fs::open(files, path) {
+        Ok(file) => {
+            let sent = run::run(&mut &file, &mut &file);
+            stream::write_all(output, path.as_bytes());
+            if sent.failed {
+                stream::write_all(output, b", read only: writing failed\n");
+            }
+        }
+        Err(error) => stream::fail(errors, path, error),
+    }
+}
+
+fn main(rt: HostRuntime) {
+    let mut output = rt.stdout();
+    let mut errors = rt.stderr();
+    job(&rt, &mut output, &mut errors, "whole.job");
+    job(&rt, &mut output, &mut errors, "empty.job");
+    job(&rt, &mut output, &mut errors, "one-byte.job");
+    job(&rt, &mut output, &mut errors, "torn-ring.job");
+    job(&rt, &mut output, &mut errors, "torn-chain.job");
+    job(&rt, &mut output, &mut errors, "missing-chain.job");
+    job(&rt, &mut output, &mut errors, "missing-later-chain.job");
+    job(&rt, &mut output, &mut errors, "torn-before-check.job");
+    job(&rt, &mut output, &mut errors, "check.job");
+    job(&rt, &mut output, &mut errors, "check-before-kind.job");
+    job(&rt, &mut output, &mut errors, "kind.job");
+    job(&rt, &mut output, &mut errors, "count.job");
+    job(&rt, &mut output, &mut errors, "number.job");
+    job(&rt, &mut output, &mut errors, "unused-point.job");
+    job(&rt, &mut output, &mut errors, "size-of-chain.job");
+    job(&rt, &mut output, &mut errors, "zeros.job");
+    job(&rt, &mut output, &mut errors, "rounding.job");
+    job(&rt, &mut output, &mut errors, "third.job");
+    job(&rt, &mut output, &mut errors, ".");
+    unwritten(&rt, &mut output, &mut errors, "whole.job");
 }

@@ -3,6 +3,8 @@
 //
 // It stands on cosine, and on corner for the limits; the diagonal asks it of each one before it looks for what stands in the way.
 
+#![tactic(auto)]
+
 ghost use Rattle.std.specs.Prelude.{◌≡◌, not, ◌&&◌};
 ghost use Rattle.vector.specs.Grid.{sub, same};
 ghost use Rattle.vector.specs.Size.{OnSheet, Step};

@@ -2,6 +2,8 @@
 //
 // It stands under Nodes: two points whose coordinates have the same keys are one node.
 
+#![tactic(auto)]
+
 ghost use Rattle.std.specs.Prelude.{◌≡◌, ◌≤◌, ◌&&◌, unsigned_abs};
 ghost use Rattle.laws.specs.Within.{Within};
 ghost use Rattle.laws.specs.Integer.{eq_z};

@@ -3,6 +3,8 @@
 // It stands under Cells: an attempt at a piece calls it once, when its corners, middles and centre have their numbers. The
 // definitions are those of Quads.
 
+#![tactic(auto)]
+
 ghost use Rattle.std.specs.Prelude.{◌≡◌, ◌++◌, ◌*◌, ◌≤◌, length, take, drop};
 ghost use Rattle.quads.specs.Quads.{cells_to};
 ghost use Rattle.quads.specs.Flat.{four, over_cells};

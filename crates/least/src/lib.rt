@@ -4,6 +4,8 @@
 // over trial lists of its own. The entry of smallest stands on it. Choices are tried by rising count, then by rising number,
 // and the first that gets the number is the answer, so that a fault of three points costs no more than the choices of three.
 
+#![tactic(auto)]
+
 ghost use Rattle.std.specs.Prelude.{◌≡◌, ◌*◌, ◌≤◌, length};
 ghost use Rattle.choice.specs.Search as Search;
 ghost use Rattle.least.specs.Trial.{trial_of, choice_of};

@@ -4,6 +4,8 @@
 // It is the first step in the way of a ring, for the divider's entries and for the writer of blocks alike. Nothing is asked
 // of what is lent: every count and every number is tested.
 
+#![tactic(auto)]
+
 ghost use Rattle.std.specs.Prelude.{◌≡◌, ◌||◌, not, ◌++◌, ◌+◌, ◌-◌, ◌*◌, ◌/◌, ◌%◌, ◌≤◌, eqb, ltb, length, replicate};
 ghost use Rattle.vector.specs.Grid.{origin};
 ghost use Rattle.vector.specs.Size.{AllOnSheet};

@@ -4,6 +4,8 @@
 // Glass differs in how sharp a corner it takes, so a caller may hand over a set of its own. It stands below all that reads a
 // limit: the corner, the diagonal, the split, the cells, and the definition of the call.
 
+#![tactic(auto)]
+
 ghost use Rattle.std.specs.Prelude.{◌≡◌};
 ghost use Rattle.limits.specs.Limits.{delivered};
 ghost use Rattle.limits.specs.Sets as Sets;

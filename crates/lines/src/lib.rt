@@ -3,6 +3,8 @@
 //
 // Words are parted by spaces, tabs and carriage returns. Everything is worked out in the line that is lent.
 
+#![tactic(auto)]
+
 ghost use Rattle.std.specs.Prelude.{◌≡◌, true, ◌&&◌, not, ◌^◌, ◌≤◌, ◌<◌, length};
 ghost use Rattle.numeral.specs.Numeral.{Scaled};
 ghost use Rattle.lines.specs.Line as Line;

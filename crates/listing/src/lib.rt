@@ -2,6 +2,8 @@
 // above nodes and decimals, beside the way of a ring: it reads the node list that the divider's calls left. What is written is
 // said over texts, as in `report`.
 
+#![tactic(auto)]
+
 ghost use Rattle.std.specs.Prelude.{◌≡◌, ◌+◌, ◌*◌, ◌≤◌, ◌<◌, length, get_or, replicate};
 ghost use Rattle.std.specs.Float.{nan};
 ghost use Rattle.laws.specs.Within.{Within};

@@ -3,6 +3,8 @@
 // It stands on the divider, and the search for the smallest ring still refused stands on it: every choice of points that is
 // tried is one call of `number`. specs/Empty has why the lists of a trial decide nothing.
 
+#![tactic(auto)]
+
 ghost use Rattle.std.specs.Prelude.{◌≡◌};
 ghost use Rattle.lone_ring.specs.Number.{number_of};
 

@@ -4,6 +4,8 @@
 // the core. Whatever is handed over, the call ends, returns one row of the table and says of every place of the lists what
 // is left there. specs/Promise has the promise, in which stands what holds of every accepted ring.
 
+#![tactic(auto)]
+
 ghost use Rattle.std.specs.Prelude.{◌≡◌, []};
 ghost use Rattle.limits.specs.Limits.{delivered};
 ghost use Rattle.table.specs.Answers as Answers;

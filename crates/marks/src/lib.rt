@@ -3,6 +3,8 @@
 // They stand between the simplified chain and the split, which moves them with their edges; the cells take the snap
 // points as edge middles.
 
+#![tactic(auto)]
+
 ghost use Rattle.std.specs.Prelude.{◌≡◌, ◌&&◌, List, [], ◌∷◌, ◌≤◌};
 ghost use Rattle.laws.specs.Bounded.{first};
 ghost use Rattle.vector.specs.declared.Point.{Point};

@@ -3,3 +3,5 @@
 //
 // It has no code. It stands on the definitions of the call and on demand 3, and every entry answers by these; no crate that
 // runs stands on it.
+
+#![tactic(auto)]

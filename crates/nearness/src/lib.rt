@@ -4,6 +4,8 @@
 // It stands on vector and root; clean drops the points that these tests find. That they are the Rust's is proved in
 // proofs/RustNearness.
 
+#![tactic(auto)]
+
 ghost use Rattle.std.specs.Prelude.{◌≡◌};
 ghost use Rattle.laws.specs.Double.{◌≤f◌};
 ghost use Rattle.vector.specs.Size.{OnSheet};

@@ -5,6 +5,8 @@
 // words for that. A ring's box is known before its first point is sought: the nodes in it are collected (`survey`), and a
 // point is looked for among them (`nearby`).
 
+#![tactic(auto)]
+
 mod held;
 mod nearby;
 

@@ -3,6 +3,8 @@
 // It stands under Cells: the corners, edge middles and means of all pieces get their numbers here. A point is looked for among
 // the nodes that were collected of its ring's box, and among those that were added since.
 
+#![tactic(auto)]
+
 ghost use Rattle.std.specs.Prelude.{◌≡◌, ◌+◌, ◌-◌, ◌*◌, ◌≤◌, length};
 ghost use Rattle.laws.specs.Bounded.{any, first};
 ghost use Rattle.keys.specs.Keys.{key_of, Sought, near};

@@ -4,6 +4,8 @@
 // A number is a word: a minus or none, digits, and a point or none. It says exactly value / scale mm: 12.5 is 125 / 10. The
 // coordinate is the nearest whole count of units, halves away from zero, worked out in integers of 64 bits.
 
+#![tactic(auto)]
+
 ghost use Rattle.std.specs.Prelude.{◌≡◌, true, ◌+◌, ◌*◌, ◌^◌, ◌≤◌, ◌<◌, length};
 ghost use Rattle.numeral.specs.Numeral as Numeral;
 

@@ -4,6 +4,8 @@
 // it of each one that would win. The points of the part are counted from its worst corner, so that a diagonal goes from corner 0 to a
 // corner k.
 
+#![tactic(auto)]
+
 ghost use Rattle.std.specs.Prelude.{◌≡◌, ◌≤◌, ◌<◌};
 ghost use Rattle.laws.specs.Bounded.{any};
 ghost use Rattle.vector.specs.Rings.{most_points, points_of, OnSheetRing};

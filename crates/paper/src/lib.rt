@@ -4,6 +4,8 @@
 // It stands above the definitions of the divider's call and below practice, which makes it. specs/Practice has the promise of
 // that call and the claim that both entries divide alike, proved here of the definitions.
 
+#![tactic(auto)]
+
 ghost use Rattle.std.specs.Prelude.{◌≡◌, ◌&&◌, ◌||◌, not, ◌/◌, ◌%◌, eqb};
 ghost use Rattle.call.specs.Call as Call;
 

@@ -4,6 +4,8 @@
 // ring's points and the marks of its edges are held once, outside; a part has two bytes a corner, so that the whole state of the
 // split is 600 bytes and goes by value. specs/Vertices and specs/Layout say how numbers are read back as parts.
 
+#![tactic(auto)]
+
 ghost use Rattle.std.specs.Prelude.{◌≡◌, List, ℕ, ◌+◌, ◌%◌, ◌≤◌, ◌<◌, get_or, take};
 ghost use Rattle.laws.specs.Table.{tab};
 ghost use Rattle.vector.specs.declared.GridPoint.{GridPoint};

@@ -7,6 +7,8 @@
 // next after the bytes written so far, and a run that ends has written as many as it has. `draw_job` is the whole program, and
 // `main` only says how it ended. What is left to the operating system's calls is said in stream.
 
+#![tactic(auto)]
+
 ghost use Rattle.std.specs.Prelude.{◌≡◌, true, false, ◌++◌, ◌+◌, ◌*◌, ◌%◌, ◌≤◌, ◌<◌, length};
 ghost use Rattle.told.specs.Text.{CanTell};
 ghost use Rattle.sketch.specs.Drawn.{drawn, lead_at, most_step};
@@ -15,10 +17,10 @@ ghost use Rattle.frame.specs.Head.{head_text, most_head};
 ghost use Rattle.picture.specs.Picture.{rings_drawn, all_drawn, pictured, most_rings, Wrote, Owed, Sends, Reached, Drew, Left, Ends, said};
 
 use frame::{Frame, MOST_HEAD};
-use libc::{STDERR_FILENO, STDIN_FILENO, STDOUT_FILENO};
 use nodes::NodeNumber;
 use sketch::MOST_STEP;
 use state::State;
+use std::io::{Read, Write};
 use told::Told;
 
 // The blocks of 256 rings.
@@ -74,20 +76,18 @@ fn all_read(count: usize) -> Input
 }
 
 // Reads until the list is full or the input ends.
-fn read_job(bytes: &mut [u8]) -> Input
+fn read_job<R: Read>(input: &mut R, bytes: &mut [u8]) -> Input
     requires { length bytes.old ≡ 262145 }
     ensures { (result.count ≤ 262145) × (result.failed ≡ true → 0 < result.count % 512) }
 {
     let mut done: usize = 0;
     while done < 262145 {
-        let got = libc::read(STDIN_FILENO, &mut bytes[done..]);
-        if got < 0 {
+        let Ok(more) = input.read(&mut bytes[done..]) else {
             return Input {
                 count: torn(done),
                 failed: true,
             };
-        }
-        let more = io::count(got, &bytes[done..]);
+        };
         if more == 0 {
             return all_read(done);
         }
@@ -97,15 +97,16 @@ fn read_job(bytes: &mut [u8]) -> Input
 }
 
 // Writes the text that is owed after `sent` bytes.
-fn send(job: &[u8], text: &[u8], sent: &mut u64) -> bool
+fn send<W: Write>(output: &mut W, job: &[u8], text: &[u8], sent: &mut u64) -> bool
     requires { Owed job.now sent.old text.now × (length text.now ≤ most_step) }
     ensures { result ≡ true → sent.new ≡ sent.old + length text.now }
 {
-    stream::write_counted(STDOUT_FILENO, text, sent)
+    stream::write_counted(output, text, sent)
 }
 
 // Writes what is drawn of a step, that of block i.
-fn draw_step(
+fn draw_step<W: Write>(
+    output: &mut W,
     job: &[u8],
     f: Frame,
     told: Told,
@@ -127,11 +128,12 @@ fn draw_step(
     let n = sketch::put_step(
         &mut text, f, told, points, count, nodes, rims, cells, job, i,
     );
-    send(job, &text[..n], sent)
+    send(output, job, &text[..n], sent)
 }
 
 // The run after block i, which is drawn when it is told, and whether that was written.
-fn turn(
+fn turn<W: Write>(
+    output: &mut W,
     job: &[u8],
     f: Frame,
     i: usize,
@@ -150,7 +152,19 @@ fn turn(
     let stepped = step::step(s, frame::block_at(job, i), ring, nodes, rims, cells);
     let told = stepped.told;
     let state = stepped.state;
-    let written = draw_step(job, f, told, ring, state.count, nodes, rims, cells, i, sent);
+    let written = draw_step(
+        output,
+        job,
+        f,
+        told,
+        ring,
+        state.count,
+        nodes,
+        rims,
+        cells,
+        i,
+        sent,
+    );
     Moved {
         state,
         sent: written,
@@ -158,14 +172,21 @@ fn turn(
 }
 
 // Writes the nodes that a run has left, after the head and the rings.
-fn draw_nodes(job: &[u8], nodes: &[f64], rims: &[u8], used: usize, sent: &mut u64) -> bool
+fn draw_nodes<W: Write>(
+    output: &mut W,
+    job: &[u8],
+    nodes: &[f64],
+    rims: &[u8],
+    used: usize,
+    sent: &mut u64,
+) -> bool
     requires { Left job.now used nodes.now rims.now × (sent.old ≡ length (rings_drawn job.now)) × (sent.old ≤ most_rings) }
     ensures { result ≡ true → Wrote (all_drawn job.now) sent.new }
 {
     for i in 0..used {
         let mut text = [0u8; 256];
         let n = scene::put_node(&mut text, nodes, rims, i);
-        let written = send(job, &text[..n], sent);
+        let written = send(output, job, &text[..n], sent);
         if !written {
             return false;
         }
@@ -174,7 +195,7 @@ fn draw_nodes(job: &[u8], nodes: &[f64], rims: &[u8], used: usize, sent: &mut u6
 }
 
 // Runs the job over an empty node list, and draws each ring when it is told, then the nodes. The head stands before them.
-fn draw(job: &[u8], f: Frame, sent: &mut u64) -> bool
+fn draw<W: Write>(output: &mut W, job: &[u8], f: Frame, sent: &mut u64) -> bool
     requires { (length job.now < 4294967296) × (f ≡ frame_of (extent_of job.now)) × (sent.old ≡ length (head_text f)) × (sent.old ≤ most_head) }
     ensures { result ≡ true → Wrote (all_drawn job.now) sent.new }
 {
@@ -186,7 +207,7 @@ fn draw(job: &[u8], f: Frame, sent: &mut u64) -> bool
     let mut i: usize = 0;
     while state::goes_on(s) {
         let t = turn(
-            job, f, i, s, &mut ring, &mut nodes, &mut rims, &mut cells, sent,
+            output, job, f, i, s, &mut ring, &mut nodes, &mut rims, &mut cells, sent,
         );
         if !t.sent {
             return false;
@@ -195,67 +216,68 @@ fn draw(job: &[u8], f: Frame, sent: &mut u64) -> bool
         i += 1;
     }
     let used = s.used;
-    draw_nodes(job, &nodes, &rims, used, sent)
+    draw_nodes(output, job, &nodes, &rims, used, sent)
 }
 
 // The whole picture of a job.
-fn picture(job: &[u8], sent: &mut u64) -> bool
+fn picture<W: Write>(output: &mut W, job: &[u8], sent: &mut u64) -> bool
     requires { (length job.now < 4294967296) × (sent.old ≡ 0) }
     ensures { result ≡ true → sent.new ≡ length (pictured job.now) }
 {
     let mut text = [0u8; MOST_HEAD];
     let f = frame::frame_of(frame::extent_of(job));
     let n = frame::put_head(&mut text, f);
-    let head = send(job, &text[..n], sent);
+    let head = send(output, job, &text[..n], sent);
     if !head {
         return false;
     }
-    let drawn = draw(job, f, sent);
+    let drawn = draw(output, job, f, sent);
     if !drawn {
         return false;
     }
     let m = frame::put_foot(&mut text);
-    send(job, &text[..m], sent)
+    send(output, job, &text[..m], sent)
 }
 
 // The whole program: reads a job and draws it.
-fn draw_job(bytes: &mut [u8]) -> End
+fn draw_job<R: Read, W: Write>(input: &mut R, output: &mut W, bytes: &mut [u8]) -> End
     requires { length bytes.old ≡ 262145 }
     ensures { Ends bytes.new result }
 {
-    let input = read_job(bytes);
-    let count = input.count;
+    let job = read_job(input, bytes);
+    let count = job.count;
     if MOST_JOB < count {
         return End::TooLong { count };
     }
     let mut sent: u64 = 0;
-    let written = picture(&bytes[..count], &mut sent);
+    let written = picture(output, &bytes[..count], &mut sent);
     if !written {
         return End::Unwritten;
     }
     End::Drawn {
         count,
-        failed: input.failed,
+        failed: job.failed,
         sent,
     }
 }
 
 // Hands over the words of how it ended.
-fn say(end: End, words: &[u8])
+fn say<W: Write>(output: &mut W, end: End, words: &[u8])
     requires { words.now ≡ said end }
 {
-    stream::write_all(STDERR_FILENO, words);
+    stream::write_all(output, words);
 }
 
-fn say_end(end: End) {
+fn say_end<W: Write>(output: &mut W, end: End) {
     match end {
-        End::Drawn { .. } => say(end, b""),
-        End::TooLong { .. } => say(end, b"picture: more than 256 rings\n"),
-        End::Unwritten => say(end, b"picture: standard output failed\n"),
+        End::Drawn { .. } => say(output, end, b""),
+        End::TooLong { .. } => say(output, end, b"picture: more than 256 rings\n"),
+        End::Unwritten => say(output, end, b"picture: standard output failed\n"),
     }
 }
 
-fn main() {
+fn main(rt: HostRuntime) {
     let mut bytes = [0u8; 262145];
-    say_end(draw_job(&mut bytes));
+    let end = draw_job(&mut rt.stdin(), &mut rt.stdout(), &mut bytes);
+    say_end(&mut rt.stderr(), end);
 }

@@ -3,6 +3,8 @@
 // It is the last step in the way of a ring: pieces calls it for each piece that the split leaves. The attempts are those of
 // `attempts`, and the definitions those of Cells.
 
+#![tactic(auto)]
+
 ghost use Rattle.std.specs.Prelude.{◌≡◌, ◌*◌, ◌≤◌, length};
 ghost use Rattle.nodes.specs.Flat.{over};
 ghost use Rattle.nodes.specs.Nearby.{ValidNearby};

@@ -3,6 +3,8 @@
 // It stands under Cells, between Numbering and an attempt at a piece: the corners come first, then the middles of the listed
 // ends. specs/Adding has the words for what a function asks of the lent list, and for what it leaves there.
 
+#![tactic(auto)]
+
 ghost use Rattle.std.specs.Prelude.{◌≡◌, length};
 ghost use Rattle.laws.specs.Bounded.{any};
 ghost use Rattle.vector.specs.Rings.{most_points, OnSheetRing};

@@ -4,6 +4,8 @@
 // cells go into the part of the caller's list that starts where those of the piece before ended. After a failure the
 // places that were reserved for the ring's cells are zero. specs/Flat says what is asked, answered and left.
 
+#![tactic(auto)]
+
 ghost use Rattle.std.specs.Prelude.{◌≡◌, List, ℕ, ◌*◌, ◌≤◌, ◌<◌, false, length, get_or, replicate};
 ghost use Rattle.vector.specs.declared.GridPoint.{GridPoint};
 ghost use Rattle.parts.specs.Layout.{ValidParts};

@@ -3,6 +3,8 @@
 // It stands beside the examination's entry, over the same divider: it tests its own counts, 16, in paper, and hands the call
 // over with its own set of limits. paper's specs/Practice has its promise and the claim that both entries divide alike.
 
+#![tactic(auto)]
+
 ghost use Rattle.table.specs.Answers as Answers;
 ghost use Rattle.call.specs.Lent.{lent};
 ghost use Rattle.paper.specs.Practice.{PracticePromise};

@@ -4,6 +4,8 @@
 // round a centre into a list is `laid_cells`, and the two tests of a cell are `cell_tests`, both above it: the definitions of
 // all three are here. A cell stands in the caller's list as four numbers; specs/Flat has the words for that.
 
+#![tactic(auto)]
+
 ghost use Rattle.std.specs.Prelude.{◌≡◌, ℕ, ◌+◌, ◌*◌, ◌≤◌, ◌<◌, length, get_or};
 ghost use Rattle.nodes.specs.Flat.{node_in_of};
 ghost use Rattle.quads.specs.Quads as Quads;

@@ -1,6 +1,7 @@
 // The entry that a call is of: the examination, one that takes a set of limits, or the practice paper.
 
 use nodes::NodeNumber;
+use std::io::Read;
 use table::Row;
 
 // The kind of the record: 2 the examination, 7 with a set, and its five values, 8 the practice paper.
@@ -26,12 +27,12 @@ pub fn without_set(kind: u32) -> Entry {
 }
 
 // The set that comes next in the file.
-pub fn read(fd: i32) -> Entry {
-    let corner = words::double(words::long(fd));
-    let least = words::double(words::long(fd));
-    let greatest = words::double(words::long(fd));
-    let cuts = words::word(fd);
-    let share = words::double(words::long(fd));
+pub fn read<R: Read>(input: &mut R) -> Entry {
+    let corner = words::double(words::long(input));
+    let least = words::double(words::long(input));
+    let greatest = words::double(words::long(input));
+    let cuts = words::word(input);
+    let share = words::double(words::long(input));
     Entry {
         kind: 7,
         corner,

@@ -3,30 +3,37 @@
 use crate::called::Entry;
 use crate::{State, called};
 use nodes::NodeNumber;
+use std::io::Read;
 
 // What does not fit its list is left out, and shows as a difference.
-pub fn replay_marked(fd: i32, entry: Entry, nodes: &mut [f64], rims: &mut [u8], s: State) -> State {
-    let size = words::word(fd);
-    let cell_numbers = words::count_to(fd, 2048);
-    let cell_count = words::word(fd) as usize;
-    let r = words::count_to(fd, 256);
-    let k = words::count_to(fd, 256);
-    let t = words::count_to(fd, 512);
-    let o = words::count_to(fd, 256);
-    let l = words::count_to(fd, 64);
+pub fn replay_marked<R: Read>(
+    input: &mut R,
+    entry: Entry,
+    nodes: &mut [f64],
+    rims: &mut [u8],
+    s: State,
+) -> State {
+    let size = words::word(input);
+    let cell_numbers = words::count_to(input, 2048);
+    let cell_count = words::word(input) as usize;
+    let r = words::count_to(input, 256);
+    let k = words::count_to(input, 256);
+    let t = words::count_to(input, 512);
+    let o = words::count_to(input, 256);
+    let l = words::count_to(input, 64);
     let mut ring = [0i32; 256];
     let mut kinds = [0u8; 256];
     let mut snaps = [0.0f64; 512];
     let mut outline = [0i32; 256];
     let mut loops = [0u32; 64];
-    words::read_numbers(fd, &mut ring, r);
-    words::read_bytes(fd, &mut kinds, k);
-    words::read_nodes(fd, &mut snaps, t);
-    words::read_numbers(fd, &mut outline, o);
-    words::read_words(fd, &mut loops, l);
+    words::read_numbers(input, &mut ring, r);
+    words::read_bytes(input, &mut kinds, k);
+    words::read_nodes(input, &mut snaps, t);
+    words::read_numbers(input, &mut outline, o);
+    words::read_words(input, &mut loops, l);
     let mut cells = [65535u32; 2048];
     compared(
-        fd,
+        input,
         entry,
         &ring[..r],
         &kinds[..k],
@@ -43,8 +50,8 @@ pub fn replay_marked(fd: i32, entry: Entry, nodes: &mut [f64], rims: &mut [u8], 
 }
 
 // Runs the call and compares all that it leaves with the file.
-fn compared(
-    fd: i32,
+fn compared<R: Read>(
+    input: &mut R,
     entry: Entry,
     ring: &[i32],
     kinds: &[u8],
@@ -66,6 +73,6 @@ fn compared(
     let v = called::divided_marked(
         entry, ring, kinds, snaps, outline, loops, size, nodes, used, rims, cells, cell_count,
     );
-    let same = expected::same_left(fd, v, nodes, &before, used, cells, rims, &marks);
+    let same = expected::same_left(input, v, nodes, &before, used, cells, rims, &marks);
     s.ran(same, v.nodes as usize)
 }

@@ -2,11 +2,16 @@
 // value, every node bit, every rim mark, every cell place, every byte read and every byte written. docs/REPLAY.md has the form
 // of the lists.
 
+#![tactic(auto)]
+
 mod called;
 mod leads;
 
 use called::Entry;
 use nodes::NodeNumber;
+use std::fs;
+use std::io::{Read, Write};
+use std::rt::Files;
 use words::Tally;
 
 // The lists of the calls that follow: the places for nodes, how many are used, and the places for rim marks; and the tally
@@ -31,13 +36,13 @@ impl State {
     }
 }
 
-fn replay_list(fd: i32, nodes: &mut [f64], marks: &mut [u8], s: State) -> State {
-    let places = words::count(fd);
-    let used = words::count(fd);
-    let rims = words::count(fd);
+fn replay_list<R: Read>(input: &mut R, nodes: &mut [f64], marks: &mut [u8], s: State) -> State {
+    let places = words::count(input);
+    let used = words::count(input);
+    let rims = words::count(input);
     let listed = words::smaller(used, places);
-    words::read_nodes(fd, nodes, words::doubled(listed));
-    words::read_packed(fd, marks, words::smaller(rims, listed));
+    words::read_nodes(input, nodes, words::doubled(listed));
+    words::read_packed(input, marks, words::smaller(rims, listed));
     let tally = s.tally;
     State {
         places,
@@ -48,19 +53,25 @@ fn replay_list(fd: i32, nodes: &mut [f64], marks: &mut [u8], s: State) -> State 
 }
 
 // What does not fit its list is left out, and shows as a difference.
-fn replay_call(fd: i32, entry: Entry, nodes: &mut [f64], rims: &mut [u8], s: State) -> State {
-    let size = words::word(fd);
-    let cell_numbers = words::count_to(fd, 2048);
-    let cell_count = words::word(fd) as usize;
-    let r = words::count_to(fd, 256);
-    let c = words::count_to(fd, 256);
+fn replay_call<R: Read>(
+    input: &mut R,
+    entry: Entry,
+    nodes: &mut [f64],
+    rims: &mut [u8],
+    s: State,
+) -> State {
+    let size = words::word(input);
+    let cell_numbers = words::count_to(input, 2048);
+    let cell_count = words::word(input) as usize;
+    let r = words::count_to(input, 256);
+    let c = words::count_to(input, 256);
     let mut ring = [0i32; 256];
     let mut chain = [0i32; 256];
-    words::read_numbers(fd, &mut ring, r);
-    words::read_numbers(fd, &mut chain, c);
+    words::read_numbers(input, &mut ring, r);
+    words::read_numbers(input, &mut chain, c);
     let mut cells = [65535u32; 2048];
     compared(
-        fd,
+        input,
         entry,
         &ring[..r],
         &chain[..c],
@@ -74,8 +85,8 @@ fn replay_call(fd: i32, entry: Entry, nodes: &mut [f64], rims: &mut [u8], s: Sta
 }
 
 // Runs a call and compares all that it leaves with the file.
-fn compared(
-    fd: i32,
+fn compared<R: Read>(
+    input: &mut R,
     entry: Entry,
     ring: &[i32],
     chain: &[i32],
@@ -94,43 +105,43 @@ fn compared(
     let v = called::divided(
         entry, ring, chain, size, nodes, used, rims, cells, cell_count,
     );
-    let same = expected::same_left(fd, v, nodes, &before, used, cells, rims, &marks);
+    let same = expected::same_left(input, v, nodes, &before, used, cells, rims, &marks);
     s.ran(same, v.nodes as usize)
 }
 
-fn replay_block(fd: i32, s: State) -> State {
-    let number = words::word(fd);
-    let n = words::count(fd);
+fn replay_block<R: Read>(input: &mut R, s: State) -> State {
+    let number = words::word(input);
+    let n = words::count(input);
     let mut bytes = [0u8; 1024];
-    words::read_bytes(fd, &mut bytes, n);
+    words::read_bytes(input, &mut bytes, n);
     let used = s.used;
     if 1024 < n {
         return s.ran(false, used);
     }
-    let same = expected::same_block(fd, number, blocks::read_block(&bytes[..n], number));
+    let same = expected::same_block(input, number, blocks::read_block(&bytes[..n], number));
     s.ran(same, used)
 }
 
-fn replay_pair(fd: i32, s: State) -> State {
-    let size = words::word(fd);
-    let number = words::word(fd);
-    let room = words::count_to(fd, 1536);
-    let r = words::count_to(fd, 520);
-    let c = words::count_to(fd, 520);
+fn replay_pair<R: Read>(input: &mut R, s: State) -> State {
+    let size = words::word(input);
+    let number = words::word(input);
+    let room = words::count_to(input, 1536);
+    let r = words::count_to(input, 520);
+    let c = words::count_to(input, 520);
     let mut ring = [0i32; 520];
     let mut chain = [0i32; 520];
-    words::read_numbers(fd, &mut ring, r);
-    words::read_numbers(fd, &mut chain, c);
+    words::read_numbers(input, &mut ring, r);
+    words::read_numbers(input, &mut chain, c);
     let used = s.used;
     let mut out = [0u8; 1536];
     words::fill(&mut out);
     let code = exports::blocks_write(&ring[..r], &chain[..c], size, number, &mut out[..room]);
-    s.ran(expected::same_pair(fd, code, &out), used)
+    s.ran(expected::same_pair(input, code, &out), used)
 }
 
 // A call of some entry, by a chain or with given marks, over the places of its lists.
-fn replay_entry(
-    fd: i32,
+fn replay_entry<R: Read>(
+    input: &mut R,
     entry: Entry,
     kind: u32,
     nodes: &mut [f64],
@@ -140,9 +151,9 @@ fn replay_entry(
     let end = words::smaller(words::doubled(s.places), nodes.len());
     let stop = words::smaller(s.rims, rims.len());
     if kind == 5 {
-        return leads::replay_marked(fd, entry, &mut nodes[..end], &mut rims[..stop], s);
+        return leads::replay_marked(input, entry, &mut nodes[..end], &mut rims[..stop], s);
     }
-    replay_call(fd, entry, &mut nodes[..end], &mut rims[..stop], s)
+    replay_call(input, entry, &mut nodes[..end], &mut rims[..stop], s)
 }
 
 // The kinds of record that are calls: of the examination, with given marks, with a set of limits, of the practice paper.
@@ -151,37 +162,45 @@ fn is_call(kind: u32) -> bool {
 }
 
 // A set of limits stands before its call, and after it, or after an 8, whether the call is by a chain or with given marks.
-fn replay_any(fd: i32, kind: u32, nodes: &mut [f64], rims: &mut [u8], s: State) -> State {
+fn replay_any<R: Read>(
+    input: &mut R,
+    kind: u32,
+    nodes: &mut [f64],
+    rims: &mut [u8],
+    s: State,
+) -> State {
     if kind == 7 {
-        let entry = called::read(fd);
-        return replay_entry(fd, entry, words::word(fd), nodes, rims, s);
+        let entry = called::read(input);
+        let of = words::word(input);
+        return replay_entry(input, entry, of, nodes, rims, s);
     }
     let entry = called::without_set(kind);
     if kind == 8 {
-        return replay_entry(fd, entry, words::word(fd), nodes, rims, s);
+        let of = words::word(input);
+        return replay_entry(input, entry, of, nodes, rims, s);
     }
-    replay_entry(fd, entry, kind, nodes, rims, s)
+    replay_entry(input, entry, kind, nodes, rims, s)
 }
 
-fn step(fd: i32, kind: u32, nodes: &mut [f64], rims: &mut [u8], s: State) -> State {
+fn step<R: Read>(input: &mut R, kind: u32, nodes: &mut [f64], rims: &mut [u8], s: State) -> State {
     if is_call(kind) {
-        return replay_any(fd, kind, nodes, rims, s);
+        return replay_any(input, kind, nodes, rims, s);
     }
     if kind == 1 {
-        return replay_list(fd, nodes, rims, s);
+        return replay_list(input, nodes, rims, s);
     }
     if kind == 3 {
-        return replay_block(fd, s);
+        return replay_block(input, s);
     }
     if kind == 4 {
-        return replay_pair(fd, s);
+        return replay_pair(input, s);
     }
     let used = s.used;
     s.ran(false, used)
 }
 
 // All records of a file, which has fewer than a million. A rim mark that no call has written yet is 9.
-fn replay(fd: i32) -> Tally {
+fn replay<R: Read>(input: &mut R) -> Tally {
     let mut nodes = [0.0f64; 3072];
     let mut rims = [9u8; 1536];
     let mut s = State {
@@ -191,53 +210,65 @@ fn replay(fd: i32) -> Tally {
         tally: Tally::NONE,
     };
     for _ in 0u32..1000000 {
-        let kind = words::word(fd);
+        let kind = words::word(input);
         if kind == 0 {
             break;
         }
-        s = step(fd, kind, &mut nodes, &mut rims, s);
+        s = step(input, kind, &mut nodes, &mut rims, s);
     }
     s.tally
 }
 
 // A file that cannot be opened counts as one that differs.
-fn tally(path: &[u8]) -> Tally {
-    let fd = os::open_read(path);
-    if fd < 0 {
-        os::fail(path);
-        return Tally { ran: 0, differ: 1 };
+fn tally<F: Files, E: Write>(files: &F, errors: &mut E, path: &str) -> Tally {
+    match fs::open(files, path) {
+        Ok(mut list) => replay(&mut list),
+        Err(error) => {
+            stream::fail(errors, path, error);
+            Tally { ran: 0, differ: 1 }
+        }
     }
-    let t = replay(fd);
-    libc::close(fd);
-    t
 }
 
-fn file(path: &[u8]) -> Tally {
-    let t = tally(path);
-    t.print(path);
+fn file<F: Files, W: Write, E: Write>(
+    files: &F,
+    output: &mut W,
+    errors: &mut E,
+    path: &str,
+) -> Tally {
+    let t = tally(files, errors, path);
+    t.print(output, path.as_bytes());
     t
 }
 
 // The lists of the base: calls, blocks read and blocks written.
-fn of_the_base() -> Tally {
-    let rings = file(b"rings.list");
-    let calls = file(b"calls.list");
-    let read = file(b"blocks.list");
-    let written = file(b"pairs.list");
+fn of_the_base<F: Files, W: Write, E: Write>(files: &F, output: &mut W, errors: &mut E) -> Tally {
+    let rings = file(files, output, errors, "rings.list");
+    let calls = file(files, output, errors, "calls.list");
+    let read = file(files, output, errors, "blocks.list");
+    let written = file(files, output, errors, "pairs.list");
     rings.plus(calls).plus(read).plus(written)
 }
 
 // Those of the other entries, and of rim marks.
-fn of_all_entries() -> Tally {
-    let marked = file(b"marks.list");
-    let sets = file(b"sets.list");
-    let practised = file(b"practice.list");
-    let rimmed = file(b"rims.list");
+fn of_all_entries<F: Files, W: Write, E: Write>(
+    files: &F,
+    output: &mut W,
+    errors: &mut E,
+) -> Tally {
+    let marked = file(files, output, errors, "marks.list");
+    let sets = file(files, output, errors, "sets.list");
+    let practised = file(files, output, errors, "practice.list");
+    let rimmed = file(files, output, errors, "rims.list");
     marked.plus(sets).plus(practised).plus(rimmed)
 }
 
-fn main() {
-    let t = of_the_base();
-    t.plus(of_all_entries()).print(b"total");
-    tally(b"wrong.list").print_told(b"wrong.list");
+fn main(rt: HostRuntime) {
+    let mut output = rt.stdout();
+    let mut errors = rt.stderr();
+    let t = of_the_base(&rt, &mut output, &mut errors);
+    let all = t.plus(of_all_entries(&rt, &mut output, &mut errors));
+    all.print(&mut output, b"total");
+    let wrong = tally(&rt, &mut errors, "wrong.list");
+    wrong.print_told(&mut output, b"wrong.list");
 }

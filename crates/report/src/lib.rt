@@ -3,6 +3,8 @@
 // The lines are forms of crate text. The three functions that print write from the front and return the count of bytes: a
 // list of 6,400 bytes holds every text.
 
+#![tactic(auto)]
+
 ghost use Rattle.std.specs.Prelude.{◌≡◌, ◌&&◌, ◌+◌, ◌*◌, ◌/◌, ◌≤◌, ◌<◌, length};
 ghost use Rattle.text.specs.Text.{Written};
 ghost use Rattle.report.specs.Report as Report;

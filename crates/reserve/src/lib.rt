@@ -4,6 +4,8 @@
 // read it. At 32 cuts the places are read from the printed reserve sheet, and for any other number of cuts worked out;
 // proofs/Rows shows that the sheet has what would be worked out.
 
+#![tactic(auto)]
+
 ghost use Rattle.std.specs.Prelude.{◌≡◌, ◌≤◌};
 ghost use Rattle.reserve.specs.Reserve as Reserve;
 ghost use Rattle.reserve.specs.Sheet as Sheet;

@@ -1,41 +1,44 @@
 // Reserves: a program that prints the reserve sheet for studio staff, docs/RESERVES.md, from the same rows that the divider
 // reads. It stands beside the way of a ring.
 
+#![tactic(auto)]
+
 ghost use Rattle.std.specs.Prelude.{◌≤◌};
 
-use libc::STDOUT_FILENO;
+use std::io::Write;
 
-fn field(word: &[u8], n: usize) {
-    io::write_all(STDOUT_FILENO, word);
-    io::print_decimal(STDOUT_FILENO, n as u64);
+fn field<W: Write>(output: &mut W, word: &[u8], n: usize) {
+    stream::write_all(output, word);
+    stream::print_decimal(output, n as u64);
 }
 
-fn row(r: usize)
+fn row<W: Write>(output: &mut W, r: usize)
     requires { (3 ≤ r) × (r ≤ 60) }
 {
-    field(b"| ", r);
-    field(b" | ", reserve::node_places(32, r));
-    field(b" | ", reserve::cell_places(32, r));
-    io::write_all(STDOUT_FILENO, b" |\n");
+    field(output, b"| ", r);
+    field(output, b" | ", reserve::node_places(32, r));
+    field(output, b" | ", reserve::cell_places(32, r));
+    stream::write_all(output, b" |\n");
 }
 
-fn rows(n: usize)
+fn rows<W: Write>(output: &mut W, n: usize)
     requires { n ≤ 58 }
 {
     for i in 0..n {
-        row(i + 3);
+        row(output, i + 3);
     }
 }
 
-fn main() {
-    io::write_all(STDOUT_FILENO, b"# Reserve sheet\n\n");
-    io::write_all(
-        STDOUT_FILENO,
+fn main(rt: HostRuntime) {
+    let mut output = rt.stdout();
+    stream::write_all(&mut output, b"# Reserve sheet\n\n");
+    stream::write_all(
+        &mut output,
         b"The free places of the node list and of the cell list that a ring asks for, by its number of points, at 32 cuts.\n\n",
     );
-    io::write_all(
-        STDOUT_FILENO,
+    stream::write_all(
+        &mut output,
         b"| points | node places | cell places |\n|---:|---:|---:|\n",
     );
-    rows(58);
+    rows(&mut output, 58);
 }

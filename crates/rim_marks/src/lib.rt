@@ -3,6 +3,8 @@
 // It stands under Cells: each attempt at a piece calls it once, when its nodes are listed. The marks are a lent list beside the
 // nodes, one a place. What an attempt's marks mean is said in Cells (specs/Rims).
 
+#![tactic(auto)]
+
 ghost use Rattle.std.specs.Prelude.{◌≡◌, ◌-◌, ◌≤◌, length};
 ghost use Rattle.vector.specs.Rings.{most_points};
 ghost use Rattle.quads.specs.Flat.{ListedTo};

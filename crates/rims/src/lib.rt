@@ -4,3 +4,5 @@
 //
 // It has no code. It stands on the definitions of the split and of what nodes are asked for, by which every entry sets the
 // marks. The claim that the practice paper divides alike stands on it.
+
+#![tactic(auto)]

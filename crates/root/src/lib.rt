@@ -2,6 +2,8 @@
 // `root_bits` over their bit patterns; and the lengths that use it, `norm` and `dist`, over nodes and over the grid. It
 // stands below the chain, the cleaning, the split and the cells, whose distances and cosines rest on it.
 
+#![tactic(auto)]
+
 ghost use Rattle.std.specs.Prelude.{◌≡◌, ◌*◌, ◌^◌, ◌≤◌, ◌<◌};
 ghost use Rattle.std.specs.Float.{binary64};
 ghost use Rattle.std.specs.Float.Ieee.{of_bits};

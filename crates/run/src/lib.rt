@@ -1,18 +1,21 @@
-// Run: a job from one descriptor to another: reads a block, steps, writes the text of what the step told, until the run has
+// Run: a job from a reader to a writer: reads a block, steps, writes the text of what the step told, until the run has
 // ended. It stands above step and telling, and below the programs.
 //
 // The loop's invariant is that the state, the node list with its rim marks and the count of bytes written were reached by the
 // bytes read so far, and a run that ends has written `printed` of them. What is left to the calls of the operating system is
 // said in stream.
 
+#![tactic(auto)]
+
 ghost use Rattle.std.specs.Prelude.{◌≡◌, false};
 ghost use Rattle.telling.specs.Reached.{Finished};
 
 use state::State;
+use std::io::{Read, Write};
 use telling::Sent;
 
 // The whole run. It ends early only where writing fails.
-pub fn run(input: i32, output: i32) -> Sent
+pub fn run<R: Read, W: Write>(input: &mut R, output: &mut W) -> Sent
     ensures { result.failed ≡ false → Finished result.bytes }
 {
     let mut ring = [0i32; 120];

@@ -3,6 +3,8 @@
 //
 // Each function that writes takes the place to write at and returns the place after it, as in text.
 
+#![tactic(auto)]
+
 ghost use Rattle.std.specs.Prelude.{◌≡◌, ◌+◌, ◌*◌, ◌/◌, ◌≤◌, ◌<◌, length, get_or};
 ghost use Rattle.text.specs.Text.{Written};
 ghost use Rattle.scene.specs.Scene as Scene;

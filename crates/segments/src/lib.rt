@@ -3,6 +3,8 @@
 // It stands on vector. A ring is refused with 6 where two of its edges cross (simple), and a diagonal may neither cross an edge of its
 // part nor run over a third corner (obstacles).
 
+#![tactic(auto)]
+
 ghost use Rattle.std.specs.Prelude.{◌≡◌, ◌^◌, ◌≤◌, nat_abs, pos};
 ghost use Rattle.std.specs.Int.Signed.{lt_z, le_z};
 ghost use Rattle.laws.specs.Integer.{eq_z};

@@ -4,15 +4,17 @@
 // The blocks are stepped over as in run, and what the steps tell is dropped; then the lines are written by sheet_lines. What is
 // left to the operating system's calls is said in stream.
 
+#![tactic(auto)]
+
 ghost use Rattle.std.specs.Prelude.{◌≡◌, false};
 ghost use Rattle.sheet_lines.specs.Sheeted.{Finished};
 
-use libc::{STDERR_FILENO, STDIN_FILENO};
 use state::State;
+use std::io::{Read, Write};
 use telling::Sent;
 
 // Runs the job and prints the sheet of the nodes that it leaves.
-fn list_job() -> Sent
+fn list_job<R: Read, W: Write>(input: &mut R, output: &mut W) -> Sent
     ensures { result.failed ≡ false → Finished result.bytes }
 {
     let mut ring = [0i32; 120];
@@ -22,7 +24,7 @@ fn list_job() -> Sent
     let mut bytes = [0u8; 512];
     let mut s = State::new();
     while state::goes_on(s) {
-        let got = stream::read_block(STDIN_FILENO, &mut bytes);
+        let got = stream::read_block(input, &mut bytes);
         let stepped = step::step(
             s,
             &bytes[..got],
@@ -34,12 +36,12 @@ fn list_job() -> Sent
         s = stepped.state;
     }
     let used = s.used;
-    sheet_lines::print_sheet(&nodes, used)
+    sheet_lines::print_sheet(output, &nodes, used)
 }
 
-fn main() {
-    let sent = list_job();
+fn main(rt: HostRuntime) {
+    let sent = list_job(&mut rt.stdin(), &mut rt.stdout());
     if sent.failed {
-        stream::write_all(STDERR_FILENO, b"sheet: standard output failed\n");
+        stream::write_all(&mut rt.stderr(), b"sheet: standard output failed\n");
     }
 }

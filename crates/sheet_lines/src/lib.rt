@@ -1,28 +1,30 @@
-// Sheet lines: the cell sheet of a run that has ended, written to standard output line by line. It stands above listing, which
+// Sheet lines: the cell sheet of a run that has ended, written to a writer line by line. It stands above listing, which
 // makes a line, and stream, and below the program sheet, which runs the job.
 //
 // `sheeted`, in specs/Sheeted, says what comes out for every input: the loop's invariant is that as many bytes were written as
 // the lines so far have, and the line that is handed over is the next node's. The lines are written one at a time: a whole
 // sheet would not fit the controller.
 
+#![tactic(auto)]
+
 ghost use Rattle.std.specs.Prelude.{◌≡◌, true, false, ◌+◌, length};
 ghost use Rattle.listing.specs.Sheet as Sheet;
 ghost use Rattle.telling.specs.Reached.{EndedWith};
 ghost use Rattle.sheet_lines.specs.Sheeted.{Owed};
 
-use libc::STDOUT_FILENO;
+use std::io::Write;
 use telling::Sent;
 
 // Writes the line that is owed after `sent` bytes.
-fn send(line: &[u8], sent: &mut u64) -> bool
+fn send<W: Write>(output: &mut W, line: &[u8], sent: &mut u64) -> bool
     requires { Owed sent.old line.now }
     ensures { result ≡ true → sent.new ≡ sent.old + length line.now }
 {
-    stream::write_counted(STDOUT_FILENO, line, sent)
+    stream::write_counted(output, line, sent)
 }
 
 // Writes the lines of the first `used` nodes. That a run's nodes are in range is not proved here but tested once.
-pub fn print_sheet(nodes: &[f64], used: usize) -> Sent
+pub fn print_sheet<W: Write>(output: &mut W, nodes: &[f64], used: usize) -> Sent
     requires { EndedWith used nodes.now }
     ensures { result.failed ≡ false → result.bytes ≡ length (Sheet.lines nodes.now used) }
 {
@@ -36,7 +38,7 @@ pub fn print_sheet(nodes: &[f64], used: usize) -> Sent
     for i in 0..used {
         let mut line = [0u8; 65];
         listing::put_line(&mut line, 0, nodes, i);
-        let written = send(&line, &mut sent);
+        let written = send(output, &line, &mut sent);
         if !written {
             return Sent {
                 bytes: sent,

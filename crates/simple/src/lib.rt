@@ -3,6 +3,8 @@
 // It stands on segments, which says how two edges meet. The divider asks it of a ring after cleaning, before the split; the middle of a
 // diagonal has to be inside its part (obstacles).
 
+#![tactic(auto)]
+
 ghost use Rattle.std.specs.Prelude.{◌≡◌, not, ◌&&◌, ◌≤◌};
 ghost use Rattle.vector.specs.Size.{OnSheet};
 ghost use Rattle.vector.specs.Rings.{points_of, OnSheetRing};

@@ -1,6 +1,8 @@
 // Sketch: what is drawn of one block of a job: the ring that its step told or the line of a refused block, and the lead line of
 // a chain. It stands above scene and frame, and below picture, which writes the sketches of a job's blocks one after the other.
 
+#![tactic(auto)]
+
 ghost use Rattle.std.specs.Prelude.{◌≡◌, ◌++◌, ◌+◌, ◌*◌, ◌≤◌, ◌<◌, length};
 ghost use Rattle.text.specs.Text.{Written};
 ghost use Rattle.told.specs.Text.{CanTell};

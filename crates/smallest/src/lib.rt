@@ -3,6 +3,8 @@
 // It stands on least, which searches, and on lone_ring for the ring's own number. specs/Smallest has what is answered and what
 // holds of it.
 
+#![tactic(auto)]
+
 ghost use Rattle.std.specs.Prelude.{◌≡◌};
 ghost use Rattle.smallest.specs.Smallest as Rule;
 

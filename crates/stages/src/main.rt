@@ -3,6 +3,8 @@
 // its marks, area and worst corner, and the pieces of its split. The Rust beside us prints the same lines (`oracle stages`), so
 // that each module is compared by itself. A ring stops at its pieces here; cells are the divider's.
 
+#![tactic(auto)]
+
 mod text;
 
 ghost use Rattle.std.specs.Prelude.{◌≡◌, ◌/◌, ◌≤◌, ◌<◌, length};
@@ -13,10 +15,10 @@ ghost use Rattle.parts.specs.Layout.{ValidParts};
 
 use blocks::Block;
 use chain::Simplified;
-use libc::STDIN_FILENO;
 use limits::Limits;
 use marks::MarkedRing;
 use parts::PartList;
+use std::io::{Read, Write};
 use vector::Ring;
 
 // What a block gives: the points of its ring or chain, the sheet size, 0 of a chain, and whether it was accepted.
@@ -66,11 +68,11 @@ fn accepted(block: Block) -> bool {
 }
 
 // Reads block `number`.
-fn read(number: u32) -> Came
+fn read<R: Read>(input: &mut R, number: u32) -> Came
     ensures { OnSheetRing result.ring }
 {
     let mut bytes = [0u8; 512];
-    let n = io::read_full(STDIN_FILENO, &mut bytes);
+    let n = stream::read_full(input, &mut bytes);
     let reading = blocks::read_block(&bytes[..n], number);
     let block = reading.block;
     let points = reading.points;
@@ -82,49 +84,49 @@ fn read(number: u32) -> Came
     }
 }
 
-fn print_chain(s: Simplified, n: usize)
+fn print_chain<W: Write>(output: &mut W, s: Simplified, n: usize)
     requires { (s.count ≤ 59) × AllOnSheet s.points }
 {
     let points = s.points;
     let snaps = s.snaps;
     let k = s.count;
     if 0 < n {
-        text::point(b"keep ", points[0]);
+        text::point(output, b"keep ", points[0]);
     }
     for i in 0..k {
-        text::point(b"keep ", points[i + 1]);
+        text::point(output, b"keep ", points[i + 1]);
     }
     for i in 0..k {
-        text::bits(b"snap ", snaps[i]);
+        text::bits(output, b"snap ", snaps[i]);
     }
 }
 
-fn print_marks(ring: MarkedRing)
+fn print_marks<W: Write>(output: &mut W, ring: MarkedRing)
     requires { OnSheetRing ring.ring }
 {
     let n = ring.ring.count;
     for i in 0..n {
         let e = ring.edges[i];
         let m = e.mark;
-        text::mark(i, m);
+        text::mark(output, i, m);
     }
 }
 
-fn print_piece(piece: MarkedRing)
+fn print_piece<W: Write>(output: &mut W, piece: MarkedRing)
     requires { OnSheetRing piece.ring }
 {
     let n = piece.ring.count;
     let ring = piece.ring;
-    text::number(b"piece ", n as u64);
-    text::end();
+    text::number(output, b"piece ", n as u64);
+    text::end(output);
     for i in 0..n {
         let e = piece.edges[i];
         let m = e.mark;
-        text::corner(ring.points[i], m);
+        text::corner(output, ring.points[i], m);
     }
 }
 
-fn print_pieces(ring: MarkedRing, pieces: PartList)
+fn print_pieces<W: Write>(output: &mut W, ring: MarkedRing, pieces: PartList)
     requires { ValidParts pieces × OnSheetRing ring.ring }
 {
     let own = ring.ring;
@@ -132,26 +134,29 @@ fn print_pieces(ring: MarkedRing, pieces: PartList)
     let edges = ring.edges;
     let k = pieces.count;
     for i in 0..k {
-        print_piece(MarkedRing {
-            ring: parts::piece_points(points, pieces, i),
-            edges: parts::piece_marks(edges, pieces, i),
-        });
+        print_piece(
+            output,
+            MarkedRing {
+                ring: parts::piece_points(points, pieces, i),
+                edges: parts::piece_marks(edges, pieces, i),
+            },
+        );
     }
 }
 
-fn print_split(ring: MarkedRing)
+fn print_split<W: Write>(output: &mut W, ring: MarkedRing)
     requires { OnSheetRing ring.ring × (3 ≤ ring.ring.count) }
 {
     let own = ring.ring;
     let s = split::split_bad_vertices(Limits::on_delivery(), own);
-    text::number(b"cuts ", s.cuts as u64);
-    text::number(b" turned ", s.turned);
-    text::end();
+    text::number(output, b"cuts ", s.cuts as u64);
+    text::number(output, b" turned ", s.turned);
+    text::end(output);
     let pieces = s.pieces;
-    print_pieces(ring, pieces);
+    print_pieces(output, ring, pieces);
 }
 
-fn print_marked(ring: Ring, simple: bool, s: Simplified)
+fn print_marked<W: Write>(output: &mut W, ring: Ring, simple: bool, s: Simplified)
     requires { OnSheetRing ring × (3 ≤ ring.count) × (s.count ≤ 59) }
 {
     let edges = marks::mark_edges(ring, s);
@@ -159,57 +164,59 @@ fn print_marked(ring: Ring, simple: bool, s: Simplified)
         ring: ring,
         edges: edges,
     };
-    print_marks(marked);
+    print_marks(output, marked);
     let area = vector::polygon_area(ring);
-    text::area(area);
+    text::area(output, area);
     let w = corner::worst(ring);
-    text::worst(w, w.is_bad(Limits::on_delivery()));
+    text::worst(output, w, w.is_bad(Limits::on_delivery()));
     if simple {
         if 0 < area {
-            print_split(marked);
+            print_split(output, marked);
         }
     }
 }
 
-fn print_ring(ring: Ring, size: u32, run: Ring, number: u32)
+fn print_ring<W: Write>(output: &mut W, ring: Ring, size: u32, run: Ring, number: u32)
     requires { OnSheetRing ring × OnSheetRing run }
 {
-    text::number(b"ring ", number as u64);
-    text::end();
+    text::number(output, b"ring ", number as u64);
+    text::end(output);
     let s = chain::simplify_chain(run);
-    print_chain(s, run.count);
+    print_chain(output, s, run.count);
     let r = clean::clean_polygon(ring, size);
     let cleaned = r.ring;
-    text::points(cleaned);
+    text::points(output, cleaned);
     let simple = simple::polygon_simple(cleaned);
-    text::flag(b"simple ", simple);
-    text::end();
+    text::flag(output, b"simple ", simple);
+    text::end(output);
     if 3 <= cleaned.count {
-        print_marked(cleaned, simple, s);
+        print_marked(output, cleaned, simple, s);
     } else {
-        text::area(vector::polygon_area(cleaned));
+        text::area(output, vector::polygon_area(cleaned));
     }
 }
 
 // One ring with its chain; says whether there was one.
-fn pair(number: u32) -> bool
+fn pair<R: Read, W: Write>(input: &mut R, output: &mut W, number: u32) -> bool
     requires { number < 32768 }
 {
-    let head = read(number * 2);
+    let head = read(input, number * 2);
     if !head.accepted {
         return false;
     }
-    let tail = read(number * 2 + 1);
+    let tail = read(input, number * 2 + 1);
     if !tail.accepted {
         return false;
     }
-    print_ring(head.ring, head.size, tail.ring, number);
+    print_ring(output, head.ring, head.size, tail.ring, number);
     true
 }
 
-fn main() {
+fn main(rt: HostRuntime) {
+    let mut input = rt.stdin();
+    let mut output = rt.stdout();
     let mut number: u32 = 0;
-    while number < 32768 && pair(number) {
+    while number < 32768 && pair(&mut input, &mut output, number) {
         number += 1;
     }
 }

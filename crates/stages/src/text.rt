@@ -5,118 +5,118 @@ ghost use Rattle.vector.specs.Size.{OnSheet};
 ghost use Rattle.vector.specs.Rings.{OnSheetRing};
 
 use corner::Corner;
-use libc::STDOUT_FILENO;
 use marks::EdgeMark;
+use std::io::Write;
 use vector::{GridPoint, Point, Ring};
 
-pub fn end() {
-    io::write_all(STDOUT_FILENO, b"\n");
+pub fn end<W: Write>(output: &mut W) {
+    stream::write_all(output, b"\n");
 }
 
-pub fn number(word: &[u8], n: u64) {
-    io::write_all(STDOUT_FILENO, word);
-    io::print_decimal(STDOUT_FILENO, n);
+pub fn number<W: Write>(output: &mut W, word: &[u8], n: u64) {
+    stream::write_all(output, word);
+    stream::print_decimal(output, n);
 }
 
-pub fn flag(word: &[u8], b: bool) {
+pub fn flag<W: Write>(output: &mut W, word: &[u8], b: bool) {
     if b {
-        number(word, 1);
+        number(output, word, 1);
     } else {
-        number(word, 0);
+        number(output, word, 0);
     }
 }
 
-fn signed(word: &[u8], z: i64)
+fn signed<W: Write>(output: &mut W, word: &[u8], z: i64)
     requires { nat_abs z ≤ 2 ^ 53 }
 {
-    io::write_all(STDOUT_FILENO, word);
+    stream::write_all(output, word);
     if z < 0 {
-        io::write_all(STDOUT_FILENO, b"-");
+        stream::write_all(output, b"-");
     }
-    io::print_decimal(STDOUT_FILENO, vector::magnitude(z));
+    stream::print_decimal(output, vector::magnitude(z));
 }
 
-fn place(p: GridPoint)
+fn place<W: Write>(output: &mut W, p: GridPoint)
     requires { OnSheet p }
 {
-    signed(b"", p.x as i64);
-    signed(b" ", p.y as i64);
+    signed(output, b"", p.x as i64);
+    signed(output, b" ", p.y as i64);
 }
 
-pub fn point(word: &[u8], p: GridPoint)
+pub fn point<W: Write>(output: &mut W, word: &[u8], p: GridPoint)
     requires { OnSheet p }
 {
-    io::write_all(STDOUT_FILENO, word);
-    place(p);
-    end();
+    stream::write_all(output, word);
+    place(output, p);
+    end(output);
 }
 
-pub fn points(ring: Ring)
+pub fn points<W: Write>(output: &mut W, ring: Ring)
     requires { OnSheetRing ring }
 {
     let n = ring.count;
     for i in 0..n {
-        point(b"corner ", ring.points[i]);
+        point(output, b"corner ", ring.points[i]);
     }
 }
 
 // The bits of a double. No module gives a NaN here; one would print as 0.
-fn double(x: f64) {
+fn double<W: Write>(output: &mut W, x: f64) {
     if x == x {
-        io::print_hex(STDOUT_FILENO, f64::to_bits(x), 16);
+        stream::print_hex(output, f64::to_bits(x));
     } else {
-        io::print_hex(STDOUT_FILENO, 0, 16);
+        stream::print_hex(output, 0);
     }
 }
 
-fn doubles(p: Point) {
-    double(p.x);
-    io::write_all(STDOUT_FILENO, b" ");
-    double(p.y);
+fn doubles<W: Write>(output: &mut W, p: Point) {
+    double(output, p.x);
+    stream::write_all(output, b" ");
+    double(output, p.y);
 }
 
-pub fn bits(word: &[u8], p: Point) {
-    io::write_all(STDOUT_FILENO, word);
-    doubles(p);
-    end();
+pub fn bits<W: Write>(output: &mut W, word: &[u8], p: Point) {
+    stream::write_all(output, word);
+    doubles(output, p);
+    end(output);
 }
 
-pub fn mark(i: usize, m: EdgeMark) {
+pub fn mark<W: Write>(output: &mut W, i: usize, m: EdgeMark) {
     match m {
         EdgeMark::Straight => {}
         EdgeMark::Snap(p) => {
-            number(b"mark ", i as u64);
-            bits(b" ", p);
+            number(output, b"mark ", i as u64);
+            bits(output, b" ", p);
         }
     }
 }
 
-pub fn corner(p: GridPoint, m: EdgeMark)
+pub fn corner<W: Write>(output: &mut W, p: GridPoint, m: EdgeMark)
     requires { OnSheet p }
 {
-    io::write_all(STDOUT_FILENO, b"at ");
-    place(p);
+    stream::write_all(output, b"at ");
+    place(output, p);
     match m {
         EdgeMark::Straight => {}
         EdgeMark::Snap(q) => {
-            io::write_all(STDOUT_FILENO, b" ");
-            doubles(q);
+            stream::write_all(output, b" ");
+            doubles(output, q);
         }
     }
-    end();
+    end(output);
 }
 
-pub fn area(z: i64)
+pub fn area<W: Write>(output: &mut W, z: i64)
     requires { nat_abs z ≤ 2 ^ 53 }
 {
-    signed(b"area ", z);
-    end();
+    signed(output, b"area ", z);
+    end(output);
 }
 
-pub fn worst(w: Corner, bad: bool) {
-    number(b"worst ", w.at as u64);
-    io::write_all(STDOUT_FILENO, b" ");
-    double(w.measure);
-    flag(b" ", bad);
-    end();
+pub fn worst<W: Write>(output: &mut W, w: Corner, bad: bool) {
+    number(output, b"worst ", w.at as u64);
+    stream::write_all(output, b" ");
+    double(output, w.measure);
+    flag(output, b" ", bad);
+    end(output);
 }

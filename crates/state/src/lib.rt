@@ -1,6 +1,8 @@
 // State: what a run keeps from one block to the next, and the tests of whether it goes on. It stands below job, whose
 // definitions go by it, and has nothing of the divider.
 
+#![tactic(auto)]
+
 ghost use Rattle.std.specs.Prelude.{◌≡◌, false, true, not, ◌&&◌, ◌%◌, length, eqb};
 
 // The state between two blocks: the number of the next one; the count and the sheet size of the ring that waits for its chain,

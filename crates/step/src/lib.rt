@@ -4,6 +4,8 @@
 // A step is proved equal to job's definition, `step_of`: the state it answers and what it tells, every double of the node list,
 // every rim mark and every number of the cell list.
 
+#![tactic(auto)]
+
 ghost use Rattle.std.specs.Prelude.{◌≡◌, List, ℕ, ◌%◌, length, ℤ, Float};
 ghost use Rattle.job.specs.Step.{no_cells, taken, step_of, Steps, CanStep};
 ghost use Rattle.job.specs.Run.{Bytes};

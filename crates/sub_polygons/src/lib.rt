@@ -3,6 +3,8 @@
 // It stands between parts, whose lists of numbers these are, and the split, which makes two parts of one until none has a bad
 // corner. The definitions are those of parts.
 
+#![tactic(auto)]
+
 ghost use Rattle.std.specs.Prelude.{◌≡◌, List, ◌+◌, ◌-◌, ◌^◌, ◌≤◌, ◌<◌, length, take};
 ghost use Rattle.laws.specs.Table.{tab};
 ghost use Rattle.vector.specs.Size.{AllOnSheet};

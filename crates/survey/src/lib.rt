@@ -5,6 +5,8 @@
 // once, by blocks of 64 nodes, each judged while it is at hand. Nothing ends the pass, so that the two lists of what was
 // collected have one equation whatever the nodes are. specs/Survey has the words for that.
 
+#![tactic(auto)]
+
 ghost use Rattle.std.specs.Prelude.{◌≡◌, not, ◌+◌, ◌*◌, ◌≤◌, length, get_or};
 ghost use Rattle.std.specs.Float.{nan};
 ghost use Rattle.laws.specs.Bounded.{any};

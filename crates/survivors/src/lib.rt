@@ -2,3 +2,5 @@
 //
 // It has no code. It stands on clean, whose kept places it asks; where the marks are given, the marks of the cleaned ring are laid by
 // it (given).
+
+#![tactic(auto)]

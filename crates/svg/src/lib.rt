@@ -4,6 +4,8 @@
 // A place is a coordinate as a whole number of ten-thousandths of a mm, ORIGIN that of 0 mm: those of a listed node are what
 // the cell sheet shows of it, and a ring's points are rounded as the sheet rounds.
 
+#![tactic(auto)]
+
 ghost use Rattle.std.specs.Prelude.{◌≡◌, ◌+◌, ◌≤◌, ◌<◌, length, get_or};
 ghost use Rattle.std.specs.Float.{nan};
 ghost use Rattle.text.specs.Text.{Written};

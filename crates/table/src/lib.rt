@@ -3,6 +3,8 @@
 // It stands below the definitions of the call and below all that runs one, so that each of them names the same row and the
 // same numbers. specs/Answers has the row of each answer, specs/Refusals how a call comes to its number.
 
+#![tactic(auto)]
+
 ghost use Rattle.std.specs.Prelude.{◌≡◌};
 ghost use Rattle.table.specs.Answers as Answers;
 

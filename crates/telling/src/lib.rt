@@ -1,7 +1,9 @@
-// Telling: the text of what a step told, written to a descriptor. It stands above told and stream, and below run, whose loop
+// Telling: the text of what a step told, written to a writer. It stands above told and stream, and below run, whose loop
 // steps; it has nothing of the divider.
 //
 // The text that is handed over is the one that the run owes after the bytes written so far, by specs/Reached.
+
+#![tactic(auto)]
 
 ghost use Rattle.std.specs.Prelude.{◌≡◌, false, ◌+◌, ◌≤◌, length};
 ghost use Rattle.report.specs.Report.{most_text};
@@ -10,6 +12,7 @@ ghost use Rattle.telling.specs.Reached.{Owed, Sends};
 
 use nodes::NodeNumber;
 use report::MOST_TEXT;
+use std::io::Write;
 use told::Told;
 
 // How many bytes were written in all; and whether writing has failed, in which case they may end within a text.
@@ -20,7 +23,7 @@ pub struct Sent {
 }
 
 // Writes the text that is owed after `sent` bytes.
-fn send(output: i32, text: &[u8], sent: &mut u64) -> Sent
+fn send<W: Write>(output: &mut W, text: &[u8], sent: &mut u64) -> Sent
     requires { Owed sent.old text.now × (length text.now ≤ most_text) }
     ensures { (result.bytes ≡ sent.new) × (result.failed ≡ false → sent.new ≡ sent.old + length text.now) }
 {
@@ -32,7 +35,7 @@ fn send(output: i32, text: &[u8], sent: &mut u64) -> Sent
 }
 
 // Writes the text of what a step told, after `sent` bytes.
-fn write_told(output: i32, told: Told, cells: &[NodeNumber], sent: &mut u64) -> Sent
+fn write_told<W: Write>(output: &mut W, told: Told, cells: &[NodeNumber], sent: &mut u64) -> Sent
     requires { Owed sent.old (told_text told cells.now) × CanTell told cells.now }
     ensures { (result.bytes ≡ sent.new)
         × (result.failed ≡ false → Sends sent.old (told_text told cells.now) sent.new) }
@@ -45,7 +48,7 @@ fn write_told(output: i32, told: Told, cells: &[NodeNumber], sent: &mut u64) -> 
 // The same, and nothing where nothing was told. The text has its place in `write_told`, so that none of it is on the stack
 // while a ring is divided: a function with one call would be merged into the loop, with its places, and so it has two; and
 // both answer a struct, since two calls for a bool would be made one.
-pub fn tell(output: i32, told: Told, cells: &[NodeNumber], sent: &mut u64) -> Sent
+pub fn tell<W: Write>(output: &mut W, told: Told, cells: &[NodeNumber], sent: &mut u64) -> Sent
     requires { Owed sent.old (told_text told cells.now) × CanTell told cells.now }
     ensures { (result.bytes ≡ sent.new)
         × (result.failed ≡ false → Sends sent.old (told_text told cells.now) sent.new) }

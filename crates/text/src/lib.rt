@@ -4,6 +4,8 @@
 // Each function takes the place to write at and returns the place after it. specs/Text says what a text is and what writing
 // it leaves in every place of the list; proofs/Writing has the laws of texts written one after the other.
 
+#![tactic(auto)]
+
 ghost use Rattle.std.specs.Prelude.{◌≡◌, [], ◌∷◌, ◌+◌, ◌≤◌, ◌<◌, length, get_or};
 ghost use Rattle.text.specs.Text.{decimal, part, takes, filled, Written};
 

@@ -1,6 +1,8 @@
 // Told: what a step of a run tells of its block, and the text of it. It stands above table and report, and below job, whose
 // steps tell; the text is made by run, once the step is over.
 
+#![tactic(auto)]
+
 ghost use Rattle.std.specs.Prelude.{true, ◌≤◌, length};
 ghost use Rattle.report.specs.Report.{Printed, most_text};
 ghost use Rattle.told.specs.Text.{row_text, Shown, told_text, CanTell};

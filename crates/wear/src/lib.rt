@@ -4,6 +4,8 @@
 // record comes back. specs/Wear says what one answer does, specs/Bytes how a record stands in 34 lent bytes, specs/Answers what
 // holds after every list of answers; crate worn ties these to divider calls.
 
+#![tactic(auto)]
+
 ghost use Rattle.std.specs.Prelude.{◌≡◌, false, ◌+◌, ◌*◌, ◌%◌, ◌≤◌, ◌<◌, length, take, set};
 ghost use Rattle.wear.specs.Wear as Rule;
 ghost use Rattle.wear.specs.Bytes as Bytes;

@@ -2,9 +2,11 @@
 // and the tally of what was run. It stands below the programs that run such lists, replay and desk. docs/REPLAY.md has the
 // form of the lists.
 
+#![tactic(auto)]
+
 ghost use Rattle.std.specs.Prelude.{◌<◌, ◌≤◌};
 
-use libc::STDOUT_FILENO;
+use std::io::{Read, Write};
 
 // How many calls and blocks were run, and on how many the two differ.
 #[derive(Clone, Copy)]
@@ -32,23 +34,23 @@ impl Tally {
         }
     }
 
-    pub fn print(self, name: &[u8]) {
-        io::write_all(STDOUT_FILENO, name);
-        io::write_all(STDOUT_FILENO, b": ");
-        io::print_decimal(STDOUT_FILENO, self.ran);
-        io::write_all(STDOUT_FILENO, b" run, ");
-        io::print_decimal(STDOUT_FILENO, self.differ);
-        io::write_all(STDOUT_FILENO, b" differ\n");
+    pub fn print<W: Write>(self, output: &mut W, name: &[u8]) {
+        stream::write_all(output, name);
+        stream::write_all(output, b": ");
+        stream::print_decimal(output, self.ran);
+        stream::write_all(output, b" run, ");
+        stream::print_decimal(output, self.differ);
+        stream::write_all(output, b" differ\n");
     }
 
     // Of a list whose rows are wrong on purpose: how many they are, and how many were told to differ.
-    pub fn print_told(self, name: &[u8]) {
-        io::write_all(STDOUT_FILENO, name);
-        io::write_all(STDOUT_FILENO, b": ");
-        io::print_decimal(STDOUT_FILENO, self.ran);
-        io::write_all(STDOUT_FILENO, b" wrong on purpose, ");
-        io::print_decimal(STDOUT_FILENO, self.differ);
-        io::write_all(STDOUT_FILENO, b" told\n");
+    pub fn print_told<W: Write>(self, output: &mut W, name: &[u8]) {
+        stream::write_all(output, name);
+        stream::write_all(output, b": ");
+        stream::print_decimal(output, self.ran);
+        stream::write_all(output, b" wrong on purpose, ");
+        stream::print_decimal(output, self.differ);
+        stream::write_all(output, b" told\n");
     }
 }
 
@@ -59,17 +61,17 @@ pub fn wide(x: u8) -> u32
 }
 
 // The next word of the file; zero past its end.
-pub fn word(fd: i32) -> u32 {
+pub fn word<R: Read>(input: &mut R) -> u32 {
     let mut b = [0u8; 4];
-    io::read_full(fd, &mut b);
+    stream::read_full(input, &mut b);
     wide(b[0]) + 256 * wide(b[1]) + 65536 * wide(b[2]) + 16777216 * wide(b[3])
 }
 
 // A count, of which no list has more.
-pub fn count(fd: i32) -> usize
+pub fn count<R: Read>(input: &mut R) -> usize
     ensures { result ≤ 65536 }
 {
-    let n = word(fd);
+    let n = word(input);
     if n < 65536 {
         return n as usize;
     }
@@ -86,10 +88,10 @@ pub fn smaller(a: usize, b: usize) -> usize
 }
 
 // A count of a list that has no more places than these.
-pub fn count_to(fd: i32, most: usize) -> usize
+pub fn count_to<R: Read>(input: &mut R, most: usize) -> usize
     ensures { result ≤ most }
 {
-    smaller(count(fd), most)
+    smaller(count(input), most)
 }
 
 // The numbers of n places.
@@ -100,9 +102,9 @@ pub fn doubled(n: usize) -> usize {
     131072
 }
 
-pub fn long(fd: i32) -> u64 {
-    let low = word(fd);
-    let high = word(fd);
+pub fn long<R: Read>(input: &mut R) -> u64 {
+    let low = word(input);
+    let high = word(input);
     low as u64 + 4294967296 * (high as u64)
 }
 
@@ -159,27 +161,27 @@ pub fn put_double(doubles: &mut [f64], i: usize, x: f64) {
     }
 }
 
-pub fn read_numbers(fd: i32, numbers: &mut [i32], n: usize) {
+pub fn read_numbers<R: Read>(input: &mut R, numbers: &mut [i32], n: usize) {
     for i in 0..n {
-        put_number(numbers, i, blocks::signed(word(fd)));
+        put_number(numbers, i, blocks::signed(word(input)));
     }
 }
 
-pub fn read_bytes(fd: i32, bytes: &mut [u8], n: usize) {
+pub fn read_bytes<R: Read>(input: &mut R, bytes: &mut [u8], n: usize) {
     for i in 0..n {
-        put_byte(bytes, i, (word(fd) % 256) as u8);
+        put_byte(bytes, i, (word(input) % 256) as u8);
     }
 }
 
-pub fn read_words(fd: i32, words: &mut [u32], n: usize) {
+pub fn read_words<R: Read>(input: &mut R, words: &mut [u32], n: usize) {
     for i in 0..n {
-        put_word(words, i, word(fd));
+        put_word(words, i, word(input));
     }
 }
 
-pub fn read_nodes(fd: i32, nodes: &mut [f64], n: usize) {
+pub fn read_nodes<R: Read>(input: &mut R, nodes: &mut [f64], n: usize) {
     for i in 0..n {
-        put_double(nodes, i, double(long(fd)));
+        put_double(nodes, i, double(long(input)));
     }
 }
 
@@ -201,11 +203,11 @@ pub fn fill(out: &mut [u8]) {
 }
 
 // The next n bytes, four to a word.
-pub fn read_packed(fd: i32, bytes: &mut [u8], n: usize)
+pub fn read_packed<R: Read>(input: &mut R, bytes: &mut [u8], n: usize)
     requires { n ≤ 65536 }
 {
     for k in 0..(n + 3) / 4 {
-        let w = word(fd);
+        let w = word(input);
         let i = k * 4;
         put_byte(bytes, i, (w % 256) as u8);
         put_byte(bytes, i + 1, (w / 256 % 256) as u8);
@@ -224,10 +226,10 @@ pub fn left(want: u8, i: usize, n: usize) -> u8 {
 
 // Whether the 1,536 bytes of a destination, those beyond the lent ones too, are as the file says: how many bytes are written,
 // and each.
-pub fn same_bytes(fd: i32, out: &[u8; 1536]) -> bool {
-    let n = count(fd);
+pub fn same_bytes<R: Read>(input: &mut R, out: &[u8; 1536]) -> bool {
+    let n = count(input);
     let mut want = [0u8; 1536];
-    read_packed(fd, &mut want, n);
+    read_packed(input, &mut want, n);
     let mut same = true;
     for i in 0..1536 {
         same = same & (out[i] == left(want[i], i, n));

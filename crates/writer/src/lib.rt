@@ -4,6 +4,8 @@
 // It tests what it is given as the divider does, 1 and 2, and then its destination, 12. Nothing is asked of a caller. A
 // refusal leaves the destination as found; else its first 1,024 bytes are the pair, and those after it stay.
 
+#![tactic(auto)]
+
 ghost use Rattle.std.specs.Prelude.{◌≡◌, length};
 ghost use Rattle.writer.specs.Write as Write;
 

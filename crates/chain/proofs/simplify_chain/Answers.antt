@@ -37,14 +37,16 @@ joined c =
     let ps = c.args.chain.points in
     let r = take n ps in
     let arc = c.measure-l.result.arc in
-    elim c.if-stays.branch [ then-stays w ↦
-    let u = read_tab arc (Arclength.arc r) n o.previous nan o.invariant.4 (omega arith) in
-    let v = read_tab arc (Arclength.arc r) n o.i nan o.invariant.4 (omega arith) in
-    rw (w.points-is, w.snaps-is, w.count-is, w.previous-is)
-    (kept_more r o.points o.snaps o.count o.previous o.i o.invariant.5 (omega arith) (sym (staying c.before) ∙ w.if-stays.true)
-    _ (sym (get_or-take n ps o.i origin (omega arith))) (o.invariant.3.points o.i)
-    _ (w.point_at_arclength.ensures ∙ (λ j. point_at_arclength r (lit 5 1 *f (u j +f v j)))))
-    | else-stays w ↦ rw (w.points-is, w.snaps-is, w.count-is, w.previous-is) (kept_same r o.points o.snaps o.count o.previous o.i o.invariant.5 (sym (staying c.before) ∙ w.if-stays.false)) ]
+    elim c.if-stays.branch [
+      | then-stays w ↦
+          let u = read_tab arc (Arclength.arc r) n o.previous nan o.invariant.4 (omega arith) in
+          let v = read_tab arc (Arclength.arc r) n o.i nan o.invariant.4 (omega arith) in
+          rw (w.points-is, w.snaps-is, w.count-is, w.previous-is)
+          (kept_more r o.points o.snaps o.count o.previous o.i o.invariant.5 (omega arith) (sym (staying c.before) ∙ w.if-stays.true)
+          _ (sym (get_or-take n ps o.i origin (omega arith))) (o.invariant.3.points o.i)
+          _ (w.point_at_arclength.ensures ∙ (λ j. point_at_arclength r (lit 5 1 *f (u j +f v j)))))
+      | else-stays w ↦ rw (w.points-is, w.snaps-is, w.count-is, w.previous-is) (kept_same r o.points o.snaps o.count o.previous o.i o.invariant.5 (sym (staying c.before) ∙ w.if-stays.false))
+    ]
 
 pub returns-then-n-eq0 : goal.returns-then-n-eq0
 unfolding of_bits
@@ -52,16 +54,15 @@ returns-then-n-eq0 c = rw c.if-n-eq0.true none
 
 pub loop-i-init : goal.loop-i-init
 unfolding of_bits
-loop-i-init c =
-    (
-      search rules,
-      search rules,
-      search rules,
-      c.requires,
-      c.measure-l.ensures.1,
-      kept-first (points_of c.args.chain) _ (sym (get_or-take c.args.chain.count c.args.chain.points 0 origin (omega arith))) (c.requires.points 0),
-      c.measure-l.ensures.0,
-    )
+loop-i-init c = (
+  search rules,
+  search rules,
+  search rules,
+  c.requires,
+  c.measure-l.ensures.1,
+  kept-first (points_of c.args.chain) _ (sym (get_or-take c.args.chain.count c.args.chain.points 0 origin (omega arith))) (c.requires.points 0),
+  c.measure-l.ensures.0,
+)
 
 pub stays-requires : goal.stays-requires
 stays-requires c =

@@ -13,8 +13,7 @@ loop-i-init c = (search rules, search rules, search rules, chosen_none _ _, rest
 
 pub loop-i-preserved : goal.loop-i-preserved
 loop-i-preserved c =
-    let l = c.loop-i in
-    (
+    let l = c.loop-i in (
       search rules,
       omega arith,
       simp length-set (search rules),

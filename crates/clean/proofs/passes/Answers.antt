@@ -13,8 +13,7 @@ pass-u-requires c = (c.loop-r.invariant.0, search rules)
 
 pub returns-then-u-r : goal.returns-then-u-r
 returns-then-u-r c =
-    let l = c.loop-r in
-    (
+    let l = c.loop-r in (
       l.invariant.0,
       sym (none_dropped c.args.tol c.args.ring l.r l.invariant.0 c.pass-u.result c.pass-u.ensures.0 c.pass-u.ensures.1 c.loop-r-test.true
           c.if-u-r.true) ∙ l.invariant.1,

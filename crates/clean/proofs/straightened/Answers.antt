@@ -6,17 +6,15 @@ pub returns-then-r-le3 : goal.returns-then-r-le3
 returns-then-r-le3 c = (c.requires, straight-few c.args.tol c.args.ring c.args.r c.requires c.if-r-le3.true)
 
 pub returns-then-u-lt3 : goal.returns-then-u-lt3
-returns-then-u-lt3 c =
-    (
-      c.requires,
-      straight-stays c.args.tol c.args.ring c.args.r c.requires c.bent-u.result c.bent-u.ensures.0 c.bent-u.ensures.1 c.if-r-le3.false
-          c.if-u-lt3.true,
-    )
+returns-then-u-lt3 c = (
+  c.requires,
+  straight-stays c.args.tol c.args.ring c.args.r c.requires c.bent-u.result c.bent-u.ensures.0 c.bent-u.ensures.1 c.if-r-le3.false
+      c.if-u-lt3.true,
+)
 
 pub returns : goal.returns
-returns c =
-    (
-      c.bent-u.ensures.0,
-      straight_drops c.args.tol c.args.ring c.args.r c.requires c.bent-u.result c.bent-u.ensures.0 c.bent-u.ensures.1 c.if-r-le3.false
-          c.if-u-lt3.false,
-    )
+returns c = (
+  c.bent-u.ensures.0,
+  straight_drops c.args.tol c.args.ring c.args.r c.requires c.bent-u.result c.bent-u.ensures.0 c.bent-u.ensures.1 c.if-r-le3.false
+      c.if-u-lt3.false,
+)

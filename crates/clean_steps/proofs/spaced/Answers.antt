@@ -36,17 +36,20 @@ pub loop-i-preserved : goal.loop-i-preserved
 loop-i-preserved c =
     let l = c.loop-i in
     let n = c.near in
-    elim c.if-not-near.branch [ then-not-near w ↦ rw (w.out-is, w.k-is) (
-      spaced-keep c.args.tol c.args.ring c.args.r l.out.places l.k l.i c.requires.0 l.invariant.0 c.loop-i-test.true l.invariant.1
-          n.result n.ensures (ap not w.if-not-near.true),
-      omega arith,
-      refl,
-    ) | else-not-near w ↦ rw (w.out-is, w.k-is) (
-      spaced_skip c.args.tol c.args.ring c.args.r l.out.places l.k l.i c.requires.0 l.invariant.0 c.loop-i-test.true l.invariant.1
-          n.result n.ensures (ap not w.if-not-near.false),
-      l.invariant.1,
-      refl,
-    ) ]
+    elim c.if-not-near.branch [
+      | then-not-near w ↦ rw (w.out-is, w.k-is) (
+        spaced-keep c.args.tol c.args.ring c.args.r l.out.places l.k l.i c.requires.0 l.invariant.0 c.loop-i-test.true l.invariant.1
+            n.result n.ensures (ap not w.if-not-near.true),
+        omega arith,
+        refl,
+      )
+      | else-not-near w ↦ rw (w.out-is, w.k-is) (
+        spaced_skip c.args.tol c.args.ring c.args.r l.out.places l.k l.i c.requires.0 l.invariant.0 c.loop-i-test.true l.invariant.1
+            n.result n.ensures (ap not w.if-not-near.false),
+        l.invariant.1,
+        refl,
+      )
+    ]
 
 pub returns : goal.returns
 returns c =

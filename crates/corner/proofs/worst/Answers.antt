@@ -37,15 +37,18 @@ joined c =
     let e = measured c.before in
     let o = c.loop-i in
     let r = points c.before.before.before.before.before.before.before in
-    elim c.if-most-m.branch [ then-most-m w ↦ (
-      omega (arith, w.at-is),
-      w.at-is ∙ scan.taken r o.i o.at (omega arith) o.most c.corner_at-m.result o.invariant.5 o.invariant.6 e w.if-most-m.true,
-      w.most-is ∙ e ∙ ap (Corners.measure_at r) (sym w.at-is),
-    ) | else-most-m w ↦ (
-      omega (arith, w.at-is),
-      w.at-is ∙ scan.passed r o.i o.at (omega arith) o.most c.corner_at-m.result o.invariant.5 o.invariant.6 e w.if-most-m.false,
-      w.most-is ∙ o.invariant.6 ∙ ap (Corners.measure_at r) (sym w.at-is),
-    ) ]
+    elim c.if-most-m.branch [
+      | then-most-m w ↦ (
+        omega (arith, w.at-is),
+        w.at-is ∙ scan.taken r o.i o.at (omega arith) o.most c.corner_at-m.result o.invariant.5 o.invariant.6 e w.if-most-m.true,
+        w.most-is ∙ e ∙ ap (Corners.measure_at r) (sym w.at-is),
+      )
+      | else-most-m w ↦ (
+        omega (arith, w.at-is),
+        w.at-is ∙ scan.passed r o.i o.at (omega arith) o.most c.corner_at-m.result o.invariant.5 o.invariant.6 e w.if-most-m.false,
+        w.most-is ∙ o.invariant.6 ∙ ap (Corners.measure_at r) (sym w.at-is),
+      )
+    ]
 
 pub corner_at-most-requires : goal.corner_at-most-requires
 corner_at-most-requires c = let all = c.requires.0.points in (all _, all _, all _)

@@ -5,7 +5,7 @@ use Rattle.laws.proofs.Lists.{part_length}
 use Rattle.desk.proofs.wear_record.Goals as goal
 
 pub slice_bounds-wear_add-end : goal.slice_bounds-wear_add-end
-slice_bounds-wear_add-end c =
+slice_bounds-wear_add-end g c =
     let l = c.read_bytes in
     let f = c.fill in
-    part_length _ 1536 _ (l.auto.1.0 ∙ f.auto.0) (omega arith)
+    part_length _ 1536 _ (l.auto.bytes ∙ f.auto.out) (omega arith)

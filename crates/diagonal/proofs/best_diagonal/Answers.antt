@@ -1,6 +1,5 @@
 use Prim.Native.Nat.{◌+◌, ◌-◌, ◌≤◌}
 use mathlib.Core.Bool.{true, false, false≢true}
-use mathlib.Core.Logic.{⊎_elim}
 use mathlib.Core.Path.{◌≡◌, refl, sym, ap, ◌∙◌}
 use mathlib.Core.List.{List}
 use lib.ListN.{length}
@@ -13,7 +12,7 @@ use Rattle.diagonal.proofs.Choosing.{held, fits}
 use borrow.Author.Rules.{rules}
 use native.Mathlib.Omega.{arith}
 use Rattle.diagonal.proofs.best_diagonal.Goals as goal
-use Rattle.diagonal.proofs.best_diagonal.Goals.{After-judge-j, At-loop-k, Joined-improves}
+use Rattle.diagonal.proofs.best_diagonal.Goals.{After-judge-j, At-loop-k, Joined-improves, then-improves+then-is_unobstructed, then-improves+else-is_unobstructed, else-improves}
 
 room : (c : At-loop-k) → c.args.part.count ≤ length c.args.part.points
 room c = rings.room c.args.part c.requires.0
@@ -21,51 +20,46 @@ room c = rings.room c.args.part c.requires.0
 abbrev ring : At-loop-k → List GridPoint
 ring c = points_of c.args.part
 
-fits-here : (c : After-judge-j) → let l = c.before.before.before in c.judge-j.result.ok ≡ fits c.args.limits (ring c.before.before.before) c.loop-k.k
+fits-here : (c : After-judge-j) → c.judge-j.result.ok ≡ fits c.args.limits (ring c.before.before.before) c.loop-k.k
 fits-here c =
-    let l = c.before.before.before in
     choosing.fits-is c.args.part.points c.args.part.count (room c.before.before.before) (omega arith) c.loop-k.k (omega arith) _ _
     c.sub-a.ensures.0 c.sub-b.ensures.0 c.args.limits _ c.judge-j.ensures.0
 
 score-here : (c : After-judge-j) → c.judge-j.result.score ≡ score (ring c.before.before.before) c.loop-k.k
 score-here c =
-    let l = c.before.before.before in
     choosing.score-is c.args.part.points c.args.part.count (room c.before.before.before) (omega arith) c.loop-k.k (omega arith) _ _
     c.sub-a.ensures.0 c.sub-b.ensures.0 _ c.judge-j.ensures.1
 
 -- where the turn's branches meet: the diagonal won, an edge hides it, or it was passed over
 joined : (c : Joined-improves)
-    → let l = c.before.before.before.before.before in
-    (held c.if-improves.found c.if-improves.at ≡ best_to c.args.limits (ring c.before.before.before.before.before) (c.loop-k.k + 1 - 2))
+    → (held c.if-improves.found c.if-improves.at ≡ best_to c.args.limits (ring c.before.before.before.before.before) (c.loop-k.k + 1 - 2))
     × (c.if-improves.found ≡ true → c.if-improves.least ≡ score (ring c.before.before.before.before.before) c.if-improves.at)
 joined c =
-    let l = c.before.before.before.before.before in
     let L = c.args.limits in
     let r = ring c.before.before.before.before.before in
     let o = c.loop-k in
     let ok = c.judge-j.result.ok in
     let s = c.judge-j.result.score in
-    ⊎_elim
-    (λ v. (
-      (λ i. held (v.3 i) (v.4 i))
-          ∙ choosing.won L r o.k o.invariant.0 o.found o.at o.least o.invariant.3 o.invariant.4 ok s (fits-here c.before.before) (score-here c.before.before)
-          (sym c.improves.ensures ∙ v.0.taken) (sym v.1.ensures ∙ v.2.taken),
-      λ e. v.5 ∙ score-here c.before.before ∙ ap (score r) (sym v.4),
-    ))
-    (⊎_elim
-    (λ v. (
-      (λ i. held (v.3 i) (v.4 i))
-          ∙ choosing.hidden L r o.k o.invariant.0 o.found o.at o.least o.invariant.3 o.invariant.4 ok s (fits-here c.before.before) (score-here c.before.before)
-          (sym v.1.ensures ∙ v.2.left),
-      λ e. v.5 ∙ o.invariant.4 (sym v.3 ∙ e) ∙ ap (score r) (sym v.4),
-    ))
-    (λ v. (
-      (λ i. held (v.1 i) (v.2 i))
-          ∙ choosing.passed L r o.k o.invariant.0 o.found o.at o.least o.invariant.3 o.invariant.4 ok s (fits-here c.before.before) (score-here c.before.before)
-          (sym c.improves.ensures ∙ v.0.left),
-      λ e. v.3 ∙ o.invariant.4 (sym v.1 ∙ e) ∙ ap (score r) (sym v.2),
-    )))
-    c.if-improves.branch
+    elim c.if-improves.branch [
+      | then-improves+then-is_unobstructed v ↦ (
+        (λ i. held (v.found-is i) (v.at-is i))
+            ∙ choosing.won L r o.k o.invariant.0 o.found o.at o.least o.invariant.3 o.invariant.4 ok s (fits-here c.before.before) (score-here c.before.before)
+            (sym c.improves.ensures ∙ v.if-improves.true) (sym v.is_unobstructed.ensures ∙ v.if-is_unobstructed.true),
+        λ e. v.least-is ∙ score-here c.before.before ∙ ap (score r) (sym v.at-is),
+      )
+      | then-improves+else-is_unobstructed v ↦ (
+        (λ i. held (v.found-is i) (v.at-is i))
+            ∙ choosing.hidden L r o.k o.invariant.0 o.found o.at o.least o.invariant.3 o.invariant.4 ok s (fits-here c.before.before) (score-here c.before.before)
+            (sym v.is_unobstructed.ensures ∙ v.if-is_unobstructed.false),
+        λ e. v.least-is ∙ o.invariant.4 (sym v.found-is ∙ e) ∙ ap (score r) (sym v.at-is),
+      )
+      | else-improves v ↦ (
+        (λ i. held (v.found-is i) (v.at-is i))
+            ∙ choosing.passed L r o.k o.invariant.0 o.found o.at o.least o.invariant.3 o.invariant.4 ok s (fits-here c.before.before) (score-here c.before.before)
+            (sym c.improves.ensures ∙ v.if-improves.false),
+        λ e. v.least-is ∙ o.invariant.4 (sym v.found-is ∙ e) ∙ ap (score r) (sym v.at-is),
+      )
+    ]
 
 pub sub-a-requires : goal.sub-a-requires
 sub-a-requires c = let s = c.requires.0.points in (s _, s _)
@@ -79,7 +73,6 @@ loop-k-init c = (search rules, search rules, search rules, refl, λ (e : false �
 
 pub judge-j-requires : goal.judge-j-requires
 judge-j-requires c =
-    let l = c.before.before in
     let s = c.requires.0.points in (
       s _,
       s _,
@@ -97,12 +90,10 @@ loop-k-preserved c = let j = joined c in (search rules, omega arith, search rule
 
 pub returns-then-found : goal.returns-then-found
 returns-then-found c =
-    let l = c.before.before in
     let e : c.loop-k.k - 2 ≡ c.args.part.count - 3 = omega arith in
     (λ i. held (sym c.if-found.true i) c.loop-k.at) ∙ c.loop-k.invariant.3 ∙ ap (best_to c.args.limits (points_of c.args.part)) e
 
 pub returns : goal.returns
 returns c =
-    let l = c.before.before in
     let e : c.loop-k.k - 2 ≡ c.args.part.count - 3 = omega arith in
     (λ i. held (sym c.if-found.false i) c.loop-k.at) ∙ c.loop-k.invariant.3 ∙ ap (best_to c.args.limits (points_of c.args.part)) e

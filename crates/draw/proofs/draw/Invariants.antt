@@ -8,9 +8,9 @@ use Rattle.draw.proofs.Reaching.{nearer}
 use Rattle.draw.proofs.draw.Given as goal
 
 abbrev pub invariant-loop-text : goal.invariant-loop-text
-invariant-loop-text l =
+invariant-loop-text g l =
     Kept l.t.state l.text l.ring l.chain l.out × (l.t.sent ≡ true → Reached l.t.state l.text l.ring l.chain l.out l.sent) × (length l.byte ≡ 1)
 
 abbrev pub decreases-loop-text : goal.decreases-loop-text
-decreases-loop-text l =
+decreases-loop-text g l =
     nearer l.t

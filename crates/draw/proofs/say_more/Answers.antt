@@ -7,30 +7,30 @@ use Rattle.draw.proofs.say_more.Goals as goal
 
 pub say-requires : goal.say-requires
 unfolding said_more bytes
-say-requires c = for-more _ 25 _ c.requires c.in-25.keys1 refl
+say-requires g c = for-more _ 25 _ c.requires c.in-25.keys1 refl
 
 pub say-requires-in-26 : goal.say-requires-in-26
 unfolding said_more bytes
-say-requires-in-26 c = for-more _ 26 _ c.requires c.in-26.keys2 refl
+say-requires-in-26 g c = for-more _ 26 _ c.requires c.in-26.keys2 refl
 
 pub say-requires-in-27 : goal.say-requires-in-27
 unfolding said_more bytes
-say-requires-in-27 c = for-more _ 27 _ c.requires c.in-27.keys3 refl
+say-requires-in-27 g c = for-more _ 27 _ c.requires c.in-27.keys3 refl
 
 pub say-requires-in-28 : goal.say-requires-in-28
 unfolding said_more bytes
-say-requires-in-28 c = for-more _ 28 _ c.requires c.in-28.keys4 refl
+say-requires-in-28 g c = for-more _ 28 _ c.requires c.in-28.keys4 refl
 
 pub say-requires-in-29 : goal.say-requires-in-29
 unfolding said_more bytes
-say-requires-in-29 c = for-more _ 29 _ c.requires c.in-29.keys5 refl
+say-requires-in-29 g c = for-more _ 29 _ c.requires c.in-29.keys5 refl
 
 pub say-requires-in-30 : goal.say-requires-in-30
 unfolding said_more bytes
-say-requires-in-30 c = for-more _ 30 _ c.requires c.in-30.keys6 refl
+say-requires-in-30 g c = for-more _ 30 _ c.requires c.in-30.keys6 refl
 
 pub say-requires-in_default : goal.say-requires-in_default
 unfolding bytes
-say-requires-in_default c =
+say-requires-in_default g c =
     let r = c.in_default.rest in
     last-words _ c.requires r.0.0.0.0.0.1 r.0.0.0.0.1 r.0.0.0.1 r.0.0.1 r.0.1 r.1

@@ -5,9 +5,9 @@ use lib.ListN.{length}
 use Rattle.expected.proofs.same_nodes.Given as goal
 
 abbrev pub invariant-loop-i : goal.invariant-loop-i
-invariant-loop-i l =
+invariant-loop-i g l =
     (l.i ≤ l.i-end) × (l.i-end ≡ length l.nodes)
 
 abbrev pub decreases-loop-i : goal.decreases-loop-i
-decreases-loop-i l =
+decreases-loop-i g l =
     l.i-end - l.i

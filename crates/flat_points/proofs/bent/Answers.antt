@@ -1,5 +1,5 @@
 use Prim.Native.Nat.{◌-◌}
-use mathlib.Core.Path.{refl}
+use mathlib.Core.Path.{refl, ap}
 use mathlib.Core.Bool.{not}
 use borrow.Author.Rules.{rules}
 use Rattle.clean_steps.specs.Choices.{bent_places, chosen}
@@ -48,17 +48,19 @@ pub loop-i-preserved : goal.loop-i-preserved
 loop-i-preserved c =
     let l = c.loop-i in
     let f = c.flat in
-    elim c.if-not-flat.branch [ then-not-flat w ↦
-    rw (w.out-is, w.k-is) (
-      bent-keep c.args.tol c.args.ring c.args.r l.out.places l.k l.i c.requires l.invariant.0 c.loop-i-test.true c.prev.result
-          c.next.result c.prev.ensures.0 c.next.ensures.0 f.result f.ensures (ap not w.if-not-flat.true),
-      refl,
-    )
-    | else-not-flat w ↦ rw (w.out-is, w.k-is) (
-      bent_skip c.args.tol c.args.ring c.args.r l.out.places l.k l.i c.requires l.invariant.0 c.loop-i-test.true c.prev.result
-          c.next.result c.prev.ensures.0 c.next.ensures.0 f.result f.ensures (ap not w.if-not-flat.false),
-      refl,
-    ) ]
+    elim c.if-not-flat.branch [
+      | then-not-flat w ↦
+          rw (w.out-is, w.k-is) (
+            bent-keep c.args.tol c.args.ring c.args.r l.out.places l.k l.i c.requires l.invariant.0 c.loop-i-test.true c.prev.result
+                c.next.result c.prev.ensures.0 c.next.ensures.0 f.result f.ensures (ap not w.if-not-flat.true),
+            refl,
+          )
+      | else-not-flat w ↦ rw (w.out-is, w.k-is) (
+        bent_skip c.args.tol c.args.ring c.args.r l.out.places l.k l.i c.requires l.invariant.0 c.loop-i-test.true c.prev.result
+            c.next.result c.prev.ensures.0 c.next.ensures.0 f.result f.ensures (ap not w.if-not-flat.false),
+        refl,
+      )
+    ]
 
 pub returns : goal.returns
 returns c =

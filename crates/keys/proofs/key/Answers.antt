@@ -74,7 +74,6 @@ module _ (x : Float) (w : Within 1025 x) (t : ℤ) (s : SFits w64 t) (e : t ≡ 
   mid : le half r ≡ false → le r minus_half ≡ false → Answers z
   mid h k = sized _ (back ∙ key_mid 102500000000 y (mul-fits binary64 x e8) (lit≤ tt) in-y (high ∙ h) (low ∙ k))
 
-
 pub int_to_float-r : goal.int_to_float-r
 unfolding of_bits
 int_to_float-r c =

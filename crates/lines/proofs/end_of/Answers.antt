@@ -12,20 +12,18 @@ unfolding Line.end
 loop-i-init c = (search rules, search rules, refl)
 
 pub returns-then-blank : goal.returns-then-blank
-returns-then-blank c =
-    (
-      sym (first_hit _ (length c.args.line.now) c.loop-i.i (omega arith) (sym c.blank.ensures ∙ c.if-blank.true)) ∙ c.loop-i.invariant.2,
-      search rules,
-      search rules,
-    )
+returns-then-blank c = (
+  sym (first_hit _ (length c.args.line.now) c.loop-i.i (omega arith) (sym c.blank.ensures ∙ c.if-blank.true)) ∙ c.loop-i.invariant.2,
+  search rules,
+  search rules,
+)
 
 pub loop-i-preserved : goal.loop-i-preserved
-loop-i-preserved c =
-    (
-      search rules,
-      search rules,
-      sym (first-pass _ (length c.args.line.now) c.loop-i.i (omega arith) (sym c.blank.ensures ∙ c.if-blank.false)) ∙ c.loop-i.invariant.2,
-    )
+loop-i-preserved c = (
+  search rules,
+  search rules,
+  sym (first-pass _ (length c.args.line.now) c.loop-i.i (omega arith) (sym c.blank.ensures ∙ c.if-blank.false)) ∙ c.loop-i.invariant.2,
+)
 
 pub returns : goal.returns
 returns c =

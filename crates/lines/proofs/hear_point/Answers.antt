@@ -11,11 +11,10 @@ returns-then-not-x c =
 
 pub returns-then-not-y : goal.returns-then-not-y
 unfolding Line.point_line
-returns-then-not-y c =
-    (
-      c.plain-then-not-y.ensures ∙ simp (not-false c.args.x.number c.if-not-x.false, not-true c.args.y.number c.if-not-y.true),
-      rw c.plain-then-not-y.ensures (plain_on_sheet _ _),
-    )
+returns-then-not-y c = (
+  c.plain-then-not-y.ensures ∙ simp (not-false c.args.x.number c.if-not-x.false, not-true c.args.y.number c.if-not-y.true),
+  rw c.plain-then-not-y.ensures (plain_on_sheet _ _),
+)
 
 pub units-xn-requires : goal.units-xn-requires
 units-xn-requires c =

@@ -22,11 +22,10 @@ hear_point-requires c = (c.read-x.ensures.1, c.read-y.ensures.1)
 
 pub returns : goal.returns
 unfolding bytes
-returns c =
-    (
-      point-words c.args.first.now c.args.second.now c.hear_point.result c.read-x.result c.read-y.result
-          (sym c.same.ensures ∙ c.if-same.false)
-          (sym c.same-2.ensures ∙ c.if-same-2.false) c.read-x.ensures.0
-          c.read-y.ensures.0 c.hear_point.ensures.0,
-      c.hear_point.ensures.1,
-    )
+returns c = (
+  point-words c.args.first.now c.args.second.now c.hear_point.result c.read-x.result c.read-y.result
+      (sym c.same.ensures ∙ c.if-same.false)
+      (sym c.same-2.ensures ∙ c.if-same-2.false) c.read-x.ensures.0
+      c.read-y.ensures.0 c.hear_point.ensures.0,
+  c.hear_point.ensures.1,
+)

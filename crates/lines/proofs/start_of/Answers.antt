@@ -13,20 +13,18 @@ unfolding Line.start
 loop-i-init c = (search rules, search rules, refl)
 
 pub returns-then-not-blank : goal.returns-then-not-blank
-returns-then-not-blank c =
-    (
-      sym (first_hit _ (length c.args.line.now) c.loop-i.i (omega arith) (ap not (sym c.blank.ensures) ∙ c.if-not-blank.true-raw)) ∙ c.loop-i.invariant.2,
-      search rules,
-      search rules,
-    )
+returns-then-not-blank c = (
+  sym (first_hit _ (length c.args.line.now) c.loop-i.i (omega arith) (ap not (sym c.blank.ensures) ∙ c.if-not-blank.true-raw)) ∙ c.loop-i.invariant.2,
+  search rules,
+  search rules,
+)
 
 pub loop-i-preserved : goal.loop-i-preserved
-loop-i-preserved c =
-    (
-      search rules,
-      search rules,
-      sym (first-pass _ (length c.args.line.now) c.loop-i.i (omega arith) (ap not (sym c.blank.ensures) ∙ c.if-not-blank.false-raw)) ∙ c.loop-i.invariant.2,
-    )
+loop-i-preserved c = (
+  search rules,
+  search rules,
+  sym (first-pass _ (length c.args.line.now) c.loop-i.i (omega arith) (ap not (sym c.blank.ensures) ∙ c.if-not-blank.false-raw)) ∙ c.loop-i.invariant.2,
+)
 
 pub returns : goal.returns
 returns c =

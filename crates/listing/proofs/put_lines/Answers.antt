@@ -10,14 +10,13 @@ use Rattle.listing.proofs.put_lines.Goals as goal
 
 pub loop-i-init : goal.loop-i-init
 unfolding lines
-loop-i-init c =
-    (
-      search rules,
-      c.requires.0,
-      omega (arith, c.requires.1, lines_long c.args.nodes.now c.args.count (omega (arith, c.requires.0.few))),
-      search rules,
-      nothing c.args.out.now 0 (omega arith),
-    )
+loop-i-init c = (
+  search rules,
+  c.requires.0,
+  omega (arith, c.requires.1, lines_long c.args.nodes.now c.args.count (omega (arith, c.requires.0.few))),
+  search rules,
+  nothing c.args.out.now 0 (omega arith),
+)
 
 pub put_line-next-requires : goal.put_line-next-requires
 unfolding lines

@@ -39,18 +39,18 @@ joined c =
     let a = rings.at_in ps n h (omega arith) i (omega arith) in
     let b = rings.at_next ps n h (omega arith) i _ c.next.ensures.0 in
     elim c.search-test.branch [
-      else-search-test w ↦
-        let f = sym (laws.first-end _ chain.count o.j (omega arith)) ∙ o.invariant.6 in
-        rw w.edges-is
-        (marked-straight ss (take n ps) i o.edges o.invariant.5 (omega arith)
-        ((λ j. mark ss (a j) (b j)) ∙ mark-straight chain _ _ chain.count f (omega arith)))
-    | then-search-test+then-joins w ↦
-        let j : w.joins.result ≡ joins (get_or ps i origin) (get_or ps c.next.result origin) (stretch_in chain.points chain.snaps o.j) =
-        rw (add-one o.j) at (w.joins.ensures (get_or chain.snaps o.j no_stretch.snap)) in
-        let f = sym (laws.first_hit _ chain.count o.j w.search-test.true (sym j ∙ w.if-joins.true)) ∙ o.invariant.6 in
-        rw w.edges-is
-        (marked-snap ss (take n ps) i o.edges o.invariant.5 (omega arith) _
-        (sym ((λ j. mark ss (a j) (b j)) ∙ mark-snap chain _ _ o.j f w.search-test.true)))
+      | else-search-test w ↦
+          let f = sym (laws.first-end _ chain.count o.j (omega arith)) ∙ o.invariant.6 in
+          rw w.edges-is
+          (marked-straight ss (take n ps) i o.edges o.invariant.5 (omega arith)
+          ((λ j. mark ss (a j) (b j)) ∙ mark-straight chain _ _ chain.count f (omega arith)))
+      | then-search-test+then-joins w ↦
+          let j : w.joins.result ≡ joins (get_or ps i origin) (get_or ps c.next.result origin) (stretch_in chain.points chain.snaps o.j) =
+          rw (add-one o.j) at (w.joins.ensures (get_or chain.snaps o.j no_stretch.snap)) in
+          let f = sym (laws.first_hit _ chain.count o.j w.search-test.true (sym j ∙ w.if-joins.true)) ∙ o.invariant.6 in
+          rw w.edges-is
+          (marked-snap ss (take n ps) i o.edges o.invariant.5 (omega arith) _
+          (sym ((λ j. mark ss (a j) (b j)) ∙ mark-snap chain _ _ o.j f w.search-test.true)))
     ]
 
 pub loop-i-init : goal.loop-i-init

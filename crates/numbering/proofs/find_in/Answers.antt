@@ -8,7 +8,7 @@ use Rattle.keys.specs.Keys.{key_of}
 use Rattle.nodes.specs.Flat.{has_at}
 use Rattle.nodes.proofs.Scan.{has-is, not-near}
 use Rattle.numbering.proofs.find_in.Goals as goal
-use Rattle.numbering.proofs.find_in.Goals.{Joined-is_near, then-is_near+else-has_key, else-is_near, then-is_near+else-has_key, else-is_near}
+use Rattle.numbering.proofs.find_in.Goals.{Joined-is_near, then-is_near+else-has_key, else-is_near}
 
 pub loop-i-init : goal.loop-i-init
 loop-i-init c = (search rules, refl)
@@ -33,10 +33,10 @@ other c =
     let l = c.loop-i in
     let a = c.args in
     elim c.if-is_near.branch [
-      then-is_near+else-has_key w ↦ has-is a.nodes.now (key_of a.kx) (key_of a.ky) l.i ∙ sym w.has_key.ensures ∙ w.if-has_key.false
-    | else-is_near w ↦
-        not-near a.nodes.now a.kx (key_of a.ky) l.i c.requires.2 (c.requires.0.ranged l.i c.loop-i-test.true).0
-        (sym c.is_near.ensures ∙ w.if-is_near.false)
+      | then-is_near+else-has_key w ↦ has-is a.nodes.now (key_of a.kx) (key_of a.ky) l.i ∙ sym w.has_key.ensures ∙ w.if-has_key.false
+      | else-is_near w ↦
+          not-near a.nodes.now a.kx (key_of a.ky) l.i c.requires.2 (c.requires.0.ranged l.i c.loop-i-test.true).0
+          (sym c.is_near.ensures ∙ w.if-is_near.false)
     ]
 
 pub loop-i-preserved : goal.loop-i-preserved

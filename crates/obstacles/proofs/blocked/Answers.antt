@@ -33,13 +33,13 @@ scan-preserved c =
       l.invariant.3,
       l.invariant.4,
       elim c.if-clear_of.branch [
-        then-clear_of+else-segments_cross w ↦
-          any-pass p l.e l.invariant.5
-          (blocking.crosses ps n h (omega arith) c.args.k (omega arith) l.e w.next.result (omega arith) w.next.ensures.0
-          (sym c.clear_of.ensures ∙ w.if-clear_of.true) false (sym w.segments_cross.ensures ∙ w.if-segments_cross.false))
-      | else-clear_of w ↦
-          any-pass p l.e l.invariant.5
-          (blocking.touches ps n h (omega arith) c.args.k (omega arith) l.e ((l.e + 1) % n) (omega arith) refl (sym c.clear_of.ensures ∙ w.if-clear_of.false))
+        | then-clear_of+else-segments_cross w ↦
+            any-pass p l.e l.invariant.5
+            (blocking.crosses ps n h (omega arith) c.args.k (omega arith) l.e w.next.result (omega arith) w.next.ensures.0
+            (sym c.clear_of.ensures ∙ w.if-clear_of.true) false (sym w.segments_cross.ensures ∙ w.if-segments_cross.false))
+        | else-clear_of w ↦
+            any-pass p l.e l.invariant.5
+            (blocking.touches ps n h (omega arith) c.args.k (omega arith) l.e ((l.e + 1) % n) (omega arith) refl (sym c.clear_of.ensures ∙ w.if-clear_of.false))
       ],
     )
 

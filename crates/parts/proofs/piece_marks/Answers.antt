@@ -36,8 +36,8 @@ loop-j-preserved c =
     let f : ℕ → Edge = (λ k. mark_at marks p.corners (end p c.args.i + k)) in
     let e : c.if-k-lt-MOST_POINTS.e ≡ f o.j =
     elim c.if-k-lt-MOST_POINTS.branch [
-      then-k-lt-MOST_POINTS w ↦ w.e-is
-    | else-k-lt-MOST_POINTS w ↦ w.e-is ∙ sym (get_or-eq_default marks straight_edge (omega (arith, w.if-k-lt-MOST_POINTS.false, c.well_formed.0.1.0.1)))
+      | then-k-lt-MOST_POINTS w ↦ w.e-is
+      | else-k-lt-MOST_POINTS w ↦ w.e-is ∙ sym (get_or-eq_default marks straight_edge (omega (arith, w.if-k-lt-MOST_POINTS.false, c.well_formed.0.1.0.1)))
     ] in (
       search rules,
       search rules,

@@ -10,18 +10,17 @@ use Rattle.parts.proofs.Stored as Storing
 use Rattle.parts.proofs.push.Goals as goal
 
 pub loop-i-init : goal.loop-i-init
-loop-i-init c =
-    (
-      search rules,
-      search rules,
-      search rules,
-      c.requires.0.long,
-      record { low = λ k h. refl; high = λ k h. absurd (omega arith); rest = λ k h. refl },
-      c.requires.0.below,
-      c.requires.5,
-      refl,
-      refl,
-    )
+loop-i-init c = (
+  search rules,
+  search rules,
+  search rules,
+  c.requires.0.long,
+  record { low = λ k h. refl; high = λ k h. absurd (omega arith); rest = λ k h. refl },
+  c.requires.0.below,
+  c.requires.5,
+  refl,
+  refl,
+)
 
 pub loop-i-preserved : goal.loop-i-preserved
 loop-i-preserved c =

@@ -7,7 +7,7 @@ use native.Mathlib.Omega.{arith}
 use Rattle.picture.proofs.draw.Goals as goal
 
 pub loop-f-init : goal.loop-f-init
-loop-f-init c =
+loop-f-init g c =
     let h = c.requires in (
       begins c.args.job.now c.new.result c.new.ensures,
       h.0,
@@ -20,28 +20,28 @@ loop-f-init c =
     )
 
 pub slice_bounds-turn-end : goal.slice_bounds-turn-end
-slice_bounds-turn-end c = sym c.loop-f.invariant.3
+slice_bounds-turn-end g c = sym c.loop-f.invariant.3
 
 pub slice_bounds-turn-end-in-loop-f : goal.slice_bounds-turn-end-in-loop-f
-slice_bounds-turn-end-in-loop-f c = sym c.loop-f.invariant.4
+slice_bounds-turn-end-in-loop-f g c = sym c.loop-f.invariant.4
 
 pub slice_bounds-turn-end-in-loop-f-2 : goal.slice_bounds-turn-end-in-loop-f-2
-slice_bounds-turn-end-in-loop-f-2 c = sym c.loop-f.invariant.5
+slice_bounds-turn-end-in-loop-f-2 g c = sym c.loop-f.invariant.5
 
 pub slice_bounds-turn-end-in-loop-f-3 : goal.slice_bounds-turn-end-in-loop-f-3
-slice_bounds-turn-end-in-loop-f-3 c = sym c.loop-f.invariant.6
+slice_bounds-turn-end-in-loop-f-3 g c = sym c.loop-f.invariant.6
 
 pub turn-t-requires : goal.turn-t-requires
-turn-t-requires c =
+turn-t-requires g c =
     let l = c.loop-f in
     let e = not-true l.s.ended (sym c.goes_on.ensures ∙ c.loop-f-test.true) in
     (l.invariant.0, l.invariant.7, e, l.invariant.2, l.invariant.6, l.invariant.1)
 
 pub returns-then-not-t : goal.returns-then-not-t
-returns-then-not-t c = λ e. absurd (true≢false (sym e))
+returns-then-not-t g c = λ e. absurd (true≢false (sym e))
 
 pub overflow_add-i : goal.overflow_add-i
-overflow_add-i c =
+overflow_add-i g c =
     let l = c.loop-f in omega (
       arith,
       l.invariant.0.turns,
@@ -49,38 +49,38 @@ overflow_add-i c =
     )
 
 pub loop-f-smaller : goal.loop-f-smaller
-loop-f-smaller c =
+loop-f-smaller g c =
     omega (
       arith,
       c.loop-f.invariant.0.turns,
     )
 
 pub loop-f-preserved : goal.loop-f-preserved
-loop-f-preserved c =
+loop-f-preserved g c =
     let p = c.turn-t in
     let l = c.loop-f in (
       p.ensures.0,
       l.invariant.1,
       l.invariant.2,
-      p.auto.1.1.1.1.0 ∙ l.invariant.3,
-      p.auto.1.1.1.1.1.0 ∙ l.invariant.4,
-      p.auto.1.1.1.1.1.1.0 ∙ l.invariant.5,
-      p.auto.1.1.1.1.1.1.1.0 ∙ l.invariant.6,
+      p.auto.ring ∙ l.invariant.3,
+      p.auto.nodes ∙ l.invariant.4,
+      p.auto.rims ∙ l.invariant.5,
+      p.auto.cells ∙ l.invariant.6,
       p.ensures.1 (not-false p.result.sent c.if-not-t.false),
     )
 
 pub slice_bounds-draw_nodes-end : goal.slice_bounds-draw_nodes-end
-slice_bounds-draw_nodes-end c = sym c.loop-f.invariant.4
+slice_bounds-draw_nodes-end g c = sym c.loop-f.invariant.4
 
 pub slice_bounds-draw_nodes-end-2 : goal.slice_bounds-draw_nodes-end-2
-slice_bounds-draw_nodes-end-2 c = sym c.loop-f.invariant.5
+slice_bounds-draw_nodes-end-2 g c = sym c.loop-f.invariant.5
 
 pub draw_nodes-requires : goal.draw_nodes-requires
-draw_nodes-requires c =
+draw_nodes-requires g c =
     let l = c.loop-f in
     let e = not-false l.s.ended (sym c.goes_on.ensures ∙ c.loop-f-test.false) in
     let d = rings-drawn _ _ _ _ _ _ l.invariant.0 e l.sent l.invariant.7 l.invariant.1 in
     (left _ _ _ _ _ _ l.invariant.0 e, d.0, d.1)
 
 pub returns : goal.returns
-returns c = c.draw_nodes.ensures
+returns g c = c.draw_nodes.ensures

@@ -7,7 +7,7 @@ use Rattle.picture.specs.Picture.{Reached, Drew}
 use Rattle.picture.proofs.draw.Given as goal
 
 abbrev pub invariant-loop-f : goal.invariant-loop-f
-invariant-loop-f l =
+invariant-loop-f g l =
     Reached l.job l.i l.s l.ring l.nodes l.rims
     × (length l.job < 4294967296)
     × (l.f ≡ frame_of (extent_of l.job))
@@ -18,5 +18,5 @@ invariant-loop-f l =
     × Drew l.job l.i l.sent
 
 abbrev pub decreases-loop-f : goal.decreases-loop-f
-decreases-loop-f l =
+decreases-loop-f g l =
     length l.job / 512 + 2 - l.i

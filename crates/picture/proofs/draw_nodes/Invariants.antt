@@ -6,9 +6,9 @@ use Rattle.picture.specs.Picture.{nodes_drawn, most_rings, Left}
 use Rattle.picture.proofs.draw_nodes.Given as goal
 
 abbrev pub invariant-loop-i : goal.invariant-loop-i
-invariant-loop-i l =
+invariant-loop-i g l =
     (l.i ≤ l.used) × (l.sent ≡ length (nodes_drawn l.job l.i)) × (l.sent ≤ most_rings + 256 * l.i) × Left l.job l.used l.nodes l.rims
 
 abbrev pub decreases-loop-i : goal.decreases-loop-i
-decreases-loop-i l =
+decreases-loop-i g l =
     l.used - l.i

@@ -11,48 +11,48 @@ use native.Mathlib.Omega.{arith}
 use Rattle.picture.proofs.picture.Goals as goal
 
 pub slice_bounds-send-end : goal.slice_bounds-send-end
-slice_bounds-send-end c = let p = c.put_head-n in part_length p.result 8192 _ (p.auto.0 ∙ length-replicate {A = ℕ} 8192 0) p.ensures.1
+slice_bounds-send-end g c = let p = c.put_head-n in part_length p.result 8192 _ (p.auto.out ∙ length-replicate {A = ℕ} 8192 0) p.ensures.1
 
 pub send-head-requires : goal.send-head-requires
-send-head-requires c =
+send-head-requires g c =
     let p = c.put_head-n in
     let e = c.frame_of-f.ensures.0 ∙ ap frame_of c.extent_of.ensures.0 in (
       owed_as (front p.ensures.0) (owes_head c.args.job.now c.frame_of-f.result c.args.sent.now e c.requires.1),
-      omega (arith, length-take p.result p.new.0, p.ensures.1),
+      omega (arith, length-take p.result p.new.out, p.ensures.1),
     )
 
 pub returns-then-not-head : goal.returns-then-not-head
-returns-then-not-head c = λ e. absurd (true≢false (sym e))
+returns-then-not-head g c = λ e. absurd (true≢false (sym e))
 
 pub draw-drawn-requires : goal.draw-drawn-requires
-draw-drawn-requires c =
+draw-drawn-requires g c =
     let p = c.put_head-n in
     let q = c.send-head.ensures (not-false c.send-head.result c.if-not-head.false-raw) in
     let f = ap length (front p.ensures.0) in (
       c.requires.0,
       c.frame_of-f.ensures.0 ∙ ap frame_of c.extent_of.ensures.0,
       omega (arith, q, f, c.requires.1),
-      omega (arith, q, c.requires.1, length-take p.result p.new.0, p.ensures.1),
+      omega (arith, q, c.requires.1, length-take p.result p.new.out, p.ensures.1),
     )
 
 pub returns-then-not-drawn : goal.returns-then-not-drawn
-returns-then-not-drawn c = λ e. absurd (true≢false (sym e))
+returns-then-not-drawn g c = λ e. absurd (true≢false (sym e))
 
 pub slice_bounds-send-end-2 : goal.slice_bounds-send-end-2
-slice_bounds-send-end-2 c =
+slice_bounds-send-end-2 g c =
     let p = c.put_foot-m in
     let h = c.put_head-n in
-    part_length p.result 8192 _ (p.auto.0 ∙ h.auto.0 ∙ length-replicate {A = ℕ} 8192 0) p.ensures.1
+    part_length p.result 8192 _ (p.auto.out ∙ h.auto.out ∙ length-replicate {A = ℕ} 8192 0) p.ensures.1
 
 pub send-requires : goal.send-requires
-send-requires c =
+send-requires g c =
     let p = c.put_foot-m in
     let d = c.draw-drawn in
     let w = d.ensures (not-false d.result c.if-not-drawn.false-raw) in
-    (owed_as (front p.ensures.0) (owes_foot _ _ w), omega (arith, length-take p.result p.new.0, p.ensures.1))
+    (owed_as (front p.ensures.0) (owes_foot _ _ w), omega (arith, length-take p.result p.new.out, p.ensures.1))
 
 pub returns : goal.returns
-returns c =
+returns g c =
     let p = c.put_foot-m in
     let d = c.draw-drawn in
     let w = d.ensures (not-false d.result c.if-not-drawn.false-raw) in

@@ -7,12 +7,12 @@ use Rattle.picture.proofs.say_end.Goals as goal
 
 pub say-requires : goal.say-requires
 unfolding said bytes
-say-requires c = search rules
+say-requires g c = search rules
 
 pub say-requires-in-TooLong : goal.say-requires-in-TooLong
 unfolding bytes
-say-requires-in-TooLong c = said-long _ _ c.enum_told-in-TooLong-1.given.1
+say-requires-in-TooLong g c = said-long _ _ c.enum_told-in-TooLong-1.given.1
 
 pub say-requires-in-Unwritten : goal.say-requires-in-Unwritten
 unfolding bytes
-say-requires-in-Unwritten c = said-unwritten _ c.enum_told-in-Unwritten-1.given.1
+say-requires-in-Unwritten g c = said-unwritten _ c.enum_told-in-Unwritten-1.given.1

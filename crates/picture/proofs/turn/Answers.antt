@@ -8,13 +8,13 @@ use native.Mathlib.Omega.{arith}
 use Rattle.picture.proofs.turn.Goals as goal
 
 pub block_at-requires : goal.block_at-requires
-block_at-requires c = let h = c.requires in (h.0.within h.2, omega (arith, h.0.within h.2, h.5))
+block_at-requires g c = let h = c.requires in (h.0.within h.2, omega (arith, h.0.within h.2, h.5))
 
 pub step-stepped-requires : goal.step-stepped-requires
-step-stepped-requires c = let h = c.requires in (can_step _ _ _ _ _ _ h.0, h.4)
+step-stepped-requires g c = let h = c.requires in (can_step _ _ _ _ _ _ h.0, h.4)
 
 pub draw_step-written-requires : goal.draw_step-written-requires
-draw_step-written-requires c =
+draw_step-written-requires g c =
     let a = c.args in
     let h = c.requires in
     let p = c.step-stepped in
@@ -29,13 +29,13 @@ draw_step-written-requires c =
     )
 
 pub returns : goal.returns
-returns c =
+returns g c =
     let a = c.args in
     let h = c.requires in
     let p = c.step-stepped in
     let g = c.block_at.ensures in
     let t = turned _ a.i a.s a.ring.now a.nodes.now a.rims.now h.0 h.2 _ g p.result _ _ _ _ p.ensures.0 in (
-      subst (λ (m : ℕ). Reached a.job.now m p.result.state p.new.1.1.0 p.new.1.1.1.0 p.new.1.1.1.1.0)
+      subst (λ (m : ℕ). Reached a.job.now m p.result.state p.new.ring p.new.nodes p.new.rims)
           (sym (add-one a.i)) t,
       λ z. drew _ a.i a.s a.ring.now a.nodes.now a.rims.now h.0 h.2 _ g p.result _ _ _ _ p.ensures.0 _ h.3 a.sent.now _
           h.1 (c.draw_step-written.ensures z),

@@ -8,13 +8,11 @@ returns-in-Straight c =
 pub returns-then-d-share : goal.returns-then-d-share
 returns-then-d-share c =
     let a = c.args in
-    let g = c.m-1.given in
-    edge.near a.share a.m a.a a.b _ g.0.0 _ _ c.halfway-c.ensures c.dist-d.ensures
-    c.dist-e.ensures g.1 c.if-d-share.true
+    edge.near a.share a.m a.a a.b _ c.in-Snap.q _ _ c.halfway-c.ensures c.dist-d.ensures
+    c.dist-e.ensures c.in-Snap.is c.if-d-share.true
 
 pub returns-else-d-share : goal.returns-else-d-share
 returns-else-d-share c =
     let a = c.args in
-    let g = c.m-1.given in
-    edge.away a.share a.m a.a a.b _ g.0.0 _ _ c.halfway-c.ensures c.dist-d.ensures
-    c.dist-e.ensures g.1 c.if-d-share.false
+    edge.away a.share a.m a.a a.b _ c.in-Snap.q _ _ c.halfway-c.ensures c.dist-d.ensures
+    c.dist-e.ensures c.in-Snap.is c.if-d-share.false

@@ -5,9 +5,9 @@ use lib.ListN.{length}
 use Rattle.replay.proofs.replay.Given as goal
 
 abbrev pub invariant-loop : goal.invariant-loop
-invariant-loop l =
+invariant-loop g l =
     (l.counter ≤ 1000000) × (length l.nodes ≡ 3072) × (length l.rims ≡ 1536)
 
 abbrev pub decreases-loop : goal.decreases-loop
-decreases-loop l =
+decreases-loop g l =
     1000000 - l.counter

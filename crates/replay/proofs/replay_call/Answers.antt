@@ -5,14 +5,14 @@ use Rattle.laws.proofs.Lists.{part_length}
 use Rattle.replay.proofs.replay_call.Goals as goal
 
 pub slice_bounds-compared-end : goal.slice_bounds-compared-end
-slice_bounds-compared-end c =
-    part_length _ 256 _ c.read_numbers.auto.1.0 c.count_to-r.ensures
+slice_bounds-compared-end g c =
+    part_length _ 256 _ c.read_numbers.auto.numbers c.count_to-r.ensures
 
 pub slice_bounds-compared-end-2 : goal.slice_bounds-compared-end-2
-slice_bounds-compared-end-2 c =
-    part_length _ 256 _ c.read_numbers-2.auto.1.0 c.count_to-c.ensures
+slice_bounds-compared-end-2 g c =
+    part_length _ 256 _ c.read_numbers-2.auto.numbers c.count_to-c.ensures
 
 pub slice_bounds-compared-end-3 : goal.slice_bounds-compared-end-3
-slice_bounds-compared-end-3 c =
+slice_bounds-compared-end-3 g c =
     part_length _ 2048 (replicate {A = ℕ} 2048 65535) (length-replicate {A = ℕ} 2048 65535)
     c.count_to-cell_numbers.ensures

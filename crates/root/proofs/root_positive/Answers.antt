@@ -19,8 +19,8 @@ at_join c =
     let b = c.args.b in
     let p = c.requires in
     elim c.if-f-gt0.branch [
-      then-f-gt0 w ↦ moved b (b % 2 ^ 52 + 2 ^ 52) (b / 2 ^ 52 - 1) c.if-f-gt0.m c.if-f-gt0.k w.m-is w.k-is (decoded_high b p.1 w.if-f-gt0.true)
-    | else-f-gt0 w ↦ moved b (b % 2 ^ 52) 0 c.if-f-gt0.m c.if-f-gt0.k w.m-is w.k-is (decoded_low b p.0 p.1 w.if-f-gt0.false)
+      | then-f-gt0 w ↦ moved b (b % 2 ^ 52 + 2 ^ 52) (b / 2 ^ 52 - 1) c.if-f-gt0.m c.if-f-gt0.k w.m-is w.k-is (decoded_high b p.1 w.if-f-gt0.true)
+      | else-f-gt0 w ↦ moved b (b % 2 ^ 52) 0 c.if-f-gt0.m c.if-f-gt0.k w.m-is w.k-is (decoded_low b p.0 p.1 w.if-f-gt0.false)
     ]
 
 -- the shift by the leading zeros, and the number that `root_digits` is handed

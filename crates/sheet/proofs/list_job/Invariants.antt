@@ -8,9 +8,9 @@ use Rattle.telling.specs.Reached.{Reached}
 use Rattle.sheet.proofs.list_job.Given as goal
 
 abbrev pub invariant-loop-ring : goal.invariant-loop-ring
-invariant-loop-ring l =
+invariant-loop-ring g l =
     Reached l.s l.ring l.nodes l.rims × (length l.ring ≡ 120) × (length l.nodes ≡ 3072) × (length l.rims ≡ 1536) × (length l.bytes ≡ 512) × (length l.cells ≡ 496)
 
 abbrev pub decreases-loop-ring : goal.decreases-loop-ring
-decreases-loop-ring l =
+decreases-loop-ring g l =
     cond l.s.ended 0 (65537 - l.s.block)

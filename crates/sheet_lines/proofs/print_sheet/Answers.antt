@@ -12,35 +12,34 @@ use native.Mathlib.Omega.{arith}
 use Rattle.sheet_lines.proofs.print_sheet.Goals as goal
 
 pub returns-then-nodes_out : goal.returns-then-nodes_out
-returns-then-nodes_out c = λ e. not-both true refl e
+returns-then-nodes_out g c = λ e. not-both true refl e
 
 pub loop-i-init : goal.loop-i-init
-loop-i-init c =
-    (
-      search rules,
-      usable c.args.nodes.now c.args.used (sym c.nodes_out.ensures ∙ c.if-nodes_out.false),
-      none_written c.args.nodes.now,
-      c.requires,
-    )
+loop-i-init g c = (
+  search rules,
+  usable c.args.nodes.now c.args.used (sym c.nodes_out.ensures ∙ c.if-nodes_out.false),
+  none_written c.args.nodes.now,
+  c.requires,
+)
 
 pub put_line-requires : goal.put_line-requires
-put_line-requires c =
+put_line-requires g c =
     let l = c.loop-i in
     let u = l.invariant.1 in
     let h = c.loop-i-test.true in
     (omega (arith, u.few, h), omega (arith, u.room, h), (u.ranged l.i h).0, (u.ranged l.i h).1, search rules)
 
 pub slice_bounds-send-end : goal.slice_bounds-send-end
-slice_bounds-send-end c = sym c.put_line.auto.0
+slice_bounds-send-end g c = sym c.put_line.auto.out
 
 pub send-written-requires : goal.send-written-requires
-send-written-requires c =
+send-written-requires g c =
     let a = c.args in
     let l = c.loop-i in
     let u = l.invariant.1 in
     let h = c.loop-i-test.true in
     let p = c.put_line in
-    let t = whole-line a.nodes.now l.i (omega (arith, u.few, h)) _ _ _ p.ensures p.auto.0 in
+    let t = whole-line a.nodes.now l.i (omega (arith, u.few, h)) _ _ _ p.ensures p.auto.out in
     record {
       nodes = a.nodes.now;
       used = a.used;
@@ -54,16 +53,16 @@ send-written-requires c =
     }
 
 pub returns-then-not-written : goal.returns-then-not-written
-returns-then-not-written c = λ e. not-both true refl e
+returns-then-not-written g c = λ e. not-both true refl e
 
 pub loop-i-preserved : goal.loop-i-preserved
-loop-i-preserved c =
+loop-i-preserved g c =
     let a = c.args in
     let l = c.loop-i in
     let u = l.invariant.1 in
     let h = c.loop-i-test.true in
     let p = c.put_line in
-    let t = whole-line a.nodes.now l.i (omega (arith, u.few, h)) _ _ _ p.ensures p.auto.0 in (
+    let t = whole-line a.nodes.now l.i (omega (arith, u.few, h)) _ _ _ p.ensures p.auto.out in (
       search rules,
       u,
       more-lines a.nodes.now l.i l.sent _ _ l.invariant.2 t (c.send-written.ensures (not-false c.send-written.result c.if-not-written.false-raw)),
@@ -71,7 +70,7 @@ loop-i-preserved c =
     )
 
 pub returns : goal.returns
-returns c =
+returns g c =
     let l = c.loop-i in
     let a = c.args in
     let e : l.i ≡ a.used = omega arith in

@@ -8,9 +8,9 @@ use Rattle.telling.specs.Reached.{EndedWith}
 use Rattle.sheet_lines.proofs.print_sheet.Given as goal
 
 abbrev pub invariant-loop-i : goal.invariant-loop-i
-invariant-loop-i l =
+invariant-loop-i g l =
     (l.i ≤ l.used) × Usable l.nodes l.used × (l.sent ≡ length (lines l.nodes l.i)) × EndedWith l.used l.nodes
 
 abbrev pub decreases-loop-i : goal.decreases-loop-i
-decreases-loop-i l =
+decreases-loop-i g l =
     l.used - l.i

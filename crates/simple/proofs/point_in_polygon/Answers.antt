@@ -39,8 +39,8 @@ loop-i-preserved c =
       search rules,
       search rules,
       elim c.if-ray_meets.branch [
-        then-ray_meets w ↦ w.inside-is ∙ search-laws.parity_flip q l.i l.inside l.invariant.3 (sym (meets-is (goal.at.loop-i-preserved c).After-ray_meets) ∙ w.if-ray_meets.true)
-      | else-ray_meets w ↦ w.inside-is ∙ search-laws.parity-keep q l.i l.inside l.invariant.3 (sym (meets-is (goal.at.loop-i-preserved c).After-ray_meets) ∙ w.if-ray_meets.false)
+        | then-ray_meets w ↦ w.inside-is ∙ search-laws.parity_flip q l.i l.inside l.invariant.3 (sym (meets-is (goal.at.loop-i-preserved c).After-ray_meets) ∙ w.if-ray_meets.true)
+        | else-ray_meets w ↦ w.inside-is ∙ search-laws.parity-keep q l.i l.inside l.invariant.3 (sym (meets-is (goal.at.loop-i-preserved c).After-ray_meets) ∙ w.if-ray_meets.false)
       ],
     )
 

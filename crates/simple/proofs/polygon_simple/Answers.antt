@@ -71,16 +71,16 @@ returns c =
     let r = points_of a.ring in
     pairs.simple-is r c.scan-test.found
     (elim c.scan-test.branch [
-      else-scan-test w ↦ w.found-is ∙ s.invariant.4 ∙ sym (pairs.any-fewer _ s.i _ s.invariant.5 w.scan-test.false)
-    | then-scan-test+then-loop-j-test+then-edges_cross w ↦
-        let j : w.edges_cross.result ≡ Simple.edges_cross r s.i w.loop-j.j =
-        w.edges_cross.ensures
-        ∙ pairs.judged a.ring.points a.ring.count h (omega arith) s.i w.next.result w.loop-j.j w.next-k.result
-        (omega arith) w.next.ensures.0 w.loop-j.invariant.4 (omega arith) w.next-k.ensures.0 in
-        w.found-is
-        ∙ sym
-        (search-laws.any_hit _ s.i _ w.scan-test.true
-        (search-laws.any_hit _ w.loop-j.j _ w.loop-j-test.true (sym j ∙ w.if-edges_cross.true)))
+      | else-scan-test w ↦ w.found-is ∙ s.invariant.4 ∙ sym (pairs.any-fewer _ s.i _ s.invariant.5 w.scan-test.false)
+      | then-scan-test+then-loop-j-test+then-edges_cross w ↦
+          let j : w.edges_cross.result ≡ Simple.edges_cross r s.i w.loop-j.j =
+          w.edges_cross.ensures
+          ∙ pairs.judged a.ring.points a.ring.count h (omega arith) s.i w.next.result w.loop-j.j w.next-k.result
+          (omega arith) w.next.ensures.0 w.loop-j.invariant.4 (omega arith) w.next-k.ensures.0 in
+          w.found-is
+          ∙ sym
+          (search-laws.any_hit _ s.i _ w.scan-test.true
+          (search-laws.any_hit _ w.loop-j.j _ w.loop-j-test.true (sym j ∙ w.if-edges_cross.true)))
     ]
     ∙ (λ q. any (λ i. any (Simple.edges_cross r i) (e q)) (e q)))
     (rw (length-take-le a.ring.count a.ring.points h) s.invariant.0)

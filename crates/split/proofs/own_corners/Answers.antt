@@ -15,8 +15,7 @@ loop-i-init c = (search rules, search rules, refl, tab_none _, all_same (λ v. v
 
 pub loop-i-preserved : goal.loop-i-preserved
 loop-i-preserved c =
-    let l = c.loop-i in
-    (
+    let l = c.loop-i in (
       search rules,
       search rules,
       simp length-set l.invariant.2,

@@ -103,14 +103,12 @@ split_polygon_at-d-requires c =
 
 pub push-more-requires : goal.push-more-requires
 push-more-requires c =
-    let g = c.before.before in
     let z = top (goal.at.push-more-requires c).Start in
     let h = c.requires.0 in
     (h.pieces, omega (arith, h.parts, h.cuts), omega arith, omega arith, omega (arith, h.cuts), c.load-vs.ensures.1)
 
 pub returns-in_default : goal.returns-in_default
 returns-in_default c =
-    let g = c.before.before.before in
     let z = top (goal.at.returns-in_default c).Start in (
       Popped.within-gone c.args.s _ z.4 c.requires.0 (loaded (goal.at.returns-in_default c).After-split_polygon_at-d) (size (goal.at.returns-in_default c).After-split_polygon_at-d) refl c.push-more.result c.push-more.ensures,
       λ es len u w.
@@ -121,7 +119,6 @@ returns-in_default c =
 
 pub push_parts-cut-requires : goal.push_parts-cut-requires
 push_parts-cut-requires c =
-    let g = c.before.before.before in
     let z = top (goal.at.push_parts-cut-requires c).Start in
     let h = c.requires.0 in
     let r = range (goal.at.push_parts-cut-requires c).After-split_polygon_at-d _ c.in-To.is in (
@@ -146,7 +143,6 @@ overflow_add-result-2 c =
 
 pub returns : goal.returns
 returns c =
-    let g = c.before.before.before.before.before.before in
     let z = top (goal.at.returns c).Start in
     let d = c.d-1 in
     let k = d.given.0.0 in

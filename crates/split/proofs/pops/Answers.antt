@@ -13,26 +13,24 @@ pub loop-i-init : goal.loop-i-init
 loop-i-init c = (omega arith, refl, c.requires.0, λ es len t h. follows-start c.args.ring es c.args.limits t c.args.start h)
 
 pub returns-then-s-eq0 : goal.returns-then-s-eq0
-returns-then-s-eq0 c =
-    (
-      c.loop-i.invariant.2,
-      λ es len t h. follows-empty c.args.ring es c.args.limits t c.loop-i.s c.loop-i.i _ c.loop-i.invariant.0 c.if-s-eq0.true
-          (c.loop-i.invariant.3 es len t h),
-    )
+returns-then-s-eq0 c = (
+  c.loop-i.invariant.2,
+  λ es len t h. follows-empty c.args.ring es c.args.limits t c.loop-i.s c.loop-i.i _ c.loop-i.invariant.0 c.if-s-eq0.true
+      (c.loop-i.invariant.3 es len t h),
+)
 
 pub pop-s-requires : goal.pop-s-requires
 pop-s-requires c =
     (c.loop-i.invariant.2, positive _ c.if-s-eq0.false, c.requires.1, c.requires.2)
 
 pub loop-i-preserved : goal.loop-i-preserved
-loop-i-preserved c =
-    (
-      omega arith,
-      refl,
-      c.pop-s.ensures.0,
-      λ es len t h. follows_next c.args.ring es c.args.limits t c.loop-i.s c.pop-s.result c.loop-i.i (c.loop-i.invariant.3 es len t h)
-          (c.pop-s.ensures.1 es len),
-    )
+loop-i-preserved c = (
+  omega arith,
+  refl,
+  c.pop-s.ensures.0,
+  λ es len t h. follows_next c.args.ring es c.args.limits t c.loop-i.s c.pop-s.result c.loop-i.i (c.loop-i.invariant.3 es len t h)
+      (c.pop-s.ensures.1 es len),
+)
 
 pub returns : goal.returns
 returns c =

@@ -34,8 +34,7 @@ unfolding split_bad_vertices
 returns c =
     let q = c.pops-s in
     let p = c.push-first in
-    let v = c.own_corners in
-    (
+    let v = c.own_corners in (
       λ es len. Popped.shows-end c.args.ring.points es q.result _
           (q.ensures.1 es len _
           (Popped.follows-begin _ v.result c.args.ring.count p.result p.ensures c.args.ring.points es

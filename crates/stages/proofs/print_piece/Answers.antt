@@ -2,4 +2,4 @@ use Prim.Native.Nat.{◌-◌}
 use Rattle.stages.proofs.print_piece.Goals as goal
 
 pub corner-requires : goal.corner-requires
-corner-requires c = c.loop-i.invariant.2.points _
+corner-requires g c = c.loop-i.invariant.2.points _

@@ -4,9 +4,9 @@ use Rattle.vector.specs.Rings.{OnSheetRing}
 use Rattle.stages.proofs.print_piece.Given as goal
 
 abbrev pub invariant-loop-i : goal.invariant-loop-i
-invariant-loop-i l =
+invariant-loop-i g l =
     (l.i ≤ l.n) × (l.n ≤ 60) × OnSheetRing l.ring
 
 abbrev pub decreases-loop-i : goal.decreases-loop-i
-decreases-loop-i l =
+decreases-loop-i g l =
     l.n - l.i

@@ -5,6 +5,6 @@ use borrow.Author.Rules.{rules}
 use Rattle.stages.proofs.print_split.Goals as goal
 
 pub split_bad_vertices-s-requires : goal.split_bad_vertices-s-requires
-split_bad_vertices-s-requires c =
+split_bad_vertices-s-requires g c =
     let e : c.on_delivery.result.cuts ≡ 32 = ap (λ l. l.cuts) c.on_delivery.ensures in
     (search rules, search rules, omega arith)

@@ -7,26 +7,26 @@ use borrow.Author.Rules.{rules}
 use Rattle.stages.proofs.read.Goals as goal
 
 pub overflow_mul-end : goal.overflow_mul-end
-overflow_mul-end c =
+overflow_mul-end g c =
     let r = c.read_block-reading in
     let h : c.count_of-end.result ≤ 60 = omega (arith, few-points _ _ r.result r.ensures, c.count_of-end.ensures) in
     search rules
 
 pub slice_bounds-points-end : goal.slice_bounds-points-end
-slice_bounds-points-end c =
+slice_bounds-points-end g c =
     let r = c.read_block-reading in
     let k = c.count_of-end in
     omega (arith, few-points _ _ r.result r.ensures, all-places _ _ r.result r.ensures, k.ensures)
 
 pub slice_bounds-ring_of-end : goal.slice_bounds-ring_of-end
-slice_bounds-ring_of-end c =
+slice_bounds-ring_of-end g c =
     let r = c.read_block-reading in
     let k = c.count_of-end in
     part_length (k.result * 2) 120 r.result.points (all-places _ _ r.result r.ensures)
     (omega (arith, few-points _ _ r.result r.ensures, k.ensures))
 
 pub ring_of-requires : goal.ring_of-requires
-ring_of-requires c =
+ring_of-requires g c =
     let r = c.read_block-reading in
     let k = c.count_of-end in
     let f = few-points _ _ r.result r.ensures in

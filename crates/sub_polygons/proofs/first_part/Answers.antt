@@ -7,14 +7,13 @@ use Rattle.parts.proofs.Segments as Segments
 use Rattle.sub_polygons.proofs.first_part.Goals as goal
 
 pub make_sub_polygon-requires : goal.make_sub_polygon-requires
-make_sub_polygon-requires c =
-    (
-      omega arith,
-      omega arith,
-      c.segment.ensures.1,
-      c.requires.5,
-      Segments.seg_straight c.args.vs c.segment.result c.args.n c.args.v (c.args.k + 1) (omega arith) c.segment.ensures.0,
-    )
+make_sub_polygon-requires c = (
+  omega arith,
+  omega arith,
+  c.segment.ensures.1,
+  c.requires.5,
+  Segments.seg_straight c.args.vs c.segment.result c.args.n c.args.v (c.args.k + 1) (omega arith) c.segment.ensures.0,
+)
 
 pub returns : goal.returns
 returns c =

@@ -12,15 +12,14 @@ pub segment-requires : goal.segment-requires
 segment-requires c = (search rules, mod-lt (c.args.v + c.args.k) (omega arith), omega arith, omega arith, c.requires.4)
 
 pub make_sub_polygon-requires : goal.make_sub_polygon-requires
-make_sub_polygon-requires c =
-    (
-      omega arith,
-      omega arith,
-      c.segment.ensures.1,
-      c.requires.5,
-      Segments.seg_straight c.args.vs c.segment.result c.args.n ((c.args.v + c.args.k) % c.args.n) (c.args.n - c.args.k + 1)
-          (omega arith) c.segment.ensures.0,
-    )
+make_sub_polygon-requires c = (
+  omega arith,
+  omega arith,
+  c.segment.ensures.1,
+  c.requires.5,
+  Segments.seg_straight c.args.vs c.segment.result c.args.n ((c.args.v + c.args.k) % c.args.n) (c.args.n - c.args.k + 1)
+      (omega arith) c.segment.ensures.0,
+)
 
 pub returns : goal.returns
 returns c =

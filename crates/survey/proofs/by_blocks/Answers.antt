@@ -40,8 +40,7 @@ loop-i-smaller c =
 pub loop-i-preserved : goal.loop-i-preserved
 loop-i-preserved c =
     let e = c.block_end-to.ensures in
-    let o = c.before.before.before.before.before.before.before.before.before.before in
-    (
+    let o = c.before.before.before.before.before.before.before.before.before.before in (
       e.1,
       c.collect_block-n.auto.numbers ∙ c.loop-i.invariant.1,
       c.collect_block-n.auto.xs ∙ c.loop-i.invariant.2,

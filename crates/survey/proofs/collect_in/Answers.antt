@@ -42,19 +42,21 @@ joined c =
     let a = c.args in
     let q = c.loop-i in
     let P = State a.nodes.now a.w a.from a.numbers.now a.xs.now a.n (q.i + 1) in
-    elim c.if-holds.branch [ then-holds+else-k-ge-MOST_NEARBY t ↦ gathering.carried P _ _ _ _ _ _ t.numbers-is t.xs-is t.k-is (
-      omega (arith, t.if-k-ge-MOST_NEARBY.false),
-      length-set q.numbers q.k q.i ∙ q.invariant.1.1,
-      length-set q.xs q.k _ ∙ q.invariant.1.2,
-      λ u v p r g. gathering.put _ _ u v q.i q.k q.numbers q.xs (sym c.holds.ensures ∙ t.if-holds.true) (q.invariant.1.3 u v p r g)
-          t.if-k-ge-MOST_NEARBY.false p r,
-    )
-    | else-holds t ↦ gathering.carried P _ _ _ _ _ _ t.numbers-is t.xs-is t.k-is (
-      q.invariant.1.0,
-      q.invariant.1.1,
-      q.invariant.1.2,
-      λ u v p r g. gathering.past _ _ u v q.i q.k q.numbers q.xs (sym c.holds.ensures ∙ t.if-holds.false) (q.invariant.1.3 u v p r g),
-    ) ]
+    elim c.if-holds.branch [
+      | then-holds+else-k-ge-MOST_NEARBY t ↦ gathering.carried P _ _ _ _ _ _ t.numbers-is t.xs-is t.k-is (
+        omega (arith, t.if-k-ge-MOST_NEARBY.false),
+        length-set q.numbers q.k q.i ∙ q.invariant.1.1,
+        length-set q.xs q.k _ ∙ q.invariant.1.2,
+        λ u v p r g. gathering.put _ _ u v q.i q.k q.numbers q.xs (sym c.holds.ensures ∙ t.if-holds.true) (q.invariant.1.3 u v p r g)
+            t.if-k-ge-MOST_NEARBY.false p r,
+      )
+      | else-holds t ↦ gathering.carried P _ _ _ _ _ _ t.numbers-is t.xs-is t.k-is (
+        q.invariant.1.0,
+        q.invariant.1.1,
+        q.invariant.1.2,
+        λ u v p r g. gathering.past _ _ u v q.i q.k q.numbers q.xs (sym c.holds.ensures ∙ t.if-holds.false) (q.invariant.1.3 u v p r g),
+      )
+    ]
 
 pub loop-i-preserved : goal.loop-i-preserved
 loop-i-preserved c = (search rules, joined c)

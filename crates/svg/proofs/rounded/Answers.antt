@@ -9,8 +9,7 @@ pub returns-then-m-gt8388608 : goal.returns-then-m-gt8388608
 returns-then-m-gt8388608 c = (rounded-far c.args.m c.if-m-gt8388608.true, search rules)
 
 pub returns : goal.returns
-returns c =
-    (
-      c.half_even.ensures ∙ rounded-near c.args.m c.if-m-gt8388608.false,
-      omega (arith, c.half_even.ensures, few-rounded c.args.m c.if-m-gt8388608.false),
-    )
+returns c = (
+  c.half_even.ensures ∙ rounded-near c.args.m c.if-m-gt8388608.false,
+  omega (arith, c.half_even.ensures, few-rounded c.args.m c.if-m-gt8388608.false),
+)

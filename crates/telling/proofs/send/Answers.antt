@@ -4,4 +4,4 @@ use borrow.Author.Tests.{not-false}
 use Rattle.telling.proofs.send.Goals as goal
 
 pub returns : goal.returns
-returns c = let w = c.write_counted-written in (refl, λ e. w.ensures (not-false w.result e))
+returns g c = let w = c.write_counted-written in (refl, λ e. w.ensures.counted (not-false w.result e))

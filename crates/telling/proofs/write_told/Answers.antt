@@ -11,16 +11,16 @@ use native.Mathlib.Omega.{arith}
 use Rattle.telling.proofs.write_told.Goals as goal
 
 pub slice_bounds-send-end : goal.slice_bounds-send-end
-slice_bounds-send-end c = let p = c.print-n in part_length p.result most_text _ p.auto.1.1.0 p.ensures.room
+slice_bounds-send-end g c = let p = c.print-n in part_length p.result most_text _ p.auto.text p.ensures.room
 
 pub send-requires : goal.send-requires
-send-requires c =
+send-requires g c =
     let p = c.print-n in
     let e = in_front _ _ _ _ p.ensures in
     (subst (λ (t : List ℕ). Owed c.args.sent.now t) (sym e) c.requires.0, omega (arith, p.ensures.bytes, p.ensures.room, ap length e))
 
 pub returns : goal.returns
-returns c =
+returns g c =
     let p = c.print-n in
     let e = in_front _ _ _ _ p.ensures in (
       c.send.ensures.0,

@@ -3,9 +3,9 @@ use Rattle.std.proofs.Common.{◌≡◌, ◌-◌, ◌≤◌, length}
 use Rattle.words.proofs.read_nodes.Given as goal
 
 abbrev pub invariant-loop-i : goal.invariant-loop-i
-invariant-loop-i l =
+invariant-loop-i g l =
     (l.i ≤ l.n) × (length l.nodes ≡ length l.initial.nodes)
 
 abbrev pub decreases-loop-i : goal.decreases-loop-i
-decreases-loop-i l =
+decreases-loop-i g l =
     l.n - l.i

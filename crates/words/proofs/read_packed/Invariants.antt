@@ -3,9 +3,9 @@ use Rattle.std.proofs.Common.{◌≡◌, ◌-◌, ◌≤◌, length}
 use Rattle.words.proofs.read_packed.Given as goal
 
 abbrev pub invariant-loop-k : goal.invariant-loop-k
-invariant-loop-k l =
+invariant-loop-k g l =
     (l.k ≤ l.k-end) × (l.k-end ≤ 20000) × (length l.bytes ≡ length l.initial.bytes)
 
 abbrev pub decreases-loop-k : goal.decreases-loop-k
-decreases-loop-k l =
+decreases-loop-k g l =
     l.k-end - l.k

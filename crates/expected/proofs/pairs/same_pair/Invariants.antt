@@ -3,9 +3,9 @@ use Prim.Native.Nat.{◌-◌, ◌≤◌}
 use Rattle.expected.proofs.pairs.same_pair.Given as goal
 
 abbrev pub invariant-loop-k : goal.invariant-loop-k
-invariant-loop-k l =
+invariant-loop-k g l =
     l.k ≤ 384
 
 abbrev pub decreases-loop-k : goal.decreases-loop-k
-decreases-loop-k l =
+decreases-loop-k g l =
     384 - l.k

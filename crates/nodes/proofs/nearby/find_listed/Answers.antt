@@ -16,8 +16,7 @@ loop-i-init c = (search rules, (λ h. refl), first-start _ _)
 
 pub find_listed_block-k-requires : goal.find_listed_block-k-requires
 find_listed_block-k-requires c =
-    let e = c.block_end-to.ensures in
-    (
+    let e = c.block_end-to.ensures in (
       c.requires.0,
       lists-fewer _ _ _ _ _ _ e.1 c.requires.1,
       le_of_lt e.0,
@@ -34,8 +33,7 @@ returns-then-k-to c =
 
 pub loop-i-preserved : goal.loop-i-preserved
 loop-i-preserved c =
-    let e = c.block_end-to.ensures in
-    (
+    let e = c.block_end-to.ensures in (
       e.1,
       (λ h. omega (arith, e.4 h, c.loop-i.invariant.1 c.loop-i-test.true)),
       part-pass _ _ _ _ _ (le_of_lt e.0) e.1 c.find_listed_block-k.ensures c.if-k-to.false ∙ c.loop-i.invariant.2,

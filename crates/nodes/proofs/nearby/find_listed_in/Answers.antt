@@ -73,8 +73,8 @@ other c =
     let p = c.requires in
     let h = c.loop-j-test.true in
     elim c.if-is_near.branch [
-      then-is_near+else-has_key w ↦ listed-is _ _ _ _ _ _ _ _ p.1 h ∙ sym w.has_key.ensures ∙ w.if-has_key.false
-    | else-is_near w ↦ not-close _ _ _ _ _ c.args.kx (key_of c.args.ky) _ p.1 p.3 p.0 h (sym c.is_near.ensures ∙ w.if-is_near.false)
+      | then-is_near+else-has_key w ↦ listed-is _ _ _ _ _ _ _ _ p.1 h ∙ sym w.has_key.ensures ∙ w.if-has_key.false
+      | else-is_near w ↦ not-close _ _ _ _ _ c.args.kx (key_of c.args.ky) _ p.1 p.3 p.0 h (sym c.is_near.ensures ∙ w.if-is_near.false)
     ]
 
 pub loop-j-preserved : goal.loop-j-preserved

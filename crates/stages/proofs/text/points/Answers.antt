@@ -2,4 +2,4 @@ use Prim.Native.Nat.{◌-◌}
 use Rattle.stages.proofs.text.points.Goals as goal
 
 pub point-requires : goal.point-requires
-point-requires c = c.loop-i.invariant.2.points _
+point-requires g c = c.loop-i.invariant.2.points _

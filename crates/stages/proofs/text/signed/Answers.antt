@@ -5,4 +5,4 @@ use Rattle.laws.proofs.Signed as signed
 use Rattle.stages.proofs.text.signed.Goals as goal
 
 pub magnitude-requires : goal.magnitude-requires
-magnitude-requires c = signed.small64 c.args.z (2 ^ 55) (omega arith) (omega (arith, c.requires))
+magnitude-requires g c = signed.small64 c.args.z (2 ^ 55) (omega arith) (omega (arith, c.requires))

@@ -1,0 +1,2 @@
+-- What a text's parts have written.
+mod Writing

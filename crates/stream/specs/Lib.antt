@@ -1,0 +1,2 @@
+-- How a number is written.
+pub mod Shown
