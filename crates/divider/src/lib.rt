@@ -212,7 +212,7 @@ pub fn divide_with(
     requires { HasRoom limits room cells.old }
     ensures { (cs : List Cell) → length cs ≡ room.places
         → Leaves (divide_into limits (record {
-          ring = ring.entry.now;
+          ring = ring.now;
           chain = chain.now;
           size = size;
           nodes = nodes.old;
@@ -266,7 +266,7 @@ pub fn divide_set(
     cell_count: usize,
 ) -> Answer
     ensures { Promise limits (record {
-      ring = ring.entry.now;
+      ring = ring.now;
       chain = chain.now;
       size = size;
       nodes = nodes.old;
@@ -299,7 +299,7 @@ pub fn divide(
     cell_count: usize,
 ) -> Answer
     ensures { Promise delivered (record {
-      ring = ring.entry.now;
+      ring = ring.now;
       chain = chain.now;
       size = size;
       nodes = nodes.old;

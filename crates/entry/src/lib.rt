@@ -145,15 +145,15 @@ pub fn lists_refusal(
     requires { (3 ≤ own) × (own ≤ most_points) × Framed w × (length numbers.old ≡ most_nearby) × (length xs.old ≡ most_nearby) }
     ensures { ((cells : List Cell) → length cells ≡ cell_places → result.code ≡ Refusal.lists_refusal limits own
         (record {
-          nodes = nodes_in nodes.entry.now (length nodes.entry.now / 2);
+          nodes = nodes_in nodes.now (length nodes.now / 2);
           node_count_of = node_count;
           rims = rims.now;
           cells = cells;
           cell_count_of = cell_count;
         }))
-        × Refusal.Looked w nodes.entry.now (Refusal.looked_at (length nodes.entry.now / 2) node_count (length rims.now)
+        × Refusal.Looked w nodes.now (Refusal.looked_at (length nodes.now / 2) node_count (length rims.now)
         cell_places cell_count) numbers.old xs.old result.near numbers.new xs.new
-        × (result.code ≡ 0 → ValidNearby nodes.entry.now node_count result.near numbers.new xs.new) }
+        × (result.code ≡ 0 → ValidNearby nodes.now node_count result.near numbers.new xs.new) }
 {
     let places = nodes.len() / 2;
     if counts_over(places, node_count, rims.len(), cell_places, cell_count) {

@@ -139,7 +139,7 @@ pub fn surviving_marks(
     loops: &[u32],
 ) -> [Edge; MOST_POINTS]
     requires { MarksOf ring kinds.now snaps.now clean × (Marked.outline_out kinds.now outline.now loops.now ≡ false) }
-    ensures { Survive (record { kinds = kinds.entry.now; snaps = snaps.now; outline = outline.now; loops = loops.now })
+    ensures { Survive (record { kinds = kinds.now; snaps = snaps.now; outline = outline.now; loops = loops.now })
         (points_of ring) (places_in clean) result }
 {
     let lead = lead_line(kinds, outline, loops);

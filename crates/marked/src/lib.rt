@@ -40,7 +40,7 @@ fn early_refusal(
     size: u32,
 ) -> u32
     ensures { result ≡ early_refusal limits ring.now (record {
-      kinds = kinds.entry.now;
+      kinds = kinds.now;
       snaps = snaps.now;
       outline = outline.now;
       loops = loops.now;
@@ -75,7 +75,7 @@ fn marked_ring(
 ) -> MarkedRing
     requires { Tested ring.now (record { kinds = kinds.now; snaps = snaps.now; outline = outline.now; loops = loops.now }) }
     ensures { Prepares ring.now (record {
-      kinds = kinds.entry.now;
+      kinds = kinds.now;
       snaps = snaps.now;
       outline = outline.now;
       loops = loops.now;
@@ -108,8 +108,8 @@ pub fn divide_marked_set(
     cell_count: usize,
 ) -> Answer
     ensures { MarkedPromise limits (record {
-      ring = ring.entry.now;
-      marking = record { kinds = kinds.entry.now; snaps = snaps.now; outline = outline.now; loops = loops.now };
+      ring = ring.now;
+      marking = record { kinds = kinds.now; snaps = snaps.now; outline = outline.now; loops = loops.now };
       size = size;
       nodes = nodes.old;
       node_count_of = node_count;
@@ -164,8 +164,8 @@ pub fn divide_marked(
     cell_count: usize,
 ) -> Answer
     ensures { MarkedPromise delivered (record {
-      ring = ring.entry.now;
-      marking = record { kinds = kinds.entry.now; snaps = snaps.now; outline = outline.now; loops = loops.now };
+      ring = ring.now;
+      marking = record { kinds = kinds.now; snaps = snaps.now; outline = outline.now; loops = loops.now };
       size = size;
       nodes = nodes.old;
       node_count_of = node_count;

@@ -62,8 +62,8 @@ returns-in_default c =
     let g =
     rims-are a.limits a.own a.ring a.nodes.now a.node_count a.rims.now a.cells.now a.cell_count (sought (goal.at.returns-in_default c).Start) t.result w
     c.requires.0.held.marks (t.ensures.0 every_mark every_length) in
-    let y = if_failed (outcome_of a.limits (part_in a.ring) x) (sym (ap row c.enum_told-1.given.1) ∙ d.ensures.0 ∙ ap row_of o) in
-    let v = c.failed.ensures ∙ ap (λ (s : Subdivision). failed_answer s a.cell_count) c.enum_told-1.given.1 in
+    let y = if_failed (outcome_of a.limits (part_in a.ring) x) (sym (ap row c.in_default.is) ∙ d.ensures.0 ∙ ap row_of o) in
+    let v = c.failed.ensures ∙ ap (λ (s : Subdivision). failed_answer s a.cell_count) c.in_default.is in
     rw (ap values v)
     (moved (d.ensures.1 ∙ ap (λ (o : Outcome). over a.nodes.now (nodes_of o)) o) (d.ensures.3 ∙ g)
     (d.ensures.2 ∙ ap (λ (o : Outcome). over_from a.cells.now a.cell_count (cells_left_of r.result o)) o)
@@ -85,7 +85,7 @@ overflow_add-result c =
     let y =
     if_done (outcome_of a.limits (part_in a.ring) x) (sym (ap row c.in-Done.is) ∙ d.ensures.0 ∙ ap row_of o) in
     let h = cell_room a.limits a.own a.ring a.nodes.now a.node_count a.rims.now a.cells.now a.cell_count (sought (goal.at.overflow_add-result c).Start) _ _ y in
-    omega (arith, c.good.1.1.1.1.1.1.1.0)
+    omega (arith, c.well_formed.1.1.1.1.1.1.1.0)
 
 pub returns : goal.returns
 returns c =

@@ -1,5 +1,4 @@
 use mathlib.Core.Path.{◌≡◌, ap, ◌∙◌}
-use mathlib.Core.Logic.{⊎_elim}
 use Prim.Native.Nat.{◌-◌}
 use lib.ListN.{length}
 use Rattle.rim_marks.specs.Marking.{set_at}
@@ -7,7 +6,7 @@ use Rattle.rim_marks.proofs.Marking.{set-none, set_on, set-off, set-length}
 use borrow.Author.Rules.{rules}
 use native.Mathlib.Omega.{arith}
 use Rattle.rim_marks.proofs.set_rims.Goals as goal
-use Rattle.rim_marks.proofs.set_rims.Goals.{At-loop-i}
+use Rattle.rim_marks.proofs.set_rims.Goals.{At-loop-i, then-on-i, else-on-i}
 
 -- the list is as long as it came
 long : (c : At-loop-i) → length c.loop-i.rims ≡ length c.args.rims.now
@@ -23,8 +22,10 @@ pub loop-i-preserved : goal.loop-i-preserved
 loop-i-preserved c =
     let l = c.loop-i in (
       search rules,
-      ⊎_elim (λ w. w.1 ∙ set_on _ _ _ l.rims l.i l.invariant.1 w.0.taken) (λ w. w.1 ∙ set-off _ _ _ l.rims l.i l.invariant.1 w.0.left)
-          c.if-on-i.branch,
+      elim c.if-on-i.branch [
+        then-on-i w ↦ w.rims-is ∙ set_on _ _ _ l.rims l.i l.invariant.1 w.if-on-i.true
+      | else-on-i w ↦ w.rims-is ∙ set-off _ _ _ l.rims l.i l.invariant.1 w.if-on-i.false
+      ],
     )
 
 pub shape_of-rims : goal.shape_of-rims

@@ -113,7 +113,7 @@ returns-in_default c =
       Popped.within-gone c.args.s _ z.4 c.requires.0 (loaded (goal.at.returns-in_default c).After-split_polygon_at-d) (size (goal.at.returns-in_default c).After-split_polygon_at-d) refl c.push-more.result c.push-more.ensures,
       λ es len u w.
           Popped.follows-gone c.args.s _ z.4 c.requires.0 (loaded (goal.at.returns-in_default c).After-split_polygon_at-d) (size (goal.at.returns-in_default c).After-split_polygon_at-d) refl c.args.ring es c.load-vs.ensures.0
-          c.args.limits u w (at (goal.at.returns-in_default c).After-split_polygon_at-d) (worst-is (goal.at.returns-in_default c).After-split_polygon_at-d) (sym (ap answer c.enum_told-1.given.1) ∙ c.split_polygon_at-d.ensures) c.push-more.result
+          c.args.limits u w (at (goal.at.returns-in_default c).After-split_polygon_at-d) (worst-is (goal.at.returns-in_default c).After-split_polygon_at-d) (sym (ap answer c.in_default.is) ∙ c.split_polygon_at-d.ensures) c.push-more.result
           c.push-more.ensures,
     )
 
@@ -144,13 +144,12 @@ overflow_add-result-2 c =
 pub returns : goal.returns
 returns c =
     let z = top (goal.at.returns c).Start in
-    let d = c.d-1 in
-    let k = d.given.0.0 in
-    let r = range (goal.at.returns c).After-split_polygon_at-d k d.given.1 in
+    let k = c.in-To.k in
+    let r = range (goal.at.returns c).After-split_polygon_at-d k c.in-To.is in
     let q = c.push_parts-cut in (
       Popped.within-cut c.args.s _ z.4 c.requires.0 (loaded (goal.at.returns c).After-split_polygon_at-d) (size (goal.at.returns c).After-split_polygon_at-d) refl c.args.ring (at (goal.at.returns c).After-split_polygon_at-d) k r.2 q.result.parts q.result.turned
           q.ensures,
       λ es len u w.
           Popped.follows-cut c.args.s _ z.4 c.requires.0 (loaded (goal.at.returns c).After-split_polygon_at-d) (size (goal.at.returns c).After-split_polygon_at-d) refl c.args.ring es c.load-vs.ensures.0
-          c.args.limits u w (at (goal.at.returns c).After-split_polygon_at-d) (worst-is (goal.at.returns c).After-split_polygon_at-d) len k (chosen (goal.at.returns c).After-split_polygon_at-d k d.given.1) q.result.parts q.result.turned q.ensures,
+          c.args.limits u w (at (goal.at.returns c).After-split_polygon_at-d) (worst-is (goal.at.returns c).After-split_polygon_at-d) len k (chosen (goal.at.returns c).After-split_polygon_at-d k c.in-To.is) q.result.parts q.result.turned q.ensures,
     )
