@@ -8,15 +8,15 @@ use Rattle.picture.proofs.draw_job.Goals as goal
 
 pub slice_bounds-picture-end-2 : goal.slice_bounds-picture-end-2
 slice_bounds-picture-end-2 g c =
-    let q = c.read_job-input in
+    let q = c.read_job-job in
     part_length q.result.count 262145 _ (q.auto.bytes ∙ c.requires) q.ensures.0
 
 pub picture-written-requires : goal.picture-written-requires
 picture-written-requires g c =
-    let q = c.read_job-input in (omega (arith, length-take q.result.count q.new.bytes, q.ensures.0), refl)
+    let q = c.read_job-job in (omega (arith, length-take q.result.count q.new.bytes, q.ensures.0), refl)
 
 pub returns : goal.returns
 returns g c =
-    let q = c.read_job-input in
+    let q = c.read_job-job in
     let p = c.picture-written in
     (p.ensures (not-false p.result c.if-not-written.false-raw), c.if-count-gt-MOST_JOB.false, q.ensures.1)

@@ -11,8 +11,8 @@ say-requires g c = search rules
 
 pub say-requires-in-TooLong : goal.say-requires-in-TooLong
 unfolding bytes
-say-requires-in-TooLong g c = said-long _ _ c.enum_told-in-TooLong-1.given.1
+say-requires-in-TooLong g c = said-long _ _ c.in-TooLong.is
 
 pub say-requires-in-Unwritten : goal.say-requires-in-Unwritten
 unfolding bytes
-say-requires-in-Unwritten g c = said-unwritten _ c.enum_told-in-Unwritten-1.given.1
+say-requires-in-Unwritten g c = said-unwritten _ c.in-Unwritten.is
