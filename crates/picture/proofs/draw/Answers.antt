@@ -9,7 +9,7 @@ use Rattle.picture.proofs.draw.Goals as goal
 pub loop-f-init : goal.loop-f-init
 loop-f-init g c =
     let h = c.requires in (
-      begins c.args.job.now c.new.result c.new.ensures,
+      begins c.args.job.now c.new-s.result c.new-s.ensures,
       h.0,
       h.1,
       refl,

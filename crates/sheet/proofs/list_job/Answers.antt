@@ -9,7 +9,7 @@ use native.Mathlib.Omega.{arith}
 use Rattle.sheet.proofs.list_job.Goals as goal
 
 pub loop-ring-init : goal.loop-ring-init
-loop-ring-init g c = (begun_so c.new.result c.new.ensures, refl, refl, refl, refl, refl)
+loop-ring-init g c = (begun_so c.new-s.result c.new-s.ensures, refl, refl, refl, refl, refl)
 
 pub slice_bounds-read_block-end : goal.slice_bounds-read_block-end
 slice_bounds-read_block-end g c = sym c.loop-ring.invariant.4

@@ -8,5 +8,5 @@ use Rattle.telling.proofs.tell.Goals as goal
 pub returns-in-Nothing : goal.returns-in-Nothing
 returns-in-Nothing g c =
     let a = c.args in
-    let e = ap length (tells-nothing a.told a.cells.now c.enum_told-1.given.1) in
+    let e = ap length (tells-nothing a.told a.cells.now c.in-Nothing.is) in
     (refl, λ _. record { count = omega (arith, e); short = omega (arith, e) })
