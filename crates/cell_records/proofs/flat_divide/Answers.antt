@@ -37,10 +37,10 @@ placed-requires c =
     let a = c.args in
     let L = c.on_delivery-limits in
     let d = c.divide_with-a in
-    let cs = replicate a.cell-places no_cell in
-    let n = length-replicate a.cell-places no_cell in
+    let cs = replicate a.cell_places no_cell in
+    let n = length-replicate a.cell_places no_cell in
     let f = most-cuts L.result L.ensures in (
-      sum_fits L.result f (replicate 496 0) refl (lent (goal.at.placed-requires c).Start cs) (values d.result) _ _ _ (d.ensures cs n) (omega (arith, n, c.ranges.cell-places))
+      sum_fits L.result f (replicate 496 0) refl (lent (goal.at.placed-requires c).Start cs) (values d.result) _ _ _ (d.ensures cs n) (omega (arith, n, c.ranges.cell_places))
           c.ranges.cell_count.fits,
       counts_in L.result f (replicate 496 0) refl (lent (goal.at.placed-requires c).Start cs) (values d.result) _ _ _ (d.ensures cs n),
     )
@@ -50,8 +50,8 @@ returns c =
     let a = c.args in
     let L = c.on_delivery-limits in
     let d = c.divide_with-a in
-    let cs = replicate a.cell-places no_cell in
-    let n = length-replicate a.cell-places no_cell in
+    let cs = replicate a.cell_places no_cell in
+    let n = length-replicate a.cell_places no_cell in
     let f = most-cuts L.result L.ensures in
     let g = laid-fits L.result f (replicate 496 0) refl (lent (goal.at.returns c).Start cs) (values d.result) _ _ _ (d.ensures cs n) c.placed.result
     c.placed.ensures in (

@@ -1,6 +1,5 @@
 -- `placed`: after an 8 the reserve is counted, else the cells of the row.
 use Prim.Native.Nat.{◌+◌}
-use mathlib.Core.Logic.{⊎_elim}
 use mathlib.Core.Path.{◌≡◌, sym, ap, ◌∙◌}
 use borrow.Author.Tests.{eq-eqb, ne_eqb}
 use Rattle.table.specs.declared.Row.{Row}
@@ -8,13 +7,17 @@ use Rattle.table.specs.Answers.{with_cells}
 use Rattle.call.specs.Call.{cell_reserve}
 use Rattle.cell_records.specs.Records.{new_cells, laid_of}
 use Rattle.cell_records.proofs.placed.Goals as goal
-use Rattle.cell_records.proofs.placed.Goals.{Joined-v-eq8}
+use Rattle.cell_records.proofs.placed.Goals.{Joined-v-eq8, then-v-eq8, else-v-eq8}
 
 pub cell_reserve-count-requires : goal.cell_reserve-count-requires
 cell_reserve-count-requires c = c.requires.1 (sym (ap (λ (v : Row). v.code) c.new-v.ensures) ∙ c.if-v-eq8.true)
 
 counted : (c : Joined-v-eq8) → let a = c.args in c.if-v-eq8.count ≡ new_cells c.new-v.result (cell_reserve a.limits a.own)
-counted c = ⊎_elim (λ w. w.2 ∙ w.1.ensures ∙ sym (rw (eq-eqb _ _ w.0.taken))) (λ w. w.1 ∙ sym (rw (ne_eqb _ _ w.0.left))) c.if-v-eq8.branch
+counted c =
+    elim c.if-v-eq8.branch [
+      then-v-eq8 w ↦ w.count-is ∙ w.cell_reserve-count.ensures ∙ sym (rw (eq-eqb _ _ w.if-v-eq8.true))
+    | else-v-eq8 w ↦ w.count-is ∙ sym (rw (ne_eqb _ _ w.if-v-eq8.false))
+    ]
 
 pub overflow_add-v : goal.overflow_add-v
 overflow_add-v c = record { fits = rw c.new-v.ensures c.requires.0 }

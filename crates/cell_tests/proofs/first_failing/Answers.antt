@@ -15,13 +15,13 @@ use Rattle.cell_tests.proofs.first_failing.Goals.{After-holds}
 abbrev Tested : After-holds → Type 0
 Tested c =
     let a = c.args in
-    fails a.nodes.now a.used a.centre a.t4 a.t5 a.n c.loop-k.k ≡ not c.holds.result
+    fails a.nodes.now a.used a.centre a.ms a.vs a.n c.loop-k.k ≡ not c.holds.result
 
 tested : (c : After-holds) → Tested c
 tested c =
     let a = c.args in
     let p = c.requires in
-    let e = cell.cell_at a.centre a.t4 a.t5 a.n p.0 p.5 p.6 _ _ c.loop-k-test.true c.next-j.ensures.0 in
+    let e = cell.cell_at a.centre a.ms a.t5 a.n p.0 p.5 p.6 _ _ c.loop-k-test.true c.next-j.ensures.0 in
     sym (ap not (c.holds.ensures ∙ ap (Quads.holds (nodes_in a.nodes.now a.used)) e))
 
 pub loop-k-init : goal.loop-k-init

@@ -15,14 +15,14 @@ returns-then-counts_over c =
     let k = c.before in
     let a = c.args in
     let z = sym c.counts_over.ensures ∙ c.if-counts_over.true in (
-      λ cells e. over a.limits a.own a.nodes.now a.node_count a.rims.now cells a.cell_count a.cell-places e z,
+      λ cells e. over a.limits a.own a.nodes.now a.node_count a.rims.now cells a.cell_count a.cell_places e z,
       nothing a.w a.nodes.now a.numbers.now a.xs.now _ (looked_none _ _ _ _ _ z),
       λ o. absurd (omega (arith, o)),
     )
 
 -- the counts fit
 fits : (c : Else-counts_over) → let a =
-    c.args in (a.node_count ≤ length a.nodes.now / 2) × (a.cell_count ≤ a.cell-places) × (length a.nodes.now / 2 ≤ most_places)
+    c.args in (a.node_count ≤ length a.nodes.now / 2) × (a.cell_count ≤ a.cell_places) × (length a.nodes.now / 2 ≤ most_places)
     × (length a.nodes.now / 2 ≤ length a.rims.now)
 fits c = counts_hold _ _ _ _ _ (sym c.counts_over.ensures ∙ c.if-counts_over.false)
 
@@ -47,7 +47,7 @@ returns c =
     let z = sym c.counts_over.ensures ∙ c.if-counts_over.false in
     let f = ap (λ (r : NodeSurvey). r.near) e.0 in (
       λ cells o. c.used_refusal-code.ensures
-          ∙ fit a.limits a.own a.nodes.now a.node_count a.rims.now cells a.cell_count a.cell-places o z c.used_nodes-s.result.held
+          ∙ fit a.limits a.own a.nodes.now a.node_count a.rims.now cells a.cell_count a.cell_places o z c.used_nodes-s.result.held
           (ap (λ (r : NodeSurvey). r.held) e.0),
       all a.w a.nodes.now a.numbers.now a.xs.now _ a.node_count _ _ _ (looked_all _ _ _ _ _ z) f e.1 e.2,
       λ o. gathering.held a.nodes.now a.w a.numbers.now a.xs.now a.node_count _ _ _ c.requires.3 c.requires.4 c.requires.2 f e.1 e.2,

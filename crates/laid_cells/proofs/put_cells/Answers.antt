@@ -14,7 +14,7 @@ fits : (c : After-next-e) → c.loop-k.at + 4 ≤ length c.loop-k.cells
 fits c =
     let a = c.args in
     let l = c.loop-k in
-    let z = cell.cells-length a.centre (take a.n a.t3) (take a.n a.t4) l.k in
+    let z = cell.cells-length a.centre (take a.n a.ms) (take a.n a.vs) l.k in
     let w : length l.cells ≡ length a.cells.now = ap length l.invariant.2 ∙ cell.length_over a.cells.now _ (omega (arith, z, c.requires.1, l.invariant.0)) in
     omega (arith, w, c.requires.1, c.loop-k-test.true, l.invariant.1)
 
@@ -35,10 +35,10 @@ loop-k-preserved c =
     let l = c.loop-k in
     let a = c.args in
     let t = c.loop-k-test.true in
-    let z = cell.cells-length a.centre (take a.n a.t3) (take a.n a.t4) l.k in (
+    let z = cell.cells-length a.centre (take a.n a.ms) (take a.n a.vs) l.k in (
       search rules,
       search rules,
-      cell.turn a.cells.now l.cells l.at (cells_to a.centre (take a.n a.t3) (take a.n a.t4) l.k) _ _ l.invariant.2 (omega (arith, z))
+      cell.turn a.cells.now l.cells l.at (cells_to a.centre (take a.n a.ms) (take a.n a.t4) l.k) _ _ l.invariant.2 (omega (arith, z))
           (omega (arith, z, c.requires.1)) c.put_cell.ensures
           ∙ cell.one_more a.centre (take a.n a.t3) (take a.n a.t4) a.cells.now l.k _
           (cell.cell-is a.centre a.t3 a.t4 a.n c.requires.0 c.requires.2 c.requires.3 l.k _ t c.next-e.ensures.0),
@@ -49,11 +49,11 @@ shape_of-cells c =
     let a = c.args in
     let l = c.loop-k in
     ap length l.invariant.2
-    ∙ cell.length_over a.cells.now _ (omega (arith, cell.cells-length a.centre (take a.n a.t3) (take a.n a.t4) l.k, c.requires.1, l.invariant.0))
+    ∙ cell.length_over a.cells.now _ (omega (arith, cell.cells-length a.centre (take a.n a.ms) (take a.n a.vs) l.k, c.requires.1, l.invariant.0))
 
 pub returns : goal.returns
 returns c =
     let a = c.args in
     let l = c.loop-k in
     let e : l.k ≡ a.n = omega arith in
-    l.invariant.2 ∙ ap (λ (k : ℕ). over_cells a.cells.now (cells_to a.centre (take a.n a.t3) (take a.n a.t4) k)) e
+    l.invariant.2 ∙ ap (λ (k : ℕ). over_cells a.cells.now (cells_to a.centre (take a.n a.ms) (take a.n a.vs) k)) e

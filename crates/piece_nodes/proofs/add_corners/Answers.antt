@@ -47,5 +47,5 @@ pub returns : goal.returns
 returns c =
     let a = c.args in
     let l = c.loop-i in
-    let e : l.i ≡ a.t3.count = omega arith in
-    subst (λ (k : ℕ). Adds a.nodes.now a.used (corner_at a.t3) k l.nodes l.at l.list) e l.invariant.2
+    let e : l.i ≡ a.ring.count = omega arith in
+    subst (λ (k : ℕ). Adds a.nodes.now a.used (corner_at a.ring) k l.nodes l.at l.list) e l.invariant.2

@@ -24,7 +24,7 @@ abbrev Mid : After-edge_middle-m → Type 0
 Mid c =
     let a = c.args in
     let i = c.loop-i.i in
-    c.edge_middle-m.result ≡ middle_of a.share (get_or (marks_in a.t4 a.n) i Straight) (end_at a.nodes.now a.used a.t3 a.n i)
+    c.edge_middle-m.result ≡ middle_of a.share (get_or (marks_in a.marks a.n) i Straight) (end_at a.nodes.now a.used a.vs a.n i)
     (end_at a.nodes.now a.used a.t3 a.n (suc i))
 
 mid : (c : After-edge_middle-m) → Mid c
@@ -97,7 +97,7 @@ returns c =
     let a = c.args in
     let l = c.loop-i in
     let e : l.i ≡ a.n = omega arith in (
-      subst (λ (k : ℕ). Adds a.nodes.now a.used (middle_at a.share a.nodes.now a.used a.t3 a.t4 a.n) k l.nodes l.at l.list)
+      subst (λ (k : ℕ). Adds a.nodes.now a.used (middle_at a.share a.nodes.now a.used a.vs a.marks a.n) k l.nodes l.at l.list)
           e l.invariant.1,
-      l.invariant.2 ∙ ap (any (far_at a.share a.nodes.now a.used a.t3 a.t4 a.n)) e,
+      l.invariant.2 ∙ ap (any (far_at a.share a.nodes.now a.used a.vs a.marks a.n)) e,
     )
