@@ -369,8 +369,8 @@ fn put_looks(out: &mut [u8], at: usize) -> usize
 
 // The axes, the scale bar, the key, and the group of all that is drawn.
 fn put_axes(out: &mut [u8], at: usize, f: Frame, a: Axes) -> usize
-    requires { at + length (Head.axesText f a) ≤ length out.old }
-    ensures { Written out.old at (Head.axesText f a) result out.new }
+    requires { at + length (Head.axes_text f a) ≤ length out.old }
+    ensures { Written out.old at (Head.axes_text f a) result out.new }
 {
     let numbers = [
         f.left, a.under, f.right, a.beside, f.low, f.high, a.line, a.gap, a.west, a.under,
@@ -395,8 +395,8 @@ fn put_axes(out: &mut [u8], at: usize, f: Frame, a: Axes) -> usize
 
 // The number of tick i of the axis below, none beyond its end.
 fn put_below(out: &mut [u8], at: usize, f: Frame, i: u64) -> usize
-    requires { Bounds.SmallFrame f × (i < 9) × (at + length (Head.belowText f i) ≤ length out.old) }
-    ensures { Written out.old at (Head.belowText f i) result out.new }
+    requires { Bounds.SmallFrame f × (i < 9) × (at + length (Head.below_text f i) ≤ length out.old) }
+    ensures { Written out.old at (Head.below_text f i) result out.new }
 {
     let x = multiple_from(f.left, f.step) + i * f.step;
     let numbers = [x, f.low + f.em, x];
@@ -413,8 +413,8 @@ fn put_below(out: &mut [u8], at: usize, f: Frame, i: u64) -> usize
 
 // The number of tick i of the axis at the side, from below, none beyond its end.
 fn put_beside(out: &mut [u8], at: usize, f: Frame, i: u64) -> usize
-    requires { Bounds.SmallFrame f × (i < 9) × (at + length (Head.besideText f i) ≤ length out.old) }
-    ensures { Written out.old at (Head.besideText f i) result out.new }
+    requires { Bounds.SmallFrame f × (i < 9) × (at + length (Head.beside_text f i) ≤ length out.old) }
+    ensures { Written out.old at (Head.beside_text f i) result out.new }
 {
     let y = less(multiple_to(f.low, f.step), i * f.step);
     let numbers = [less(f.left, f.em), y, less(40000000, y)];
@@ -430,8 +430,8 @@ fn put_beside(out: &mut [u8], at: usize, f: Frame, i: u64) -> usize
 }
 
 fn put_tick(out: &mut [u8], at: usize, f: Frame, i: u64) -> usize
-    requires { Bounds.SmallFrame f × (i < 9) × (at + length (Head.tickText f i) ≤ length out.old) }
-    ensures { Written out.old at (Head.tickText f i) result out.new }
+    requires { Bounds.SmallFrame f × (i < 9) × (at + length (Head.tick_text f i) ≤ length out.old) }
+    ensures { Written out.old at (Head.tick_text f i) result out.new }
 {
     let next = put_below(out, at, f, i);
     put_beside(out, next, f, i)
@@ -439,8 +439,8 @@ fn put_tick(out: &mut [u8], at: usize, f: Frame, i: u64) -> usize
 
 // The numbers of all ticks: neither axis has more than nine.
 fn put_ticks(out: &mut [u8], at: usize, f: Frame) -> usize
-    requires { Bounds.SmallFrame f × (at + length (Head.ticksText f 9) ≤ length out.old) }
-    ensures { Written out.old at (Head.ticksText f 9) result out.new }
+    requires { Bounds.SmallFrame f × (at + length (Head.ticks_text f 9) ≤ length out.old) }
+    ensures { Written out.old at (Head.ticks_text f 9) result out.new }
 {
     let mut next = at;
     for i in 0..9u64 {
@@ -451,8 +451,8 @@ fn put_ticks(out: &mut [u8], at: usize, f: Frame) -> usize
 
 // The head of a picture, up to where its rings begin.
 pub fn put_head(out: &mut [u8], f: Frame) -> usize
-    requires { Bounds.SmallFrame f × (Head.mostHead ≤ length out.old) }
-    ensures { Written out.old 0 (Head.headText f) result out.new × (result ≤ Head.mostHead) }
+    requires { Bounds.SmallFrame f × (Head.most_head ≤ length out.old) }
+    ensures { Written out.old 0 (Head.head_text f) result out.new × (result ≤ Head.most_head) }
 {
     let looks = put_box(out, view_of(f));
     let ticks = put_looks(out, looks);
@@ -462,8 +462,8 @@ pub fn put_head(out: &mut [u8], f: Frame) -> usize
 
 // The line of a refused block, at the foot.
 pub fn put_ended(out: &mut [u8], f: Frame, block: u64, code: u64) -> usize
-    requires { Head.mostHead ≤ length out.old }
-    ensures { Written out.old 0 (Head.endedText f block code) result out.new }
+    requires { Head.most_head ≤ length out.old }
+    ensures { Written out.old 0 (Head.ended_text f block code) result out.new }
 {
     let numbers = [f.left, f.bottom, block, code];
     svg::put_form(
@@ -476,8 +476,8 @@ pub fn put_ended(out: &mut [u8], f: Frame, block: u64, code: u64) -> usize
 
 // The end of a picture.
 pub fn put_foot(out: &mut [u8]) -> usize
-    requires { Head.mostHead ≤ length out.old }
-    ensures { Written out.old 0 Head.footText result out.new × (result ≤ Head.mostHead) }
+    requires { Head.most_head ≤ length out.old }
+    ensures { Written out.old 0 Head.foot_text result out.new × (result ≤ Head.most_head) }
 {
     let none = [0u64; 0];
     svg::put_form(out, 0, b"</g>\n</svg>\n", &none)

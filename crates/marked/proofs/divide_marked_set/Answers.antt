@@ -58,7 +58,7 @@ code_is c =
     let n = c.early_refusal-code in
     let m = c.lists_refusal-test in
     let q = c.args.cells.now in
-    late c.args.limits (lent c.before.before.before.before.before.before.before.before.before.before.before.before.before.before.before) n.result n.ensures m.result.code c.if-code-ne0.false (m.ensures.0 (all_cells q) (cell-places q))
+    late c.args.limits _ n.result n.ensures m.result.code c.if-code-ne0.false (m.ensures.0 (all_cells q) (cell-places q))
 
 pub returns-then-code-ne0 : goal.returns-then-code-ne0
 returns-then-code-ne0 c =

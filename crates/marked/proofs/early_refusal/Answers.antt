@@ -2,7 +2,8 @@
 use Prim.Native.Nat.{◌/◌}
 use mathlib.Core.Path.{◌≡◌, sym, ◌∙◌}
 use mathlib.Core.Bool.{Bool, false, ◌||◌}
-use mathlib.Core.List.{[]}
+use mathlib.Core.List.{List, []}
+use lib.IntN.{ℤ}
 use lib.ListN.{length}
 use Rattle.laws.proofs.Booleans.{neither}
 use Rattle.call.specs.Call.{counts_out, units_out}
@@ -12,20 +13,19 @@ use Rattle.call.proofs.Tests.{counts_in}
 use Rattle.marked.specs.Steps.{early_refusal}
 use Rattle.marked.proofs.Refusing.{no_chain}
 use Rattle.marked.proofs.early_refusal.Goals as goal
-use Rattle.marked.proofs.early_refusal.Goals.{After-counts_out, Else-counts_out, Else-marks_out, Else-outline_out, Else-units_out, Start}
-
-abbrev start : After-counts_out → Start
-start c = c.before.before.before.before
+use Rattle.marked.proofs.early_refusal.Goals.{After-counts_out, Else-counts_out, Else-marks_out, Else-outline_out, Else-units_out}
 
 -- ---- each test as the code made it
-abbrev counts : Start → Bool
-counts s = let r = s.args.ring.now in odd r || counts_out (length r / 2) 0
+abbrev counts : List ℤ → Bool
+counts r = odd r || counts_out (length r / 2) 0
 
-counts-are : (c : After-counts_out) → c.counts_out.result ≡ counts (start c)
+counts-are : (c : After-counts_out) → c.counts_out.result ≡ counts c.args.ring.now
 counts-are c = let r = c.args.ring.now in c.counts_out.ensures ∙ no_chain (odd r) (counts_out (length r / 2) 0)
 
-counts-no : (c : Else-counts_out) → counts (start c.before) ≡ false
-counts-no c = sym (counts-are c.before) ∙ c.if-counts_out.false
+counts-no : (c : Else-counts_out) → counts c.args.ring.now ≡ false
+counts-no c =
+    let r = c.args.ring.now in
+    sym (c.counts_out.ensures ∙ no_chain (odd r) (counts_out (length r / 2) 0)) ∙ c.if-counts_out.false
 
 units-no : (c : Else-units_out) → let a = c.args in units_out (all_points a.ring.now) [] a.size ≡ false
 units-no c = sym c.units_out.ensures ∙ c.if-units_out.false
