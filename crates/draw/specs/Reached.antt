@@ -1,4 +1,4 @@
--- The loop of `draw`: what holds between two bytes, what it writes, and how it ends. Of what was read and written no contract can speak, so the input stands
+-- The loop of `draw`: what holds between two bytes, what it writes, and how it ends. Of what the operating system reads and writes no contract can speak, so the input stands
 -- for the bytes that the loop stepped over, the latest first, and what was written for its length.
 use Rattle.std.specs.Prelude.{ℕ, ◌+◌, ◌*◌, ◌≤◌, ◌≡◌, Bool, false, cond, List, [], ◌∷◌, length, ltb, eqb, ℤ}
 use Rattle.drawing.specs.declared.State.{State}

@@ -1,5 +1,5 @@
--- The picture of a job as one definition, `pictured`, from the bytes that go in to those that come out; and what is owed of it after so many bytes. Of what was
--- written no contract can speak, so it stands for its length. Definitions only.
+-- The picture of a job as one definition, `pictured`, from the bytes that go in to those that come out; and what is owed of it after so many bytes. Of what the
+-- operating system takes no contract can speak, so it stands for its length. Definitions only.
 use Rattle.std.specs.Prelude.{ℕ, zero, suc, ◌+◌, ◌*◌, ◌/◌, ◌%◌, ◌≤◌, ◌<◌, ◌≡◌, true, false, cond, List, [], ◌++◌, length, take, ℤ, Float}
 use Rattle.text.specs.Text.{bytes}
 use Rattle.state.specs.declared.State.{State}

@@ -3,7 +3,8 @@
 //
 // What the operating system reads or writes has no contract; a reader and a writer over memory have one, and the clauses name
 // their bytes. `write_some` alone counts: it calls `write` once, and adds what was taken to the count that it is lent; so whoever
-// hands a text over twice has counted it twice, and cannot show that the count is the definition's.
+// hands a text over twice has counted it twice, and cannot show that the count is the definition's. Left to these few lines is
+// that the bytes of a block are those that `read` gave, of which the promises have the number alone.
 
 #![tactic(auto)]
 

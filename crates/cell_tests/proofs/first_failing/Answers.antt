@@ -21,7 +21,7 @@ tested : (c : After-holds) → Tested c
 tested c =
     let a = c.args in
     let p = c.requires in
-    let e = cell.cell_at a.centre a.ms a.t5 a.n p.0 p.5 p.6 _ _ c.loop-k-test.true c.next-j.ensures.0 in
+    let e = cell.cell_at a.centre a.ms a.vs a.n p.0 p.5 p.6 _ _ c.loop-k-test.true c.next-j.ensures.0 in
     sym (ap not (c.holds.ensures ∙ ap (Quads.holds (nodes_in a.nodes.now a.used)) e))
 
 pub loop-k-init : goal.loop-k-init

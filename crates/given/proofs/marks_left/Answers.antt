@@ -52,7 +52,7 @@ loop-j-preserved c =
       search rules,
       laid_more _ o.j o.edges _ o.invariant.3 (search rules)
           (c.surviving_mark-mark.ensures
-          ∙ mark-next a.t1 a.t2 a.kinds.now a.snaps.now (sought a.lead) o.j _ _ _ c.next.ensures.0 c.next-after.ensures.0
+          ∙ mark-next a.ring a.clean a.kinds.now a.snaps.now (sought a.lead) o.j _ _ _ c.next.ensures.0 c.next-after.ensures.0
           c.snap_at-p.ensures),
     )
 
@@ -60,5 +60,5 @@ pub returns : goal.returns
 returns c =
     let o = c.loop-j in
     let a = c.args in
-    let e : o.j ≡ a.t2.ring.count = omega arith in
-    subst (λ (k : ℕ). Laid (mark_left a.t1 a.t2 a.kinds.now a.snaps.now (sought a.lead)) k o.edges) e o.invariant.3
+    let e : o.j ≡ a.clean.ring.count = omega arith in
+    subst (λ (k : ℕ). Laid (mark_left a.ring a.clean a.kinds.now a.snaps.now (sought a.lead)) k o.edges) e o.invariant.3

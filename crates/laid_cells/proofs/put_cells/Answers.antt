@@ -38,10 +38,10 @@ loop-k-preserved c =
     let z = cell.cells-length a.centre (take a.n a.ms) (take a.n a.vs) l.k in (
       search rules,
       search rules,
-      cell.turn a.cells.now l.cells l.at (cells_to a.centre (take a.n a.ms) (take a.n a.t4) l.k) _ _ l.invariant.2 (omega (arith, z))
+      cell.turn a.cells.now l.cells l.at (cells_to a.centre (take a.n a.ms) (take a.n a.vs) l.k) _ _ l.invariant.2 (omega (arith, z))
           (omega (arith, z, c.requires.1)) c.put_cell.ensures
-          ∙ cell.one_more a.centre (take a.n a.t3) (take a.n a.t4) a.cells.now l.k _
-          (cell.cell-is a.centre a.t3 a.t4 a.n c.requires.0 c.requires.2 c.requires.3 l.k _ t c.next-e.ensures.0),
+          ∙ cell.one_more a.centre (take a.n a.ms) (take a.n a.vs) a.cells.now l.k _
+          (cell.cell-is a.centre a.ms a.vs a.n c.requires.0 c.requires.2 c.requires.3 l.k _ t c.next-e.ensures.0),
     )
 
 pub shape_of-cells : goal.shape_of-cells

@@ -25,7 +25,7 @@ Mid c =
     let a = c.args in
     let i = c.loop-i.i in
     c.edge_middle-m.result ≡ middle_of a.share (get_or (marks_in a.marks a.n) i Straight) (end_at a.nodes.now a.used a.vs a.n i)
-    (end_at a.nodes.now a.used a.t3 a.n (suc i))
+    (end_at a.nodes.now a.used a.vs a.n (suc i))
 
 mid : (c : After-edge_middle-m) → Mid c
 mid c =
@@ -33,11 +33,11 @@ mid c =
     let l = c.loop-i in
     let t = c.loop-i-test.true in
     let get : ℕ → Point = λ k. node_at (nodes_in a.nodes.now a.used) k in
-    let j = ap (λ (k : ℕ). get_or a.t3 k 0) c.next-j.ensures.0 ∙ turns.after a.t3 a.n l.i t in
+    let j = ap (λ (k : ℕ). get_or a.vs k 0) c.next-j.ensures.0 ∙ turns.after a.vs a.n l.i t in
     let p =
-    c.node_at-a.ensures ∙ adding.read l.invariant.1 _ (c.requires.1 l.i t) ∙ ap get (turns.here a.t3 a.n l.i t) in
+    c.node_at-a.ensures ∙ adding.read l.invariant.1 _ (c.requires.1 l.i t) ∙ ap get (turns.here a.vs a.n l.i t) in
     let q = c.node_at-b.ensures ∙ adding.read l.invariant.1 _ (c.requires.1 _ c.next-j.ensures.1) ∙ ap get j in
-    c.edge_middle-m.ensures ∙ (λ i. middle_of a.share (turns.mark a.t4 a.n l.i _ t refl i) (p i) (q i))
+    c.edge_middle-m.ensures ∙ (λ i. middle_of a.share (turns.mark a.marks a.n l.i _ t refl i) (p i) (q i))
 
 pub loop-i-init : goal.loop-i-init
 unfolding any

@@ -26,8 +26,10 @@ low k = let a = k.args in low-number a.ring.now a.chain.now a.size a.number (len
 long : (y : After-write_block) → 1024 ≤ length y.write_block.new.out
 long y =
     let a = y.args in
-    let e = as_long a.ring.now a.chain.now a.size a.number a.out.now (passed y.before.before) y.write_block.new.out y.write_block.ensures in
-    omega (arith, e, space y.before.before)
+    let z : y.refusal-code.result ≡ 0 = omega arith in
+    let p = sym y.refusal-code.ensures ∙ z in
+    let e = as_long a.ring.now a.chain.now a.size a.number a.out.now p y.write_block.new.out y.write_block.ensures in
+    omega (arith, e, room a.ring.now a.chain.now a.size a.number (length a.out.now) p)
 
 pub returns-then-code-gt0 : goal.returns-then-code-gt0
 returns-then-code-gt0 c =
