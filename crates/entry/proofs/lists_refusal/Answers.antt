@@ -12,7 +12,6 @@ use Rattle.entry.proofs.lists_refusal.Goals.{Else-counts_over}
 
 pub returns-then-counts_over : goal.returns-then-counts_over
 returns-then-counts_over c =
-    let k = c.before in
     let a = c.args in
     let z = sym c.counts_over.ensures ∙ c.if-counts_over.true in (
       λ cells e. over a.limits a.own a.nodes.now a.node_count a.rims.now cells a.cell_count a.cell_places e z,

@@ -10,7 +10,7 @@ use Rattle.divider.proofs.Calling.{cell-places}
 use Rattle.marked.proofs.Refusing.{counts_passed, early, late}
 use Rattle.marked.proofs.Calling.{call-refused, tested, can-divide, call-divided, promised}
 use Rattle.marked.proofs.divide_marked_set.Goals as goal
-use Rattle.marked.proofs.divide_marked_set.Goals.{After-early_refusal-code, After-struct_known-1, Else-code-ne0, Start}
+use Rattle.marked.proofs.divide_marked_set.Goals.{After-struct_known-1, Else-code-ne0, Start}
 
 -- what was lent
 abbrev lent : Start → LentMarked
@@ -27,21 +27,33 @@ lent s =
       cell_count_of = a.cell_count;
     }
 
-abbrev begin : After-early_refusal-code → Start
-begin c = c.before.before.before.before.before.before.before
-
 -- ---- all but the lists passed
 passed : (c : Else-code-ne0) → let r = c.args.ring.now in (3 ≤ length r / 2) × (length r / 2 ≤ 60)
 passed c =
     let n = c.early_refusal-code in
-    counts_passed c.args.limits (lent c.before.before.before.before.before.before.before.before) n.result n.ensures c.if-code-ne0.false
+    counts_passed c.args.limits (record {
+      ring = c.args.ring.now;
+      marking = record { kinds = c.args.kinds.now; snaps = c.args.snaps.now; outline = c.args.outline.now; loops = c.args.loops.now };
+      size = c.args.size;
+      nodes = c.args.nodes.now;
+      node_count_of = c.args.node_count;
+      rims = c.args.rims.now;
+      cells = c.args.cells.now;
+      cell_count_of = c.args.cell_count;
+    }) n.result n.ensures c.if-code-ne0.false
 
 -- ---- the lists were tested: the number of the whole call
-abbrev onward : After-struct_known-1 → Else-code-ne0
-onward c = c.before.before.before.before.before.before.before.before.before
-
-code_is : (c : After-struct_known-1) → let s = begin (onward c).before in
-    c.lists_refusal-test.result.code ≡ first_of (marked_tests s.args.limits (lent s))
+code_is : (c : After-struct_known-1) →
+    c.lists_refusal-test.result.code ≡ first_of (marked_tests c.args.limits (record {
+      ring = c.args.ring.now;
+      marking = record { kinds = c.args.kinds.now; snaps = c.args.snaps.now; outline = c.args.outline.now; loops = c.args.loops.now };
+      size = c.args.size;
+      nodes = c.args.nodes.now;
+      node_count_of = c.args.node_count;
+      rims = c.args.rims.now;
+      cells = c.args.cells.now;
+      cell_count_of = c.args.cell_count;
+    }))
 code_is c =
     let n = c.early_refusal-code in
     let m = c.lists_refusal-test in
@@ -65,27 +77,26 @@ lists_refusal-test-requires c =
 
 pub returns-then-test-ne0 : goal.returns-then-test-ne0
 returns-then-test-ne0 c =
-    let k = c.before.before in
-    let s = begin (onward k).before in
+    let s = (goal.at.returns-then-test-ne0 c).Start in
     rw (ap values c.refused-then-test-ne0.ensures)
-    (promised s.args.limits (lent s) _ _ _ _ (call-refused s.args.limits (lent s) _ (code_is (goal.at.returns-then-test-ne0 c).After-struct_known-1) c.if-test-ne0.true))
+    (promised c.args.limits (lent s) _ _ _ _ (call-refused c.args.limits (lent s) _ (code_is (goal.at.returns-then-test-ne0 c).After-struct_known-1) c.if-test-ne0.true))
 
 pub marked_ring-marked-requires : goal.marked_ring-marked-requires
 marked_ring-marked-requires c =
-    let s = begin (onward c.before.before).before in
-    tested s.args.limits (lent s) _ (code_is (goal.at.marked_ring-marked-requires c).After-struct_known-1) c.if-test-ne0.false
+    let s = (goal.at.marked_ring-marked-requires c).Start in
+    tested c.args.limits (lent s) _ (code_is (goal.at.marked_ring-marked-requires c).After-struct_known-1) c.if-test-ne0.false
 
 pub divide_core-requires : goal.divide_core-requires
 divide_core-requires c =
-    let s = begin (onward c.before.before.before.before.before.before.before.before).before in
+    let s = (goal.at.divide_core-requires c).Start in
     let m = c.marked_ring-marked in (
-      can-divide s.args.limits (lent s) _ (code_is (goal.at.divide_core-requires c).After-struct_known-1) c.if-test-ne0.false m.result m.ensures,
+      can-divide c.args.limits (lent s) _ (code_is (goal.at.divide_core-requires c).After-struct_known-1) c.if-test-ne0.false m.result m.ensures,
       c.lists_refusal-test.ensures.2 c.if-test-ne0.false,
     )
 
 pub returns : goal.returns
 returns c =
-    let s = begin (onward c.before.before.before.before.before.before.before.before.before.before.before.before.before.before.before).before in
+    let s = (goal.at.returns c).Start in
     let m = c.marked_ring-marked in
-    promised s.args.limits (lent s) _ _ _ _
-    (call-divided s.args.limits (lent s) _ (code_is (goal.at.returns c).After-struct_known-1) c.if-test-ne0.false m.result m.ensures _ _ _ _ c.divide_core.ensures)
+    promised c.args.limits (lent s) _ _ _ _
+    (call-divided c.args.limits (lent s) _ (code_is (goal.at.returns c).After-struct_known-1) c.if-test-ne0.false m.result m.ensures _ _ _ _ c.divide_core.ensures)
