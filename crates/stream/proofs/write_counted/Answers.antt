@@ -1,4 +1,4 @@
-use Rattle.std.proofs.Common.{ℕ, ◌+◌, ◌-◌, ◌≤◌, length, arith, rules}
+use Rattle.std.proofs.Common.{arith, rules}
 use Rattle.stream.proofs.Writing.{more-written}
 use Rattle.stream.proofs.write_counted.Goals as goal
 

@@ -1,4 +1,4 @@
-use Rattle.std.proofs.Common.{◌-◌, ◌∙◌, rules}
+use Rattle.std.proofs.Common.{◌∙◌, rules}
 use Rattle.words.proofs.read_bytes.Goals as goal
 
 pub loop-i-preserved : goal.loop-i-preserved

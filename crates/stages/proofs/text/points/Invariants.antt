@@ -5,8 +5,8 @@ use Rattle.stages.proofs.text.points.Given as goal
 
 abbrev pub invariant-loop-i : goal.invariant-loop-i
 invariant-loop-i g l =
-    (i ≤ l.n) × (l.n ≤ 60) × OnSheetRing l.ring
+    (l.i ≤ l.n) × (l.n ≤ 60) × OnSheetRing l.ring
 
 abbrev pub decreases-loop-i : goal.decreases-loop-i
 decreases-loop-i g l =
-    l.n - i
+    l.n - l.i
