@@ -2,13 +2,10 @@
 -- block's number is below 65,536, since two bytes hold it.
 use Prim.Native.Nat.{ℕ, ◌+◌, ◌*◌, ◌%◌, ◌≤◌, ◌<◌}
 use mathlib.Core.Path.{◌≡◌, refl, sym, subst}
-use mathlib.Core.Logic.{◌⊎◌, inl, inr}
 use mathlib.Core.List.{List}
 use native.Mathlib.Omega.{arith}
 use native.Mathlib.Decide.{dec_le}
-use denote.Enum.Declared.{tag_of}
 use borrow.Author.Tests.{eq-eqb, ne_eqb}
-use Rattle.blocks.specs.contracts.Block.{the_type}
 use Rattle.blocks.proofs.Accepted.{allowed, refused_it, reads_it}
 use Rattle.blocks.proofs.Counts.{few-points, all-places}
 use Rattle.blocks.specs.declared.Reading.{Reading}
@@ -19,24 +16,19 @@ use Rattle.blocks.specs.Blocks.{refusal, refused_block, accepted_block, read_blo
 use Rattle.step.specs.Answered.{Refusal, NoChain, NoRing, Answered}
 use Rattle.job.specs.Run.{Bytes}
 
--- an answer that is none of the two others
-none_left : {A : Type 0} (x : ℕ) (k m : ℕ) → (x ≡ k → ⊥) → (x ≡ m → ⊥) → (x ≡ k) ⊎ (x ≡ m) → A
-none_left x k m f g (inl e) = absurd (f e)
-none_left x k m f g (inr e) = absurd (g e)
-
-pub never_refused : (a : Block) → (tag_of the_type a ≡ 0) ⊎ (tag_of the_type a ≡ 1) → Refusal a → ⊥
+pub never_refused : (a : Block) → ((code n : ℕ) → a ≡ Refused code n → ⊥) → Refusal a → ⊥
 never_refused (Ring count size) t h = h
 never_refused (Chain count) t h = h
-never_refused (Refused code n) t h = none_left 2 0 1 (λ e. omega arith) (λ e. omega arith) t
+never_refused (Refused code n) t h = t code n refl
 
-pub ring-refused : (a : Block) → NoChain a → (tag_of the_type a ≡ 1) ⊎ (tag_of the_type a ≡ 2) → Refusal a
-ring-refused (Ring count size) h t = none_left 0 1 2 (λ e. omega arith) (λ e. omega arith) t
+pub ring-refused : (a : Block) → NoChain a → ((count size : ℕ) → a ≡ Ring count size → ⊥) → Refusal a
+ring-refused (Ring count size) h t = absurd (t count size refl)
 ring-refused (Chain count) h t = h
 ring-refused (Refused code n) h t = tt
 
-pub chain-refused : (a : Block) → NoRing a → (tag_of the_type a ≡ 0) ⊎ (tag_of the_type a ≡ 2) → Refusal a
+pub chain-refused : (a : Block) → NoRing a → ((count : ℕ) → a ≡ Chain count → ⊥) → Refusal a
 chain-refused (Ring count size) h t = h
-chain-refused (Chain count) h t = none_left 1 0 2 (λ e. omega arith) (λ e. omega arith) t
+chain-refused (Chain count) h t = absurd (t count refl)
 chain-refused (Refused code n) h t = tt
 
 pub chain-accepted : (a : Block) (count : ℕ) → a ≡ Chain count → Refusal a → ⊥

@@ -7,7 +7,7 @@ use native.Mathlib.Omega.{arith}
 use Rattle.step.proofs.chain_block.Goals as goal
 
 pub refuse-requires : goal.refuse-requires
-refuse-requires c = chain-refused c.args.tail (c.requires.2.odd c.requires.3) c.in_default.keys2
+refuse-requires c = chain-refused c.args.tail (c.requires.2.odd c.requires.3) c.in_default.not-Chain
 
 pub returns-in_default : goal.returns-in_default
 returns-in_default c =
@@ -17,17 +17,16 @@ returns-in_default c =
 
 pub divide_ring-requires : goal.divide_ring-requires
 divide_ring-requires c =
-    let q = c.tail-1.given in (
+    (
       c.requires.0,
       c.requires.1,
-      c.requires.2.number (chain-accepted c.args.tail q.0.0 q.1),
-      omega (arith, c.requires.2.few, ap points q.1),
+      c.requires.2.number (chain-accepted c.args.tail c.in-Chain.count c.in-Chain.is),
+      omega (arith, c.requires.2.few, ap points c.in-Chain.is),
       c.requires.2.places,
     )
 
 pub returns : goal.returns
 returns c =
     let a = c.args in
-    let q = c.tail-1.given in
     let d = c.divide_ring in
-    chain-divides a.s a.ring.now a.nodes.now a.rims.now a.points.now a.tail q.0.0 q.1 a.ring.now _ _ _ d.result d.ensures
+    chain-divides a.s a.ring.now a.nodes.now a.rims.now a.points.now a.tail c.in-Chain.count c.in-Chain.is a.ring.now _ _ _ d.result d.ensures

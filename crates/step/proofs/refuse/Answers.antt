@@ -4,7 +4,7 @@ use Rattle.step.proofs.Stepping.{refuses}
 use Rattle.step.proofs.refuse.Goals as goal
 
 pub returns-in_default : goal.returns-in_default
-returns-in_default c = absurd (never_refused c.args.block c.in_default.keys2 c.requires)
+returns-in_default c = absurd (never_refused c.args.block c.in_default.not-Refused c.requires)
 
 pub returns : goal.returns
 returns c =

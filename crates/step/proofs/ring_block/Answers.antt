@@ -4,7 +4,7 @@ use Rattle.step.proofs.Stepping.{ring-waits}
 use Rattle.step.proofs.ring_block.Goals as goal
 
 pub refuse-requires : goal.refuse-requires
-refuse-requires c = ring-refused c.args.head (c.requires.1.even c.requires.2) c.in_default.keys2
+refuse-requires c = ring-refused c.args.head (c.requires.1.even c.requires.2) c.in_default.not-Ring
 
 pub returns-in_default : goal.returns-in_default
 returns-in_default c =
