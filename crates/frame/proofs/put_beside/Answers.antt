@@ -23,12 +23,12 @@ unfolding bytes
 put_form-requires c =
     let a = c.args in
     room_as (beside-some a.f a.i _ _ _ c.less.ensures.0
-    (c.less.ensures.0 ∙ northward-at a.f a.i _ c.multiple_to.ensures) c.less-2.ensures.0 c.if-y-f.false) a.at _ c.requires.2
+    (c.less-y.ensures.0 ∙ northward-at a.f a.i _ c.multiple_to.ensures) c.less-2.ensures.0 c.if-y-f.false) a.at _ c.requires.2
 
 pub returns : goal.returns
 unfolding bytes
 returns c =
     let a = c.args in
     written_as (beside-some a.f a.i _ _ _ c.less.ensures.0
-    (c.less.ensures.0 ∙ northward-at a.f a.i _ c.multiple_to.ensures) c.less-2.ensures.0 c.if-y-f.false)
+    (c.less-y.ensures.0 ∙ northward-at a.f a.i _ c.multiple_to.ensures) c.less-2.ensures.0 c.if-y-f.false)
     c.put_form.ensures
