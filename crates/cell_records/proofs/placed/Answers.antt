@@ -15,8 +15,8 @@ cell_reserve-count-requires c = c.requires.1 (sym (ap (λ (v : Row). v.code) c.n
 counted : (c : Joined-v-eq8) → let a = c.args in c.if-v-eq8.count ≡ new_cells c.new-v.result (cell_reserve a.limits a.own)
 counted c =
     elim c.if-v-eq8.branch [
-      then-v-eq8 w ↦ w.count-is ∙ w.cell_reserve-count.ensures ∙ sym (rw (eq-eqb _ _ w.if-v-eq8.true))
-    | else-v-eq8 w ↦ w.count-is ∙ sym (rw (ne_eqb _ _ w.if-v-eq8.false))
+      | then-v-eq8 w ↦ w.count-is ∙ w.cell_reserve-count.ensures ∙ sym (rw (eq-eqb _ _ w.if-v-eq8.true))
+      | else-v-eq8 w ↦ w.count-is ∙ sym (rw (ne_eqb _ _ w.if-v-eq8.false))
     ]
 
 pub overflow_add-v : goal.overflow_add-v

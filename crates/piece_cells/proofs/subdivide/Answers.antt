@@ -16,14 +16,13 @@ returns-then-t c =
     two.if_far c.requires.0 c.args.cells.now c.args.sides c.args.rims.now c.attempt-t.ensures c.if-t-ring.false c.if-t.true
 
 pub attempt-requires : goal.attempt-requires
-attempt-requires c =
-    (
-      two.try-second c.requires.0 c.args.cells.now c.args.sides c.args.rims.now c.attempt-t.ensures c.if-t-ring.false c.if-t.false,
-      omega (arith, c.requires.1, c.attempt-t.auto.cells),
-      two.held_first c.requires.0 c.args.cells.now c.args.sides c.args.rims.now c.attempt-t.ensures c.requires.2,
-      two.rims-second c.requires.0 c.args.cells.now c.args.sides c.args.rims.now c.attempt-t.ensures c.if-t-ring.false c.if-t.false
-          c.requires.3,
-    )
+attempt-requires c = (
+  two.try-second c.requires.0 c.args.cells.now c.args.sides c.args.rims.now c.attempt-t.ensures c.if-t-ring.false c.if-t.false,
+  omega (arith, c.requires.1, c.attempt-t.auto.cells),
+  two.held_first c.requires.0 c.args.cells.now c.args.sides c.args.rims.now c.attempt-t.ensures c.requires.2,
+  two.rims-second c.requires.0 c.args.cells.now c.args.sides c.args.rims.now c.attempt-t.ensures c.if-t-ring.false c.if-t.false
+      c.requires.3,
+)
 
 pub returns : goal.returns
 returns c =

@@ -76,13 +76,12 @@ pub slice_bounds-subdivide-start : goal.slice_bounds-subdivide-start
 slice_bounds-subdivide-start c = omega (arith, room (goal.at.slice_bounds-subdivide-start c).After-piece_sides-sides)
 
 pub subdivide-t-requires : goal.subdivide-t-requires
-subdivide-t-requires c =
-    (
-      course.can c.requires.0 _ c.loop-i.invariant.2 (read (goal.at.subdivide-t-requires c).After-piece_sides-sides),
-      simp (length-take, length-drop) (omega (arith, room (goal.at.subdivide-t-requires c).After-piece_sides-sides)),
-      course.held c.requires.0 _ c.loop-i.invariant.2 c.requires.2,
-      course.rim-room c.requires.0 _ c.loop-i.invariant.2 (read (goal.at.subdivide-t-requires c).After-piece_sides-sides) c.requires.1,
-    )
+subdivide-t-requires c = (
+  course.can c.requires.0 _ c.loop-i.invariant.2 (read (goal.at.subdivide-t-requires c).After-piece_sides-sides),
+  simp (length-take, length-drop) (omega (arith, room (goal.at.subdivide-t-requires c).After-piece_sides-sides)),
+  course.held c.requires.0 _ c.loop-i.invariant.2 c.requires.2,
+  course.rim-room c.requires.0 _ c.loop-i.invariant.2 (read (goal.at.subdivide-t-requires c).After-piece_sides-sides) c.requires.1,
+)
 
 pub overflow_mul-window : goal.overflow_mul-window
 overflow_mul-window c = omega (arith, low c)

@@ -23,8 +23,8 @@ loop-i-preserved c =
     let l = c.loop-i in (
       search rules,
       elim c.if-on-i.branch [
-        then-on-i w ↦ w.rims-is ∙ set_on _ _ _ l.rims l.i l.invariant.1 w.if-on-i.true
-      | else-on-i w ↦ w.rims-is ∙ set-off _ _ _ l.rims l.i l.invariant.1 w.if-on-i.false
+        | then-on-i w ↦ w.rims-is ∙ set_on _ _ _ l.rims l.i l.invariant.1 w.if-on-i.true
+        | else-on-i w ↦ w.rims-is ∙ set-off _ _ _ l.rims l.i l.invariant.1 w.if-on-i.false
       ],
     )
 

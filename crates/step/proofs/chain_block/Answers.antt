@@ -16,14 +16,13 @@ returns-in_default c =
     (c.refuse.ensures a.ring.now a.points.now a.nodes.now a.rims.now)
 
 pub divide_ring-requires : goal.divide_ring-requires
-divide_ring-requires c =
-    (
-      c.requires.0,
-      c.requires.1,
-      c.requires.2.number (chain-accepted c.args.tail c.in-Chain.count c.in-Chain.is),
-      omega (arith, c.requires.2.few, ap points c.in-Chain.is),
-      c.requires.2.places,
-    )
+divide_ring-requires c = (
+  c.requires.0,
+  c.requires.1,
+  c.requires.2.number (chain-accepted c.args.tail c.in-Chain.count c.in-Chain.is),
+  omega (arith, c.requires.2.few, ap points c.in-Chain.is),
+  c.requires.2.places,
+)
 
 pub returns : goal.returns
 returns c =
