@@ -4,7 +4,7 @@
 usage: python3 tools/respell.py         in the repository: rewrites crates/, README.md and docs/ in place
        python3 tools/respell.py --map   prints the map, old and new, and writes nothing
 
-It is run once, over what /opt/rattle/port/port.py made of commit c5c2bed.
+It is run once, over what the kit's port.py made of commit c5c2bed.
 
 - A definition, a field and a constructor are words: every hump and every dash becomes an underscore (`nodeCount` and
   `node-count` become `node_count`).
