@@ -1,22 +1,23 @@
 // Arclength: the lengths along a chain, in mm, and the point of it at a given length.
 //
-// It stands below the chain, whose kept stretches have their snap points at half their length. A chain is held as a ring is.
+// It stands below the chain, whose kept stretches have their snap points at half their length. A chain is a slice of its points.
 
 #![tactic(auto)]
 
-ghost use Rattle.std.specs.Prelude.{◌≡◌, cond, suc, ◌-◌, ◌≤◌, take, get_or};
+ghost use Rattle.std.specs.Prelude.{◌≡◌, cond, suc, ◌-◌, ◌≤◌, length, take, get_or, position};
 ghost use Rattle.std.specs.Float.{nan};
 ghost use Rattle.laws.specs.Double.{nat, ◌-f◌, ◌/f◌, ◌≤f◌};
 ghost use Rattle.laws.specs.Double as Double;
 ghost use Rattle.laws.specs.Bounded.{first};
 ghost use Rattle.laws.specs.Table.{tab};
 ghost use Rattle.vector.specs.Plane.{in_mm, lerp};
-ghost use Rattle.vector.specs.Rings.{most_points, points_of, OnSheetRing};
+ghost use Rattle.vector.specs.Rings.{OnSheetPoints};
 ghost use Rattle.arclength.specs.Arclength as Arclength;
 
-use vector::{GridPoint, MOST_POINTS, Point, Ring};
+use vector::{GridPoint, MOST_POINTS, Point};
 
 // The length of the step to each point of a chain, and of the chain up to it.
+// Kept: two arrays, since a search for a length goes through the second alone.
 #[derive(Clone, Copy)]
 pub struct Steps {
     pub step: [f64; MOST_POINTS],
@@ -24,36 +25,36 @@ pub struct Steps {
 }
 
 // Every step of the chain is measured once.
-pub fn measure(chain: Ring) -> Steps
-    requires { OnSheetRing chain × (1 ≤ chain.count) }
-    ensures { (take chain.count result.step ≡ tab (Arclength.step_to (points_of chain)) chain.count)
-        × (take chain.count result.arc ≡ tab (Arclength.arc (points_of chain)) chain.count) }
+// Kept: each turn reads the point and the length before its own, so that it counts places.
+pub fn measure(chain: &[GridPoint]) -> Steps
+    requires { OnSheetPoints chain.now × (1 ≤ length chain.now) }
+    ensures { (take (length chain.now) result.step ≡ tab (Arclength.step_to chain.now) (length chain.now))
+        × (take (length chain.now) result.arc ≡ tab (Arclength.arc chain.now) (length chain.now)) }
 {
-    let n = chain.count;
     let mut step = [0.0; MOST_POINTS];
     let mut arc = [0.0; MOST_POINTS];
-    for i in 1..n {
-        let d = root::grid_dist(chain.points[i], chain.points[i - 1]);
+    for i in 1..chain.len() {
+        let d = root::grid_dist(chain[i], chain[i - 1]);
         step[i] = d;
         arc[i] = arc[i - 1] + d;
     }
-    Steps {
-        step: step,
-        arc: arc,
-    }
+    Steps { step, arc }
+}
+
+// The first of these lengths that is s or beyond it.
+fn reached(ends: &[f64], s: f64) -> Option<usize>
+    ensures { result ≡ position (λ e. s ≤f e) ends.now }
+{
+    ends.iter().position(|end| s <= *end)
 }
 
 // The first step of the chain that ends at the length s or beyond it, or the last step.
-fn step_at(arc: &[f64; MOST_POINTS], n: usize, s: f64) -> usize
-    requires { (2 ≤ n) × (n ≤ most_points) }
-    ensures { (result ≡ first (λ i. s ≤f get_or arc.now (suc i) nan) (n - 2) 0) × (result ≤ n - 2) }
+fn step_at(arc: &[f64], s: f64) -> usize
+    requires { 2 ≤ length arc.now }
+    ensures { (result ≡ first (λ i. s ≤f get_or arc.now (suc i) nan) (length arc.now - 2) 0) × (result ≤ length arc.now - 2) }
 {
-    for i in 0..n - 2 {
-        if s <= arc[i + 1] {
-            return i;
-        }
-    }
-    n - 2
+    let ends = &arc[1..arc.len() - 1];
+    reached(ends, s).unwrap_or(ends.len())
 }
 
 // The point at the length s on the step from a, at the length low, to b, at the length high.
@@ -68,11 +69,11 @@ fn between(a: GridPoint, low: f64, b: GridPoint, high: f64, s: f64) -> Point
     Point::new(a).lerp(Point::new(b), t)
 }
 
-// The point of the chain at the length s.
-pub fn point_at_arclength(chain: Ring, arc: &[f64; MOST_POINTS], s: f64) -> Point
-    requires { OnSheetRing chain × (2 ≤ chain.count) × (take chain.count arc.now ≡ tab (Arclength.arc (points_of chain)) chain.count) }
-    ensures { result ≡ Arclength.point_at_arclength (points_of chain) s }
+// The point of the chain at the length s, by the lengths up to its points.
+pub fn point_at_arclength(chain: &[GridPoint], arc: &[f64], s: f64) -> Point
+    requires { (2 ≤ length chain.now) × (arc.now ≡ tab (Arclength.arc chain.now) (length chain.now)) }
+    ensures { result ≡ Arclength.point_at_arclength chain.now s }
 {
-    let i = step_at(arc, chain.count, s);
-    between(chain.points[i], arc[i], chain.points[i + 1], arc[i + 1], s)
+    let i = step_at(arc, s);
+    between(chain[i], arc[i], chain[i + 1], arc[i + 1], s)
 }

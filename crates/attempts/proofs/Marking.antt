@@ -3,17 +3,17 @@
 use Prim.Native.Nat.{ℕ, zero, suc, ◌+◌, ◌-◌, ◌≤◌, ◌<◌}
 use native.Mathlib.Decide.{dec_lt, ℕ_discrete}
 use native.Mathlib.Omega.{arith}
-use mathlib.Core.Path.{◌≡◌, refl, sym, ap, ◌∙◌, subst}
-use mathlib.Core.Bool.{Bool, true, false, ◌&&◌, ◌||◌, not, cond}
+use mathlib.Core.Path.{◌≡◌, refl, sym, ap, ◌∙◌}
+use mathlib.Core.Bool.{Bool, true, false, ◌&&◌, ◌||◌, cond}
 use mathlib.Core.List.{List, [], ◌∷◌, ◌++◌}
 use borrow.Author.Tests.{eq-eqb, ne_eqb}
 use lib.ListN.{length, get_or, set, take, replicate, get_or-replicate}
 use lib.Seq.{get_or-set_same, get_or-set_other, get_or-take}
-use lib.Dec.{eqb, ltb}
+use lib.Dec.{eqb}
 use Rattle.laws.specs.Bounded.{any}
 use Rattle.laws.specs.Table.{tab}
 use Rattle.laws.proofs.Search.{any_ext}
-use Rattle.cells.specs.Asks.{Ask, ask, as_corner, as_ring_middle, as_cut_middle, as_centre, as_middle, on_rim_of, asks_for}
+use Rattle.cells.specs.Asks.{Ask, ask, as_corner, as_centre, as_middle, on_rim_of, asks_for}
 use Rattle.cells.specs.Rims.{on_rim_at, rim_at, rims_by}
 use Rattle.cells.specs.Flat.{side_at}
 use Rattle.rim_marks.specs.Marking.{cleared, set_at, rim_marks}

@@ -7,7 +7,8 @@ use native.Mathlib.Nat.{mod-lt, le_refl}
 use native.Mathlib.Omega.{arith}
 use mathlib.Core.Bool.{Bool, not}
 use lib.ListN.{length, get_or, take}
-use lib.Seq.{get_or-take, length-take-le}
+use lib.Seq.{get_or-take, length-take-le, take_all}
+use Rattle.std.specs.Prelude.{Option}
 use lib.Ieee.{Float}
 use Rattle.laws.specs.Bounded.{any, first}
 use Rattle.laws.specs.Double.{nat, ◌+f◌, ◌/f◌}
@@ -15,9 +16,8 @@ use Rattle.vector.specs.declared.GridPoint.{GridPoint}
 use Rattle.vector.specs.declared.Point.{Point}
 use Rattle.vector.specs.Grid.{origin}
 use Rattle.vector.specs.Plane.{in_mm}
-use Rattle.vector.specs.Rings.{points_of}
-use Rattle.vector.proofs.Rings.{room}
-use Rattle.marks.specs.declared.MarkedRing.{MarkedRing}
+use Rattle.marks.specs.declared.Edge.{Edge}
+use Rattle.marks.specs.Part.{Part}
 use Rattle.marks.specs.declared.EdgeMark.{EdgeMark}
 use Rattle.marks.specs.declared.EdgeMark.TheVariants.{Straight}
 use Rattle.nodes.specs.declared.Placed.{Placed}
@@ -30,12 +30,13 @@ use Rattle.cells.specs.declared.Tried.{Tried}
 use Rattle.quads.specs.Quads.{too_far, edge_middle, total, mean, holds, cells_to, no_cell}
 use Rattle.cells.specs.Cells.{Attempt, attempt}
 use Rattle.cells.specs.Stages.{mark_at}
-use Rattle.marks.specs.Edges.{marks_in, part_in}
+use Rattle.marks.specs.Edges.{marks_in}
 use Rattle.cells.specs.Asks.{Ask, asks_for, attempt_asks}
 use Rattle.cells.specs.Rims.{rims_by}
 use Rattle.cells.specs.Flat.{side_at, attempt_in, attempt_asks_in, tried_of, CanTry}
 use Rattle.piece_nodes.specs.Adding.{corner_at, CanAdd, Adds, end_at, middle_at, far_at}
-use Rattle.quads.specs.Flat.{ListedTo, over_cells}
+use Rattle.quads.specs.Flat.{ListedTo, over_cells, found}
+use Rattle.quads.proofs.CellList.{cells-length}
 use Rattle.cells.proofs.Ranges.{corner-ranged, middle-ranged, mean-ranged, edge_by}
 use Rattle.piece_nodes.proofs.Adding as adding
 use Rattle.quads.proofs.Turns as turns
@@ -87,128 +88,147 @@ same-asks : (share : Float) (ns : List Point) (ps : List GridPoint) (e : ℕ →
 unfolding attempt_asks
 same-asks share ns ps e o = refl
 
+-- a piece of the points ps, its edges marked by es
+abbrev part : List GridPoint → List Edge → Part
+part ps es = record { points = ps; edges = marks_in es (length ps) }
+
 -- its stages, over what the arrays and the lent list hold
-module _ (share : Float) (l : List Float) (u : ℕ) (piece : MarkedRing) where
+module _ (share : Float) (l : List Float) (u : ℕ) (ps : List GridPoint) (es : List Edge) where
   abbrev Vs : Added
-  Vs = add_nodes (nodes_in l u) (corner_at piece.ring) piece.ring.count
+  Vs = add_nodes (nodes_in l u) (corner_at ps) (length ps)
 
   abbrev end : ℕ → Point
-  end i = node_at Vs.nodes (get_or Vs.numbers (i % piece.ring.count) 0)
+  end i = node_at Vs.nodes (get_or Vs.numbers (i % (length ps)) 0)
 
   abbrev Ms : Added
-  Ms = add_nodes Vs.nodes (λ i. edge_middle share (get_or (marks_in piece.edges piece.ring.count) i Straight) (end i) (end (suc i))) piece.ring.count
+  Ms = add_nodes Vs.nodes (λ i. edge_middle share (get_or (marks_in es (length ps)) i Straight) (end i) (end (suc i))) (length ps)
 
   abbrev A : Attempt
-  A = try_with share (nodes_in l u) (points_of piece.ring) (mark_at (part_in piece)) piece.ring.count
+  A = try_with share (nodes_in l u) ps (mark_at (part ps es)) (length ps)
 
   vs-ms : length Vs.nodes ≤ length Ms.nodes
   vs-ms =
-      (add_nodes-grown {P = Anything} Vs.nodes (λ i. edge_middle share (get_or (marks_in piece.edges piece.ring.count) i Straight) (end i) (end (suc i)))
-      piece.ring.count (λ i h. tt)).longer
+      (add_nodes-grown {P = Anything} Vs.nodes (λ i. edge_middle share (get_or (marks_in es (length ps)) i Straight) (end i) (end (suc i)))
+      (length ps) (λ i h. tt)).longer
 
   ms-all : length Ms.nodes ≤ length A.nodes
   unfolding add_nodes
-  ms-all = (add_node-grown {P = Anything} Ms.nodes (mean end piece.ring.count) tt).longer
+  ms-all = (add_node-grown {P = Anything} Ms.nodes (mean end (length ps)) tt).longer
 
-module _ {share : Float} {l : List Float} {u : ℕ} {piece : MarkedRing} (f : CanTry share l u piece) where
-  corners : length (points_of piece.ring) ≡ piece.ring.count
-  corners = length-take-le piece.ring.count piece.ring.points (room piece.ring f.sheet)
+module _ {share : Float} {l : List Float} {u : ℕ} {ps : List GridPoint} (es : List Edge) (f : CanTry share l u (part ps es)) where
+  try_is : A share l u ps es ≡ attempt_in share l u (part ps es)
+  try_is = same_try share (nodes_in l u) ps (mark_at (part ps es))
 
-  try_is : A share l u piece ≡ attempt_in share l u piece
-  try_is =
-      ap (try_with share (nodes_in l u) (points_of piece.ring) (mark_at (part_in piece))) (sym corners)
-      ∙ same_try share (nodes_in l u) (points_of piece.ring) (mark_at (part_in piece))
-
-  all_fit : length (A share l u piece).nodes ≤ most_places
+  all_fit : length (A share l u ps es).nodes ≤ most_places
   all_fit = omega (arith, ap (λ (t : Attempt). length t.nodes) try_is, f.fits)
 
-  all_room : length (A share l u piece).nodes * 2 ≤ length l
+  all_room : length (A share l u ps es).nodes * 2 ≤ length l
   all_room = omega (arith, ap (λ (t : Attempt). length t.nodes) try_is, f.room)
 
-  pub add-corners : CanAdd l u (corner_at piece.ring) piece.ring.count
+  pub add-corners : CanAdd l u (corner_at ps) (length ps)
   add-corners =
-      let a = vs-ms share l u piece in
-      let b = ms-all share l u piece in
+      let a = vs-ms share l u ps es in
+      let b = ms-all share l u ps es in
       record {
         usable = f.usable;
-        some = f.some;
-        few = f.sheet.count;
-        ranged = λ j h. corner-ranged (get_or (points_of piece.ring) j origin) (f.fair.corner j (omega (arith, corners)));
+        some = f.fair.some;
+        few = f.fair.few;
+        ranged = λ j h. corner-ranged (get_or ps j origin) (f.fair.corner j h);
         fits = omega (arith, all_fit, a, b);
         room = omega (arith, all_room, a, b);
       }
 
-  -- the corners are added: m with v nodes, their numbers in vs
-  module _ {m : List Float} {v : ℕ} {vs : List ℕ} (s : Adds l u (corner_at piece.ring) piece.ring.count m v vs) where
+  -- the corners are added: m with v nodes, their numbers in the list vs, of which ks is the front
+  module _ {m : List Float} {v : ℕ} {vs ks : List ℕ} (s : Adds l u (corner_at ps) (length ps) m v vs) (k : ks ≡ take (length ps) vs) where
     after-corners : Usable m v
-    after-corners = adding.usable add-corners s (le_refl piece.ring.count)
+    after-corners = adding.usable add-corners s (le_refl (length ps))
 
-    end-ranged : (i : ℕ) → InRange (end_at m v vs piece.ring.count i)
+    pub many : length ks ≡ length ps
+    many = ap length k ∙ length-take-le (length ps) vs (omega (arith, s.long, f.fair.few))
+
+    pub ends : length ps ≡ length ks
+    ends = sym many
+
+    ks-is : ks ≡ (Vs share l u ps es).numbers
+    ks-is = k ∙ s.numbers
+
+    pub listed : ListedTo v ks (length ks)
+    listed j h =
+        let g : j < length ps = omega (arith, h, many) in
+        subst (λ (i : ℕ). i < v) (sym (ap (λ (xs : List ℕ). get_or xs j 0) k ∙ get_or-take (length ps) vs j 0 g)) (adding.listed s j g)
+
+    end-ranged : (i : ℕ) → InRange (end_at m v ks (length ks) i)
     end-ranged i =
-        let h = mod-lt i f.some in
-        let k : get_or (take piece.ring.count vs) (i % piece.ring.count) 0 < v =
-        subst (λ (k : ℕ). k < v) (sym (get_or-take piece.ring.count vs (i % piece.ring.count) 0 h)) (adding.listed s (i % piece.ring.count) h) in
-        subst InRange (sym (node_in m v (get_or (take piece.ring.count vs) (i % piece.ring.count) 0) k))
-        (after-corners.ranged (get_or (take piece.ring.count vs) (i % piece.ring.count) 0) k)
+        let h : i % length ks < length ks = mod-lt i (omega (arith, many, f.fair.some)) in
+        let k : get_or (take (length ks) ks) (i % length ks) 0 < v =
+        subst (λ (k : ℕ). k < v) (sym (get_or-take (length ks) ks (i % length ks) 0 h)) (listed (i % length ks) h) in
+        subst InRange (sym (node_in m v (get_or (take (length ks) ks) (i % length ks) 0) k))
+        (after-corners.ranged (get_or (take (length ks) ks) (i % length ks) 0) k)
 
-    vs-now : nodes_in m v ≡ (Vs share l u piece).nodes
+    vs-now : nodes_in m v ≡ (Vs share l u ps es).nodes
     vs-now = adding.now-is s
 
-    end_is : (i : ℕ) → end_at m v vs piece.ring.count i ≡ end share l u piece i
-    end_is i = λ j. node_at (vs-now j) (get_or (s.numbers j) (i % piece.ring.count) 0)
+    end_is : (i : ℕ) → end_at m v ks (length ks) i ≡ end share l u ps es i
+    end_is i = λ j. node_at (vs-now j) (get_or ((take_all (length ks) ks (le_refl (length ks)) ∙ ks-is) j) (i % many j) 0)
 
-    ms-is : add_nodes (nodes_in m v) (middle_at share m v vs piece.edges piece.ring.count) piece.ring.count ≡ Ms share l u piece
+    ms-is : add_nodes (nodes_in m v) (middle_at share m v ks es (length ks)) (length ks) ≡ Ms share l u ps es
     ms-is =
-        λ j. add_nodes (vs-now j) (λ i. edge_middle share (get_or (marks_in piece.edges piece.ring.count) i Straight) (end_is i j) (end_is (suc i) j))
-        piece.ring.count
+        λ j. add_nodes (vs-now j) (λ i. edge_middle share (get_or (marks_in es (many j)) i Straight) (end_is i j) (end_is (suc i) j))
+        (many j)
 
-    pub add-middles : CanAdd m v (middle_at share m v vs piece.edges piece.ring.count) piece.ring.count
+    pub add-middles : CanAdd m v (middle_at share m v ks es (length ks)) (length ks)
     add-middles =
         let a = ap (λ (e : Added). length e.nodes) ms-is in
-        let b = ms-all share l u piece in
+        let b = ms-all share l u ps es in
         record {
           usable = after-corners;
-          some = f.some;
-          few = f.sheet.count;
+          some = omega (arith, many, f.fair.some);
+          few = omega (arith, many, f.fair.few);
           ranged = λ j h.
-              edge_by share InRange (get_or (marks_in piece.edges piece.ring.count) j Straight) (end_at m v vs piece.ring.count j)
-              (end_at m v vs piece.ring.count (suc j))
-              (middle-ranged (end_at m v vs piece.ring.count j) (end_at m v vs piece.ring.count (suc j)) (end-ranged j) (end-ranged (suc j)))
-              (λ q e. f.fair.snap j q (omega (arith, corners)) e);
+              edge_by share InRange (get_or (marks_in es (length ks)) j Straight) (end_at m v ks (length ks) j)
+              (end_at m v ks (length ks) (suc j))
+              (middle-ranged (end_at m v ks (length ks) j) (end_at m v ks (length ks) (suc j)) (end-ranged j) (end-ranged (suc j)))
+              (λ q e. f.fair.snap j q (omega (arith, h, many)) (ap (λ (n : ℕ). get_or (marks_in es n) j Straight) (sym many) ∙ e));
           fits = omega (arith, a, all_fit, b);
-          room = omega (arith, a, adding.same_size add-corners s (le_refl piece.ring.count), all_room, b);
+          room = omega (arith, a, adding.same_size add-corners s (le_refl (length ps)), all_room, b);
         }
 
-    -- the middles are added: m' with w nodes, their numbers in ks
-    module _ {m' : List Float} {w : ℕ} {ks : List ℕ} (t : Adds m v (middle_at share m v vs piece.edges piece.ring.count) piece.ring.count m' w ks)
+    -- the middles are added: m' with w nodes, their numbers in the list ws, of which ls is the front
+    module _ {m' : List Float} {w : ℕ} {ws ls : List ℕ} (t : Adds m v (middle_at share m v ks es (length ks)) (length ks) m' w ws) (g : ls ≡ take (length ps) ws)
       where
         pub after-middles : Usable m' w
-        after-middles = adding.usable add-middles t (le_refl piece.ring.count)
+        after-middles = adding.usable add-middles t (le_refl (length ks))
 
-        pub corner-room : (j : ℕ) → j < piece.ring.count → get_or vs j 0 * 2 + 2 ≤ length m'
-        corner-room j h = omega (arith, adding.listed s j h, after-middles.room, adding.used-more add-middles t)
+        pub as-many : length ls ≡ length ps
+        as-many = ap length g ∙ length-take-le (length ps) ws (omega (arith, t.long, f.fair.few))
+
+        ls-is : ls ≡ (Ms share l u ps es).numbers
+        ls-is = g ∙ ap (λ (n : ℕ). take n ws) (sym many) ∙ t.numbers ∙ ap (λ (e : Added). e.numbers) ms-is
+
+        pub corner-room : (j : ℕ) → j < length ks → get_or ks j 0 * 2 + 2 ≤ length m'
+        corner-room j h = omega (arith, listed j h, after-middles.room, adding.used-more add-middles t)
 
         -- a corner, read from the list as it is now
-        corner-is : (i : ℕ) → i < piece.ring.count → node_in_of m' (get_or vs i 0) ≡ end_at m v vs piece.ring.count i
-        corner-is i h = adding.read t (get_or vs i 0) (adding.listed s i h) ∙ ap (node_at (nodes_in m v)) (turns.here vs piece.ring.count i h)
+        corner-is : (i : ℕ) → i < length ks → node_in_of m' (get_or ks i 0) ≡ end_at m v ks (length ks) i
+        corner-is i h = adding.read t (get_or ks i 0) (listed i h) ∙ ap (node_at (nodes_in m v)) (turns.here ks (length ks) i h)
 
-        centre-is : mean (λ i. node_in_of m' (get_or vs i 0)) piece.ring.count ≡ mean (end_at m v vs piece.ring.count) piece.ring.count
-        centre-is = mean_ext (λ i. node_in_of m' (get_or vs i 0)) (end_at m v vs piece.ring.count) piece.ring.count corner-is
+        centre-is : mean (λ i. node_in_of m' (get_or ks i 0)) (length ks) ≡ mean (end_at m v ks (length ks)) (length ks)
+        centre-is = mean_ext (λ i. node_in_of m' (get_or ks i 0)) (end_at m v ks (length ks)) (length ks) corner-is
 
-        ms-now : nodes_in m' w ≡ (Ms share l u piece).nodes
+        ms-now : nodes_in m' w ≡ (Ms share l u ps es).nodes
         ms-now = adding.now-is t ∙ ap (λ (e : Added). e.nodes) ms-is
 
         -- the centre p
-        module _ {p : Point} (c : p ≡ mean (λ i. node_in_of m' (get_or vs i 0)) piece.ring.count) where
+        module _ {p : Point} (c : p ≡ mean (λ i. node_in_of m' (get_or ks i 0)) (length ks)) where
           pub centre-ranged : InRange p
           centre-ranged =
               subst InRange (sym (c ∙ centre-is))
-              (mean-ranged (end_at m v vs piece.ring.count) piece.ring.count f.some f.sheet.count (λ i h. end-ranged i))
+              (mean-ranged (end_at m v ks (length ks)) (length ks) (omega (arith, many, f.fair.some)) (omega (arith, many, f.fair.few)) (λ i h. end-ranged i))
 
-          p-is : p ≡ mean (end share l u piece) piece.ring.count
-          p-is = c ∙ centre-is ∙ (λ j. mean (λ i. end_is i j) piece.ring.count)
+          p-is : p ≡ mean (end share l u ps es) (length ps)
+          p-is = c ∙ centre-is ∙ (λ j. mean (λ i. end_is i j) (many j))
 
-          all-is : add_node (nodes_in m' w) p ≡ (A share l u piece).nodes
+          all-is : add_node (nodes_in m' w) p ≡ (A share l u ps es).nodes
           unfolding add_nodes
           all-is = λ j. add_node (ms-now j) (p-is j)
 
@@ -218,95 +238,102 @@ module _ {share : Float} {l : List Float} {u : ℕ} {piece : MarkedRing} (f : Ca
                 arith,
                 ap length all-is,
                 all_room,
-                adding.same_size add-middles t (le_refl piece.ring.count),
-                adding.same_size add-corners s (le_refl piece.ring.count),
+                adding.same_size add-middles t (le_refl (length ks)),
+                adding.same_size add-corners s (le_refl (length ps)),
               )
 
           -- it is added: m'', and r
           module _ {r : Placed} {m'' : List Float} (er : r ≡ placed (nodes_in m' w) p) (em : m'' ≡ over m' (add_node (nodes_in m' w) p)) where
-            r-is : r ≡ placed (Ms share l u piece).nodes (mean (end share l u piece) piece.ring.count)
+            r-is : r ≡ placed (Ms share l u ps es).nodes (mean (end share l u ps es) (length ps))
             r-is = er ∙ (λ j. placed (ms-now j) (p-is j))
 
-            nodes-is : m'' ≡ over l (A share l u piece).nodes
+            nodes-is : m'' ≡ over l (A share l u ps es).nodes
             unfolding add_nodes
             nodes-is =
                 em
                 ∙ (λ j. over (t.nodes j) (all-is j))
-                ∙ (λ j. over (over (s.nodes j) (ms-is j).nodes) (A share l u piece).nodes)
-                ∙ ap (λ (x : List Float). over x (A share l u piece).nodes)
-                (over-over l (Vs share l u piece).nodes (Ms share l u piece).nodes (vs-ms share l u piece))
-                ∙ over-over l (Ms share l u piece).nodes (A share l u piece).nodes (ms-all share l u piece)
+                ∙ (λ j. over (over (s.nodes j) (ms-is j).nodes) (A share l u ps es).nodes)
+                ∙ ap (λ (x : List Float). over x (A share l u ps es).nodes)
+                (over-over l (Vs share l u ps es).nodes (Ms share l u ps es).nodes (vs-ms share l u ps es))
+                ∙ over-over l (Ms share l u ps es).nodes (A share l u ps es).nodes (ms-all share l u ps es)
 
-            cells_is : cells_to r.number (take piece.ring.count ks) (take piece.ring.count vs) piece.ring.count ≡ (A share l u piece).cells
+            cells_is : cells_to r.number ls ks (length ls) ≡ (A share l u ps es).cells
             unfolding add_nodes
-            cells_is = λ j. cells_to (r-is j).number ((t.numbers ∙ ap (λ (e : Added). e.numbers) ms-is) j) (s.numbers j) piece.ring.count
+            cells_is = λ j. cells_to (r-is j).number (ls-is j) (ks-is j) (as-many j)
 
-            used-is : r.used ≡ length (A share l u piece).nodes
+            used-is : r.used ≡ length (A share l u ps es).nodes
             unfolding add_nodes
             used-is = ap (λ (r : Placed). r.used) r-is
 
-            all-now : nodes_in m'' r.used ≡ (A share l u piece).nodes
-            all-now = (λ j. nodes_in (nodes-is j) (used-is j)) ∙ in_over l (A share l u piece).nodes
+            all-now : nodes_in m'' r.used ≡ (A share l u ps es).nodes
+            all-now = (λ j. nodes_in (nodes-is j) (used-is j)) ∙ in_over l (A share l u ps es).nodes
 
             pub centre-listed : r.number < r.used
             centre-listed =
                 subst (λ (r : Placed). r.number < r.used) (sym r-is)
-                (add_node-number (Ms share l u piece).nodes (mean (end share l u piece) piece.ring.count)).low
+                (add_node-number (Ms share l u ps es).nodes (mean (end share l u ps es) (length ps))).low
 
             pub used-room : r.used * 2 ≤ length m''
-            used-room = omega (arith, used-is, ap length nodes-is ∙ length_over l (A share l u piece).nodes all_room, all_room)
+            used-room = omega (arith, used-is, ap length nodes-is ∙ length_over l (A share l u ps es).nodes all_room, all_room)
 
             more : w ≤ r.used
             more = omega (arith, ap (λ (r : Placed). r.used) er, (add_node-grown {P = Anything} (nodes_in m' w) p tt).longer, length_in m' w)
 
-            pub middles-listed : ListedTo r.used ks piece.ring.count
-            middles-listed j h = omega (arith, adding.listed t j h, more)
+            -- the round of the cells
+            pub middles-listed : ListedTo r.used ls (length ls)
+            middles-listed j h =
+                let i : j < length ps = omega (arith, h, as-many) in
+                let b = adding.listed t j (omega (arith, i, many)) in
+                subst (λ (k : ℕ). k < r.used) (sym (ap (λ (xs : List ℕ). get_or xs j 0) g ∙ get_or-take (length ps) ws j 0 i)) (omega (arith, b, more))
 
-            pub corners-listed : ListedTo r.used vs piece.ring.count
-            corners-listed j h = omega (arith, adding.listed s j h, adding.used-more add-middles t, more)
+            pub corners-listed : ListedTo r.used ks (length ls)
+            corners-listed j h = omega (arith, listed j (omega (arith, h, many, as-many)), adding.used-more add-middles t, more)
 
             -- the rim marks: rs before, qs after
             pub used-up : u ≤ r.used
             used-up = omega (arith, adding.used-more add-corners s, adding.used-more add-middles t, more)
 
-            pub used_all : r.used ≡ length (attempt_in share l u piece).nodes
+            pub used_all : r.used ≡ length (attempt_in share l u (part ps es)).nodes
             used_all = used-is ∙ ap (λ (t : Attempt). length t.nodes) try_is
 
             asks-is : (o : ℕ → Bool)
-                → asks_for (take piece.ring.count vs) (take piece.ring.count ks) r.number o piece.ring.count ≡ ask_with share (nodes_in l u)
-                (points_of piece.ring) (mark_at (part_in piece)) o piece.ring.count
+                → asks_for (take (length ls) ks) (take (length ls) ls) r.number o (length ls) ≡ ask_with share (nodes_in l u)
+                ps (mark_at (part ps es)) o (length ps)
             unfolding add_nodes
-            asks-is o = λ j. asks_for (s.numbers j) ((t.numbers ∙ ap (λ (e : Added). e.numbers) ms-is) j) (r-is j).number o piece.ring.count
+            asks-is o =
+                let a : take (length ls) ks ≡ ks = take_all (length ls) ks (omega (arith, many, as-many)) in
+                let b : take (length ls) ls ≡ ls = take_all (length ls) ls (le_refl (length ls)) in
+                λ j. asks_for ((a ∙ ks-is) j) ((b ∙ ls-is) j) (r-is j).number o (as-many j)
 
-            pub rims-are : (bs : List Bool) (rs : List ℕ) {qs : List ℕ}
-                → qs ≡ rims_by u r.used (asks_for (take piece.ring.count vs) (take piece.ring.count ks) r.number (side_at bs)
-                piece.ring.count) rs
-                → qs ≡ rims_by u (length (attempt_in share l u piece).nodes) (attempt_asks_in share l u piece bs) rs
+            rims-are : (bs : List Bool) (rs : List ℕ) {qs : List ℕ}
+                → qs ≡ rims_by u r.used (asks_for (take (length ls) ks) (take (length ls) ls) r.number (side_at bs)
+                (length ls)) rs
+                → qs ≡ rims_by u (length (attempt_in share l u (part ps es)).nodes) (attempt_asks_in share l u (part ps es) bs) rs
             rims-are bs rs e =
-                let a =
-                ap (ask_with share (nodes_in l u) (points_of piece.ring) (mark_at (part_in piece)) (side_at bs)) (sym corners)
-                ∙ same-asks share (nodes_in l u) (points_of piece.ring) (mark_at (part_in piece)) (side_at bs) in
+                let a = same-asks share (nodes_in l u) ps (mark_at (part ps es)) (side_at bs) in
                 e ∙ (λ j. rims_by u (used_all j) ((asks-is (side_at bs) ∙ a) j) rs)
 
             -- what the function answers
-            pub answer : (q : List ℕ) (bs : List Bool) (rs : List ℕ) {b : Bool} {k : ℕ} {q' qs : List ℕ}
-                → b ≡ any (far_at share m v vs piece.edges piece.ring.count) piece.ring.count
-                → k ≡ first (λ k. not (holds (nodes_in m'' r.used)
-                (get_or (cells_to r.number (take piece.ring.count ks) (take piece.ring.count vs) piece.ring.count) k no_cell))) piece.ring.count
-                0
-                → q' ≡ over_cells q (cells_to r.number (take piece.ring.count ks) (take piece.ring.count vs) piece.ring.count)
-                → qs ≡ rims_by u r.used (asks_for (take piece.ring.count vs) (take piece.ring.count ks) r.number (side_at bs)
-                piece.ring.count) rs
-                → (◌≡◌ {A = Tried} (record { used = r.used; fails = k; far = b }) (tried_of (attempt_in share l u piece)))
-                × (m'' ≡ over l (attempt_in share l u piece).nodes) × (q' ≡ over_cells q (attempt_in share l u piece).cells)
-                × (qs ≡ rims_by u (length (attempt_in share l u piece).nodes) (attempt_asks_in share l u piece bs) rs)
+            pub answer : (q : List ℕ) (bs : List Bool) (rs : List ℕ) {b : Bool} {k : Option ℕ} {q' qs : List ℕ}
+                → b ≡ any (far_at share m v ks es (length ks)) (length ks)
+                → k ≡ found (length ls) (first (λ k. not (holds (nodes_in m'' r.used)
+                (get_or (cells_to r.number ls ks (length ls)) k no_cell))) (length ls) 0)
+                → q' ≡ over_cells q (cells_to r.number ls ks (length ls))
+                → qs ≡ rims_by u r.used (asks_for (take (length ls) ks) (take (length ls) ls) r.number (side_at bs)
+                (length ls)) rs
+                → (◌≡◌ {A = Tried} (record { used = r.used; fails = k; far = b }) (tried_of (attempt_in share l u (part ps es))))
+                × (m'' ≡ over l (attempt_in share l u (part ps es)).nodes) × (q' ≡ over_cells q (attempt_in share l u (part ps es)).cells)
+                × (qs ≡ rims_by u (length (attempt_in share l u (part ps es)).nodes) (attempt_asks_in share l u (part ps es) bs) rs)
             answer q bs rs {b} {k} {q'} eb ek eq et =
-                let eb' : b ≡ (A share l u piece).far =
+                let eb' : b ≡ (A share l u ps es).far =
                 eb
                 ∙ (λ j.
-                any (λ i. too_far share (get_or (marks_in piece.edges piece.ring.count) i Straight) (end_is i j) (end_is (suc i) j)) piece.ring.count) in
-                let ek' : k ≡ (A share l u piece).fails =
-                ek ∙ (λ j. first (λ k. not (holds (all-now j) (get_or (cells_is j) k no_cell))) piece.ring.count 0) in (
+                any (λ i. too_far share (get_or (marks_in es (many j)) i Straight) (end_is i j) (end_is (suc i) j)) (many j)) in
+                let size : length ls ≡ length (A share l u ps es).cells = sym (cells-length r.number ls ks (length ls)) ∙ ap length cells_is in
+                let first-is : first (λ k. not (holds (nodes_in m'' r.used) (get_or (cells_to r.number ls ks (length ls)) k no_cell))) (length ls) 0 ≡ (A share l u ps es).fails =
+                λ j. first (λ k. not (holds (all-now j) (get_or (cells_is j) k no_cell))) (as-many j) 0 in
+                let ek' : k ≡ found (length (A share l u ps es).cells) (A share l u ps es).fails =
+                ek ∙ (λ j. found (size j) (first-is j)) in (
                   (λ j. record { used = used-is j; fails = ek' j; far = eb' j }) ∙ ap tried_of try_is,
                   nodes-is ∙ ap (λ (t : Attempt). over l t.nodes) try_is,
                   eq ∙ ap (over_cells q) cells_is ∙ ap (λ (t : Attempt). over_cells q t.cells) try_is,

@@ -21,6 +21,7 @@ use table::{Answer, Row};
 
 // What a call comes to before its cells are in the list: their numbers, four a cell, the place that the first goes to,
 // how many there are, and the row of the table.
+// Kept: an array with a count beside it, since there is no heap.
 #[derive(Clone, Copy)]
 pub struct Laid {
     pub numbers: [NodeNumber; 496],
@@ -29,29 +30,26 @@ pub struct Laid {
     pub values: Row,
 }
 
-// Cell k of the numbers.
-fn cell_at(laid: Laid, k: usize) -> Cell
-    requires { k < 124 }
-    ensures { result ≡ cell_in laid.numbers k }
+// The cell of four numbers.
+fn cell(numbers: &[NodeNumber; 4]) -> Cell
+    ensures { result ≡ cell_in numbers.now 0 }
 {
     Cell {
-        a: laid.numbers[k * 4],
-        b: laid.numbers[k * 4 + 1],
-        c: laid.numbers[k * 4 + 2],
-        d: laid.numbers[k * 4 + 3],
+        a: numbers[0],
+        b: numbers[1],
+        c: numbers[2],
+        d: numbers[3],
     }
 }
 
 // The first n cells of the numbers go into the list, from place `at` on.
-fn write(cells: &mut [Cell], at: usize, laid: Laid, n: usize)
+fn write(cells: &mut [Cell], at: usize, numbers: &[NodeNumber; 496], n: usize)
     requires { (n ≤ 124) × (0 < n → at + n ≤ length cells.old) }
-    ensures { cells.new ≡ written cells.old at laid.numbers n }
+    ensures { cells.new ≡ written cells.old at numbers.now n }
 {
-    let mut k: usize = 0;
-    while k < n {
-        let c = cell_at(laid, k);
-        cells[at + k] = c;
-        k += 1;
+    let (fours, _) = numbers.as_chunks::<4>();
+    for (k, four) in fours[..n].iter().enumerate() {
+        cells[at + k] = cell(four);
     }
 }
 
@@ -61,17 +59,19 @@ fn placed(limits: Limits, own: usize, a: Answer, numbers: [NodeNumber; 496], at:
     requires { (at + (Answers.values a).cells < 2 ^ 64) × ((Answers.values a).code ≡ 8 → (3 ≤ own) × (own ≤ 60)) }
     ensures { result ≡ laid_of (Answers.values a) numbers at (cell_reserve limits own) }
 {
-    let mut v = Row::new(a);
-    let mut count = v.cells as usize;
-    if v.code == 8 {
-        count = entry::cell_reserve(limits, own);
-    }
-    v.cells = at as u64 + v.cells;
+    let row = Row::from(a);
+    let count = match a {
+        Answer::Failed { .. } => entry::reserve_of(limits, own).cells,
+        Answer::Divided { cells, .. } | Answer::Refused { cells, .. } => cells,
+    };
     Laid {
-        numbers: numbers,
-        at: at,
-        count: count,
-        values: v,
+        numbers,
+        at,
+        count,
+        values: Row {
+            cells: at as u64 + row.cells,
+            ..row
+        },
     }
 }
 
@@ -113,14 +113,14 @@ fn flat_divide(
 }
 
 // The divider call over a list of cell records.
-pub fn ring_divide_cells<'a, 'b, 'c, 'd, 'e>(
-    ring: &'a [i32],
-    chain: &'b [i32],
+pub fn ring_divide_cells(
+    ring: &[i32],
+    chain: &[i32],
     size: u32,
-    nodes: &'c mut [f64],
+    nodes: &mut [f64],
     node_count: usize,
-    rims: &'d mut [u8],
-    cells: &'e mut [Cell],
+    rims: &mut [u8],
+    cells: &mut [Cell],
     cell_count: usize,
 ) -> Row
     ensures { RecordsPromise delivered (lent ring.now chain.now size nodes.old node_count rims.old
@@ -136,6 +136,6 @@ pub fn ring_divide_cells<'a, 'b, 'c, 'd, 'e>(
         cells.len(),
         cell_count,
     );
-    write(cells, laid.at, laid, laid.count);
+    write(cells, laid.at, &laid.numbers, laid.count);
     laid.values
 }

@@ -5,15 +5,15 @@
 
 #![tactic(auto)]
 
-ghost use Rattle.std.specs.Prelude.{◌≡◌, not, ◌*◌, ◌≤◌, ◌<◌, length, get_or, take};
+ghost use Rattle.std.specs.Prelude.{◌≡◌, not, ◌*◌, ◌≤◌, length, get_or};
 ghost use Rattle.laws.specs.Bounded.{first};
 ghost use Rattle.nodes.specs.Flat.{nodes_in};
 ghost use Rattle.quads.specs.Quads as Quads;
 ghost use Rattle.quads.specs.Quads.{no_cell};
-ghost use Rattle.quads.specs.Flat.{Listed, ListedTo, positive};
+ghost use Rattle.quads.specs.Flat.{Listed, positive, found};
+ghost use Rattle.quads.specs.Round.{cells_of, ListedRound};
 
-use nodes::NodeNumber;
-use quads::Cell;
+use quads::{Cell, Round};
 use vector::Point;
 
 // The corner at b turns left by more than 1.0e-15.
@@ -28,35 +28,13 @@ fn turns_left(a: Point, b: Point, c: Point) -> bool
 fn quad_positive(p: Point, q: Point, r: Point, s: Point) -> bool
     ensures { result ≡ positive p q r s }
 {
-    if turns_left(p, q, r) {
-        if turns_left(q, r, s) {
-            if turns_left(r, s, p) {
-                return turns_left(s, p, q);
-            }
-        }
-    }
-    false
+    turns_left(p, q, r) && turns_left(q, r, s) && turns_left(r, s, p) && turns_left(s, p, q)
 }
 
 fn all_distinct(c: Cell) -> bool
     ensures { result ≡ Quads.all_distinct c }
 {
-    if c.a == c.b {
-        return false;
-    }
-    if c.a == c.c {
-        return false;
-    }
-    if c.a == c.d {
-        return false;
-    }
-    if c.b == c.c {
-        return false;
-    }
-    if c.b == c.d {
-        return false;
-    }
-    c.c != c.d
+    c.a != c.b && c.a != c.c && c.a != c.d && c.b != c.c && c.b != c.d && c.c != c.d
 }
 
 // Whether a cell passes both tests.
@@ -68,37 +46,22 @@ fn holds(nodes: &[f64], used: usize, c: Cell) -> bool
     let q = quads::node_at(nodes, c.b);
     let r = quads::node_at(nodes, c.c);
     let s = quads::node_at(nodes, c.d);
-    if quad_positive(p, q, r, s) {
-        return all_distinct(c);
-    }
-    false
+    quad_positive(p, q, r, s) && all_distinct(c)
 }
 
-// The first of these cells that fails, or n.
-pub fn first_failing(
-    nodes: &[f64],
-    used: usize,
-    centre: NodeNumber,
-    ms: [NodeNumber; 60],
-    vs: [NodeNumber; 60],
-    n: usize,
-) -> usize
-    requires { (n ≤ 60) × (used * 2 ≤ length nodes.now) × (centre < used) × ListedTo used ms n × ListedTo used vs n
-        × (length ms ≡ 60) × (length vs ≡ 60) }
-    ensures { result ≡ first (λ k. not (Quads.holds (nodes_in nodes.now used)
-        (get_or (Quads.cells_to centre (take n ms) (take n vs) n) k no_cell))) n 0 }
+// The first of these cells that fails.
+pub fn first_failing(nodes: &[f64], used: usize, round: &Round<'_>) -> Option<usize>
+    requires { (used * 2 ≤ length nodes.now) × ListedRound used round.now }
+    ensures { result ≡ found (length round.now.middles.now) (first
+        (λ k. not (Quads.holds (nodes_in nodes.now used) (get_or (cells_of round.now) k no_cell)))
+        (length round.now.middles.now) 0) }
 {
-    for k in 0..n {
-        let j = vector::next(k, n);
-        let c = Cell {
-            a: centre,
-            b: ms[k],
-            c: vs[j],
-            d: ms[j],
-        };
+    // Kept: k is counted, since cell k takes the places k and k + 1 of both lists.
+    for k in 0..round.middles.len() {
+        let c = round.cell(k);
         if !holds(nodes, used, c) {
-            return k;
+            return Some(k);
         }
     }
-    n
+    None
 }

@@ -1,7 +1,7 @@
 -- What is asked for is what is listed. Every node that an attempt, a piece or pieces one after the other ask for is listed when they are through
 -- (`attempt-listed`, `subdivide-listed`, `asks-listed`); and every node that they add was asked for (`attempt-cover`, `subdivide-cover`, `asks-cover`).
 use Prim.Native.Nat.{ℕ, zero, suc, ◌≤◌, ◌<◌}
-use native.Mathlib.Nat.{le_trans, lt_of_lt_of_le, not-suc-le-zero, eq-or-lt_of_le}
+use native.Mathlib.Nat.{lt_of_lt_of_le, not-suc-le-zero, eq-or-lt_of_le}
 use native.Mathlib.Decide.{dec_lt}
 use native.Mathlib.Omega.{arith}
 use mathlib.Core.Path.{◌≡◌, refl, sym, ap, ◌∙◌, subst}
@@ -30,7 +30,7 @@ use Rattle.quads.specs.Quads.{edge_middle, mean}
 use Rattle.cells.specs.Cells.{Attempt, attempt, subdivide}
 use Rattle.cells.specs.Pieces.{Outcome, done, failed, onward, pieces_to}
 use Rattle.cells.specs.Stages.{corners, end, middles, centre, mark_at, straight, nodes_of}
-use Rattle.cells.specs.Asks.{Role, as_corner, as_centre, as_middle, Ask, ask, of_ring, asks_for, attempt_asks, subdivide_asks, onward_asks, asks_to}
+use Rattle.cells.specs.Asks.{as_corner, as_centre, as_middle, Ask, ask, of_ring, asks_for, attempt_asks, subdivide_asks, onward_asks, asks_to}
 use Rattle.cells.specs.Rims.{AskedFor}
 use Rattle.cells.proofs.Attempts.{attempt-nodes, attempt-any, onward-done, pieces-next}
 

@@ -3,7 +3,7 @@
 -- What is proved of the corners, the middles and the centre of each attempt holds of the nodes that are added
 -- (`attempt-grown`, `subdivide-grown`, `pieces-grown`). In every later list the corners have the nodes that an attempt
 -- saw (`ends-later`).
-use Prim.Native.Nat.{ℕ, zero, suc, ◌+◌, ◌%◌, ◌<◌}
+use Prim.Native.Nat.{ℕ, zero, suc, ◌+◌, ◌%◌, ◌<◌, ◌≤◌}
 use native.Mathlib.Nat.{le_refl, mod-lt}
 use native.Mathlib.Omega.{arith}
 use mathlib.Core.Path.{◌≡◌, refl, sym, ◌∙◌, subst}
@@ -12,6 +12,7 @@ use mathlib.Core.List.{List, ◌++◌}
 use lib.ListN.{length, get_or}
 use lib.Dec.{eqb}
 use lib.Ieee.{Float}
+use Rattle.laws.proofs.Search.{first-le}
 use Rattle.vector.specs.declared.GridPoint.{GridPoint}
 use Rattle.vector.specs.declared.Point.{Point}
 use Rattle.vector.specs.Grid.{origin}
@@ -133,3 +134,19 @@ ends-later {P} ns ms ps h g i = sym (g.same k n.low) ∙ numbered-node (numbered
 
     n : Numbered (corners ns ps).nodes (in_mm (get_or ps (i % length ps) origin)) k
     n = add_nodes-number ns (λ i. in_mm (get_or ps i origin)) (length ps) (i % length ps) (mod-lt i h)
+
+-- ---- the cell that fails is one of the piece's, or their number stands for it
+pub attempt-fails : (share : Float) (ns : List Point) (ps : List GridPoint) (e : ℕ → EdgeMark) → (attempt share ns ps e).fails ≤ length ps
+unfolding attempt
+attempt-fails share ns ps e = let z : 0 + length ps ≡ length ps = omega arith in subst (λ (n : ℕ). (attempt share ns ps e).fails ≤ n) z (first-le _ (length ps) 0)
+
+pub subdivide-fails : (share : Float) (ns : List Point) (p : Part) → (subdivide share ns p).fails ≤ length p.points
+unfolding subdivide
+subdivide-fails share ns p = go (eqb t.fails (length p.points) || t.far)
+  where
+    t : Attempt
+    t = attempt share ns p.points (mark_at p)
+
+    go : (b : Bool) → (cond b t (attempt share t.nodes p.points straight)).fails ≤ length p.points
+    go true = attempt-fails share ns p.points (mark_at p)
+    go false = attempt-fails share t.nodes p.points straight

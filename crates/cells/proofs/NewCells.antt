@@ -5,7 +5,7 @@ use native.Mathlib.Nat.{le_refl, le_trans, lt_of_lt_of_le, mod-lt}
 use native.Mathlib.Omega.{arith}
 use mathlib.Core.Path.{◌≡◌, refl, subst}
 use mathlib.Core.Bool.{Bool, true, false, cond, ◌||◌}
-use mathlib.Core.List.{List, [], ◌∷◌, ◌++◌}
+use mathlib.Core.List.{List, ◌∷◌, ◌++◌}
 use lib.ListN.{length, get_or, length-append}
 use lib.Dec.{eqb}
 use lib.Ieee.{Float}

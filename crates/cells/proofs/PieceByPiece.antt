@@ -1,7 +1,7 @@
 -- "In the order they go out, a piece of k corners has the next k new cells": where all pieces are done, the nodes and the
 -- cells that they leave are those that subdivide gives of each piece over the nodes that the one before left, the cells of
 -- a piece next to those of the one before; each piece has as many cells as corners, and none of them fails.
-use Prim.Native.Nat.{ℕ, zero, suc, ◌+◌}
+use Prim.Native.Nat.{ℕ, zero, suc}
 use mathlib.Core.Path.{◌≡◌, refl, sym, ap, ◌∙◌, subst}
 use mathlib.Core.Bool.{Bool, true, false, cond}
 use mathlib.Core.List.{List, [], ◌∷◌, ◌++◌, append-nil, append_assoc}

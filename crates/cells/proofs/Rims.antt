@@ -1,7 +1,7 @@
 -- The rim marks that asks leave. What one stage leaves and then another leaves is what both leave (`rims_then`), and nothing asked for changes nothing
 -- (`rims-none`); the list keeps its length. A set mark stays set (`rims-stay`), those past the nodes are as found (`rims-past`), and from an empty node list
 -- the marks tell exactly what was asked for (`rims-told`).
-use Prim.Native.Nat.{ℕ, zero, suc, ◌+◌, ◌≤◌, ◌<◌}
+use Prim.Native.Nat.{ℕ, zero, suc, ◌≤◌, ◌<◌}
 use native.Mathlib.Decide.{dec_lt}
 use native.Mathlib.Omega.{arith}
 use mathlib.Core.Path.{◌≡◌, refl, sym, ap, ◌∙◌, subst}

@@ -6,11 +6,26 @@
 
 #![tactic(auto)]
 
-// What an attempt at a piece came to: the used nodes, the first cell that fails or the number of cells, and whether a
-// snap was too far.
+ghost use Rattle.std.specs.Prelude.{◌≡◌, ◌≤◌, length};
+
+use marks::Edge;
+use vector::GridPoint;
+
+// A piece: its points, the marks of its edges, and which of them are edges of the ring.
+#[derive(Clone, Copy)]
+pub struct Piece<'a> {
+    pub points: &'a [GridPoint],
+    pub edges: &'a [Edge],
+    pub sides: &'a [bool],
+    ghost marked: { length edges.now ≡ length points.now },
+    ghost sided: { length points.now ≤ length sides.now },
+}
+
+// What an attempt at a piece came to: the used nodes, the first cell that fails, and whether a snap was too far.
+// Kept: a flag beside the others, since it is known also where no cell fails.
 #[derive(Clone, Copy)]
 pub struct Tried {
     pub used: usize,
-    pub fails: usize,
+    pub fails: Option<usize>,
     pub far: bool,
 }

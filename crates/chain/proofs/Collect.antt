@@ -111,9 +111,9 @@ blank-snaps : (k : ℕ) → get_or (replicate 60 nowhere) k nowhere ≡ nowhere
 blank-snaps = all_same (λ x. x ≡ nowhere) nowhere 60 nowhere refl refl
 
 -- a chain of no point
-pub none : Simplifies [] (record { points = replicate 60 origin; snaps = replicate 60 nowhere; count = 0 })
+pub none : (c : List GridPoint) → length c ≡ 0 → Simplifies c (record { points = replicate 60 origin; snaps = replicate 60 nowhere; count = 0 })
 unfolding stretches_in Chain.simplify_chain Chain.stretches_to tab
-none = record {
+none [] e = record {
   stretches = refl;
   start = refl;
   unused_points = λ k h. blank-points k;
@@ -121,6 +121,7 @@ none = record {
   few = omega arith;
   on_sheet = all_same OnSheet origin 60 origin origin_on origin_on;
 }
+none (p ∷ c) e = absurd (omega (arith, e))
 
 -- the first point is kept
 pub kept-first : (c : List GridPoint) (a : GridPoint) → a ≡ point_at c 0 → OnSheet a → Collected c (set (replicate 60 origin) 0 a) (replicate 60 nowhere) 0 0 1

@@ -1,21 +1,19 @@
 -- A chain's snap points are finite and within 1,024 mm (`snaps_in_range`). For a chain of up to 60 points of the sheet no
 -- length is NaN, the parameter between two of its points lies from 0 to 1 (`parameter_unit`), and so the point at any
 -- length of the chain lies within the sheet (`point_at_arclength_in_range`).
-use Prim.Native.Nat.{ℕ, zero, suc, ◌+◌, ◌-◌, ◌^◌, ◌≤◌, ◌<◌}
+use Prim.Native.Nat.{ℕ, zero, suc, ◌-◌, ◌^◌, ◌≤◌, ◌<◌}
 use native.Mathlib.Nat.{le_refl, not-suc-le-zero}
 use native.Mathlib.Omega.{arith}
 use native.Mathlib.Decide.{dec_le}
 use mathlib.Core.Path.{◌≡◌, refl, sym, subst}
 use mathlib.Core.Bool.{Bool, true, false, not, cond}
 use mathlib.Core.List.{List, [], ◌∷◌, ◌++◌}
-use lib.IntN.{ℤ, nat_abs}
 use lib.ListN.{length, get_or, length-append, get_or-append}
 use lib.Seq.{get_or_at}
 use lib.Dec.{T, lit≤}
 use lib.Ieee.{Float, binary64}
 use Rattle.laws.specs.Double.{nat, lit, clamp, ◌+f◌, ◌-f◌, ◌*f◌, ◌/f◌, ◌≤f◌}
 use Rattle.laws.specs.Bounded.{first}
-use Rattle.laws.specs.Units as Units
 use Rattle.laws.specs.Within.{Within, InUnit}
 use Rattle.laws.proofs.Bounds.{sub_within, middle-within}
 use Rattle.laws.proofs.Clamp.{clamp-unit}

@@ -1,7 +1,7 @@
 // The chain: the drawn boundary run is reduced to its corners, and each stretch kept has one snap point.
 //
 // It stands on arclength, the lengths along a chain, and before the marks, which lay the kept stretches along the edges of the
-// cleaned ring. A chain is held as a ring is.
+// cleaned ring. A chain is a slice of its points.
 
 #![tactic(auto)]
 
@@ -9,15 +9,16 @@ ghost use Rattle.std.specs.Prelude.{◌≡◌, false, ◌||◌};
 ghost use Rattle.laws.specs.Double.{lit, ◌<f◌};
 ghost use Rattle.vector.specs.Grid as Grid;
 ghost use Rattle.vector.specs.Size.{OnSheet};
-ghost use Rattle.vector.specs.Rings.{points_of, OnSheetRing};
+ghost use Rattle.vector.specs.Rings.{OnSheetPoints};
 ghost use Rattle.root.specs.Norm as Norm;
 ghost use Rattle.cosine.specs.Cosine as Cosine;
 ghost use Rattle.chain.specs.Kept.{Simplifies};
 
-use vector::{GridPoint, MOST_POINTS, Point, Ring};
+use vector::{GridPoint, MOST_POINTS, Point};
 
 // A simplified chain: the points kept, in the places 0 to count, and in the places below count the snap point of the
 // stretch from each to the next.
+// Kept: two arrays and a count, in fixed memory; the last point kept has no snap point.
 #[derive(Clone, Copy)]
 pub struct Simplified {
     pub points: [GridPoint; MOST_POINTS],
@@ -34,59 +35,49 @@ fn stays(a: GridPoint, b: GridPoint, c: GridPoint, nu: f64, nv: f64, last: bool)
 {
     let u = b.sub(a);
     let v = c.sub(b);
-    if last {
-        return true;
-    }
-    if u.is_zero() {
-        return true;
-    }
-    if v.is_zero() {
-        return true;
-    }
-    cosine::cosine(u, nu, v, nv) < 0.9063077870366499
+    last || u.is_zero() || v.is_zero() || cosine::cosine(u, nu, v, nv) < 0.9063077870366499
 }
 
 // The points of the chain that stay, and the snap point of each stretch between them, at half its length.
-pub fn simplify_chain(chain: Ring) -> Simplified
-    requires { OnSheetRing chain }
-    ensures { Simplifies (points_of chain) result }
+// Kept: a turn looks at three points of the chain and at four lengths, so that it counts places.
+pub fn simplify_chain(chain: &[GridPoint]) -> Simplified
+    requires { OnSheetPoints chain.now }
+    ensures { Simplifies chain.now result }
 {
-    let n = chain.count;
+    let n = chain.len();
     let mut points = [GridPoint::ORIGIN; MOST_POINTS];
     let mut snaps = [Point::ORIGIN; MOST_POINTS];
     let mut count = 0;
     if n == 0 {
         return Simplified {
-            points: points,
-            snaps: snaps,
-            count: count,
+            points,
+            snaps,
+            count,
         };
     }
     let l = arclength::measure(chain);
-    let step = l.step;
-    let arc = l.arc;
-    points[0] = chain.points[0];
+    points[0] = chain[0];
     let mut previous = 0;
     for i in 1..n {
         let after = vector::next(i, n); // not looked at where i is the last
         if stays(
-            chain.points[i - 1],
-            chain.points[i],
-            chain.points[after],
-            step[i],
-            step[after],
+            chain[i - 1],
+            chain[i],
+            chain[after],
+            l.step[i],
+            l.step[after],
             i + 1 == n,
         ) {
-            let half = 0.5 * (arc[previous] + arc[i]);
-            snaps[count] = arclength::point_at_arclength(chain, &arc, half);
+            let half = 0.5 * (l.arc[previous] + l.arc[i]);
+            snaps[count] = arclength::point_at_arclength(chain, &l.arc[..n], half);
             count += 1;
-            points[count] = chain.points[i];
+            points[count] = chain[i];
             previous = i;
         }
     }
     Simplified {
-        points: points,
-        snaps: snaps,
-        count: count,
+        points,
+        snaps,
+        count,
     }
 }

@@ -8,7 +8,7 @@
 ghost use Rattle.std.specs.Prelude.{◌≡◌, ◌*◌, ◌^◌, ◌≤◌, length, take};
 ghost use Rattle.choice.specs.Choice.{chosen};
 
-// The chosen points, x and y in turn, in the first `count` places.
+// The chosen points, x and y in turn, in the first `count` places. Kept: there is no heap, and so no list of its own length.
 #[derive(Clone, Copy)]
 pub struct ChosenPoints {
     pub points: [i32; 24],
@@ -27,12 +27,9 @@ pub fn choose(ring: &[i32], r: usize, choice: u32) -> ChosenPoints
         points[count] = ring[i * 2];
         points[count + 1] = ring[i * 2 + 1];
         count += (rest % 2) as usize * 2;
-        rest = rest / 2;
+        rest /= 2;
     }
-    ChosenPoints {
-        points: points,
-        count: count,
-    }
+    ChosenPoints { points, count }
 }
 
 // How many choices of r points there are: 2 to the power r.
@@ -40,9 +37,5 @@ pub fn power(r: usize) -> u32
     requires { r ≤ 12 }
     ensures { result ≡ 2 ^ r }
 {
-    let mut n: u32 = 1;
-    for i in 0..r {
-        n = n * 2;
-    }
-    n
+    1 << r
 }

@@ -4,9 +4,10 @@ use native.Mathlib.Nat.{le_refl}
 use native.Mathlib.Omega.{arith}
 use mathlib.Core.Path.{◌≡◌, sym, ap, ◌∙◌}
 use mathlib.Core.List.{List}
-use lib.ListN.{length, get_or}
+use lib.ListN.{length, get_or, take, drop}
 use mir.Syntax.{w64}
 use mir.Val.{Fits}
+use Rattle.std.proofs.lemmas.Grind.{get_or_after_one}
 use lib.Seq.{length-take-le, get_or-take, take-length}
 use Rattle.vector.specs.declared.GridPoint.{GridPoint}
 use Rattle.vector.specs.Grid.{origin, at, prev}
@@ -62,3 +63,7 @@ module _ (ring : List GridPoint) (c : Choice) (a : ValidChoice ring c) where
 
     pub round_prev : (j : ℕ) → j ≡ (i + (c.count - 1)) % c.count → j < c.count → prev (chosen ring c) i ≡ point ring c j
     round_prev j e h = whole-prev (chosen ring c) some i j (rw chosen-length e) ∙ chosen_at j h
+
+-- a place after the first, in the slice of those up to the count
+pub after_first : (l : List ℕ) (n j : ℕ) → j < n - 1 → get_or (take (n - 1) (drop 1 l)) j 0 ≡ get_or l (j + 1) 0
+after_first l n j h = get_or-take (n - 1) (drop 1 l) j 0 h ∙ get_or_after_one l j 0 ∙ ap (λ (k : ℕ). get_or l k 0) (omega arith)

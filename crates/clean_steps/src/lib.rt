@@ -14,6 +14,7 @@ ghost use Rattle.clean_steps.specs.Choices.{among, spaced_places, places_of, cho
 use vector::{GridPoint, MOST_POINTS};
 
 // A choice of the ring's places: those in the first count places.
+// Kept: an array with its count, in fixed memory.
 #[derive(Clone, Copy)]
 pub struct Choice {
     pub places: [u8; MOST_POINTS],
@@ -21,17 +22,15 @@ pub struct Choice {
 }
 
 // The choice without the points within tolerance of the last kept one.
-pub fn spaced(ring: [GridPoint; MOST_POINTS], r: Choice, tol: f64) -> Choice
-    requires { ValidChoice ring r × (1 ≤ r.count) }
-    ensures { ValidChoice ring result × (1 ≤ result.count)
-        × (places_of result ≡ among (places_of r) (spaced_places tol (chosen ring r) r.count)) }
+pub fn spaced(ring: &[GridPoint; MOST_POINTS], r: &Choice, tol: f64) -> Choice
+    requires { ValidChoice ring.now r.now × (1 ≤ r.now.count) }
+    ensures { ValidChoice ring.now result × (1 ≤ result.count)
+        × (places_of result ≡ among (places_of r.now) (spaced_places tol (chosen ring.now r.now) r.now.count)) }
 {
-    let n = r.count;
-    let mut out = r;
+    let mut out = *r;
     let mut k: usize = 1;
-    for i in 1..n {
+    for &p in &r.places[1..r.count] {
         let last = out.places[k - 1];
-        let p = r.places[i];
         if !nearness::near(ring[last as usize], ring[p as usize], tol) {
             out.places[k] = p;
             k += 1;
@@ -42,18 +41,15 @@ pub fn spaced(ring: [GridPoint; MOST_POINTS], r: Choice, tol: f64) -> Choice
 }
 
 // How many places stay where final points within tolerance of the first are dropped.
-pub fn opened(ring: [GridPoint; MOST_POINTS], r: Choice, tol: f64) -> usize
-    requires { ValidChoice ring r }
-    ensures { (result ≤ r.count) × (result ≡ Steps.opened tol (chosen ring r) r.count) }
+pub fn opened(ring: &[GridPoint; MOST_POINTS], r: &Choice, tol: f64) -> usize
+    requires { ValidChoice ring.now r.now }
+    ensures { (result ≤ r.now.count) × (result ≡ Steps.opened tol (chosen ring.now r.now) r.now.count) }
 {
     let first = ring[r.places[0] as usize];
-    let mut k = r.count;
-    while 1 < k {
-        let last = r.places[k - 1];
-        if !nearness::near(first, ring[last as usize], tol) {
-            return k;
+    for i in (1..r.count).rev() {
+        if !nearness::near(first, ring[r.places[i] as usize], tol) {
+            return i + 1;
         }
-        k -= 1;
     }
-    k
+    r.count.min(1)
 }

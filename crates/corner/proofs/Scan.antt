@@ -1,14 +1,28 @@
 -- A scan over the corners of a part that keeps the worst so far: one turn of it.
-use Prim.Native.Nat.{ℕ, suc, ◌+◌, ◌-◌, ◌<◌}
+use Prim.Native.Nat.{ℕ, suc, ◌+◌, ◌-◌, ◌%◌, ◌<◌}
 use native.Mathlib.Omega.{arith}
 use mathlib.Core.Bool.{Bool, true, false, cond}
 use mathlib.Core.Path.{◌≡◌, sym, ap, ◌∙◌}
 use mathlib.Core.List.{List}
+use native.Mathlib.Nat.{mod-eq_of_lt, add-mod_right}
+use lib.ListN.{length, get_or}
 use lib.Ieee.{Float}
 use Rattle.laws.specs.Double.{◌≤f◌}
 use Rattle.vector.specs.declared.GridPoint.{GridPoint}
-use Rattle.vector.specs.Grid.{at, prev, sub}
+use Rattle.vector.specs.Grid.{at, prev, sub, origin}
+use Rattle.vector.proofs.Rings.{at_before}
 use Rattle.corner.specs.Corner.{measure, measure_at, worst_to}
+
+-- the corner before one, by its place
+pub before : (l : List GridPoint) (i : ℕ) → 0 < i → i < length l → prev l i ≡ get_or l (i - 1) origin
+before l i p h =
+    let e : i + (length l - 1) ≡ i - 1 + length l = omega arith in
+    at_before l i (i - 1) (sym (ap (λ (k : ℕ). k % length l) e ∙ add-mod_right (i - 1) (length l) ∙ mod-eq_of_lt (omega arith)))
+
+pub before-first : (l : List GridPoint) → 0 < length l → prev l 0 ≡ get_or l (length l - 1) origin
+before-first l h =
+    let e : 0 + (length l - 1) ≡ length l - 1 = omega arith in
+    at_before l 0 (length l - 1) (sym (ap (λ (k : ℕ). k % length l) e ∙ mod-eq_of_lt (omega arith)))
 
 -- the measure of a corner, by its three points
 pub by_points : (r : List GridPoint) (i : ℕ) (a b c : GridPoint)

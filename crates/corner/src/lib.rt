@@ -5,15 +5,15 @@
 
 #![tactic(auto)]
 
-ghost use Rattle.std.specs.Prelude.{◌≡◌, ◌^◌, ◌≤◌, ◌<◌, nat_abs};
+ghost use Rattle.std.specs.Prelude.{◌≡◌, ◌^◌, ◌≤◌, ◌<◌, nat_abs, length};
 ghost use Rattle.laws.specs.Double.{nat};
 ghost use Rattle.vector.specs.Grid as Grid;
 ghost use Rattle.vector.specs.Size.{OnSheet, Step};
-ghost use Rattle.vector.specs.Rings.{points_of, OnSheetRing};
+ghost use Rattle.vector.specs.Rings.{OnSheetPoints};
 ghost use Rattle.corner.specs.Corner as Corners;
 
 use limits::Limits;
-use vector::{GridPoint, Ring};
+use vector::GridPoint;
 
 // A corner of a part: its place and its measure.
 #[derive(Clone, Copy)]
@@ -27,6 +27,7 @@ impl Corner {
 
     const FULL: f64 = 4.0;
 
+    #[tactic(auto, unfolding(crate::specs::Corner::bad))]
     pub fn is_bad(self, limits: Limits) -> bool
         ensures { result ≡ Corners.bad limits self.measure }
     {
@@ -80,30 +81,21 @@ fn corner_at(a: GridPoint, b: GridPoint, c: GridPoint) -> f64
 }
 
 // The worst corner of a part: of equal ones the last.
-pub fn worst(part: Ring) -> Corner
-    requires { OnSheetRing part × (1 ≤ part.count) }
-    ensures { (result.at ≡ Corners.worst (points_of part)) × (result.measure ≡ Corners.measure_at (points_of part) result.at) × (result.at < part.count) }
+pub fn worst(part: &[GridPoint]) -> Corner
+    requires { OnSheetPoints part.now × (1 ≤ length part.now) }
+    ensures { (result.at ≡ Corners.worst part.now) × (result.measure ≡ Corners.measure_at part.now result.at) × (result.at < length part.now) }
 {
-    let n = part.count;
-    let mut at = 0;
-    let mut most = corner_at(
-        part.points[n - 1],
-        part.points[0],
-        part.points[vector::next(0, n)],
-    );
+    let n = part.len();
+    let mut worst = Corner {
+        at: 0,
+        measure: corner_at(part[n - 1], part[0], part[vector::next(0, n)]),
+    };
+    // Kept: a corner is three places of the part, the last of them round its end, so the loop counts places.
     for i in 1..n {
-        let m = corner_at(
-            part.points[i - 1],
-            part.points[i],
-            part.points[vector::next(i, n)],
-        );
-        if most <= m {
-            most = m;
-            at = i;
+        let measure = corner_at(part[i - 1], part[i], part[vector::next(i, n)]);
+        if worst.measure <= measure {
+            worst = Corner { at: i, measure };
         }
     }
-    Corner {
-        at: at,
-        measure: most,
-    }
+    worst
 }

@@ -18,10 +18,7 @@ pub fn cosine(a: GridPoint, na: f64, b: GridPoint, nb: f64) -> f64
     requires { Step a × Step b × (na ≡ Norm.grid_norm a) × (nb ≡ Norm.grid_norm b) }
     ensures { result ≡ Cosine.cosine a b }
 {
-    if a.is_zero() {
-        return 1.0;
-    }
-    if b.is_zero() {
+    if a.is_zero() || b.is_zero() {
         return 1.0;
     }
     vector::clamp(vector::in_square_mm(a.dot(b)) / (na * nb), -1.0, 1.0)

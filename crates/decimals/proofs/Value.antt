@@ -5,14 +5,14 @@ use mathlib.Core.Bool.{Bool, true, false, ◌&&◌, cond, true≢false}
 use Prim.Native.Nat.{ℕ, zero, suc, ◌+◌, ◌-◌, ◌*◌, ◌/◌, ◌%◌, ◌^◌, ◌≤◌, ◌<◌}
 use native.Mathlib.Nat.{le_trans, le_of_eq, lt_of_lt_of_le, suc-mul, mul_assoc, mul_right_comm, mul-le-mul_right, le_of_mul-le-mul_right, zero-mul}
 use native.Mathlib.Omega.{arith}
-use lib.Dec.{T, leb, ltb, eqb, eqb→eq, not_T}
+use lib.Dec.{T, leb, ltb, eqb}
 use lib.IntN.{pos}
 use lib.Arith.{lt_of_le-ne}
 use lib.Pow.{pow-add, pow_pos, pow_mono, shl_lt}
 use lib.Ieee.{Float, nan, inf, fin, binary64, up, down, odd, lt, fits, of_fields, of_bits, to_bits}
-use lib.Ieee.Bits.{of_bits-to_bits, cond_no}
+use lib.Ieee.Bits.{of_bits-to_bits}
 use lib.Ieee.Fits.{up_pos, down_pos}
-use lib.Ieee.Exact.{HasValue, odd_sign}
+use lib.Ieee.Exact.{HasValue}
 use lib.Ieee.Scale.{finite}
 use lib.Ieee.Positive.{den, den_pos}
 use borrow.Author.Tests.{lt-ltb, le-ltb, eq-eqb}

@@ -6,11 +6,21 @@
 
 #![tactic(auto)]
 
-ghost use Rattle.std.specs.Prelude.{◌≡◌, ◌+◌, ◌^◌, ◌≤◌, ◌<◌, length};
+ghost use Rattle.std.specs.Prelude.{◌≡◌, ◌^◌, ◌<◌};
 ghost use Rattle.laws.specs.Within.{Within};
-ghost use Rattle.text.specs.Text.{Written};
+ghost use Rattle.text.specs.Page.{Room, Wrote};
 ghost use Rattle.decimals.specs.Rounded as Rounded;
 ghost use Rattle.decimals.specs.Shown as Shown;
+
+use std::cmp::Ordering;
+use text::Page;
+
+// A coordinate in mm as it is shown: so many ten-thousandths, with a minus or without.
+#[derive(Clone, Copy)]
+pub struct Decimal {
+    pub minus: bool,
+    pub parts: u64,
+}
 
 // p / 2^s to the nearest whole number, ties to even.
 pub fn half_even(p: u64, s: u64) -> u64
@@ -19,14 +29,11 @@ pub fn half_even(p: u64, s: u64) -> u64
 {
     let d: u64 = 1 << s;
     let q = p / d;
-    let r = p % d * 2;
-    if r < d {
-        return q;
+    match (p % d * 2).cmp(&d) {
+        Ordering::Less => q,
+        Ordering::Equal => q + q % 2,
+        Ordering::Greater => q + 1,
     }
-    if d < r {
-        return q + 1;
-    }
-    q + q % 2
 }
 
 // How many ten-thousandths x has. With the field f and the digits t it is (2^52 + t) * 2^(f - 1075), and ten thousand times
@@ -35,7 +42,7 @@ pub fn ten_thousandths(x: f64) -> u64
     requires { Within 1024 x }
     ensures { result ≡ Rounded.ten_thousandths x }
 {
-    let b = f64::to_bits(x);
+    let b = x.to_bits();
     let f = b % 0x8000_0000_0000_0000 / 0x10_0000_0000_0000;
     let t = b % 0x10_0000_0000_0000;
     if f < 1008 {
@@ -44,25 +51,29 @@ pub fn ten_thousandths(x: f64) -> u64
     half_even((0x10_0000_0000_0000 + t) * 625, 1071 - f)
 }
 
-// Whether x, which has n ten-thousandths, is shown with a minus.
-pub fn minus(x: f64, n: u64) -> bool
-    requires { Within 1024 x × (n ≡ Rounded.ten_thousandths x) }
-    ensures { result ≡ Rounded.minus x }
-{
-    if n == 0 {
-        return false;
+impl Decimal {
+    // What is shown of x.
+    pub fn of(x: f64) -> Decimal
+        requires { Within 1024 x }
+        ensures { (result.minus ≡ Rounded.minus x) × (result.parts ≡ Rounded.ten_thousandths x) }
+    {
+        let n = ten_thousandths(x);
+        Decimal {
+            minus: n != 0 && x < 0.0,
+            parts: n,
+        }
     }
-    x < 0.0
-}
 
-// n ten-thousandths with four decimals.
-pub fn put_decimals(out: &mut [u8], at: usize, m: bool, n: u64) -> usize
-    requires { at + length (Shown.decimals m n) ≤ length out.old }
-    ensures { Written out.old at (Shown.decimals m n) result out.new }
-{
-    let numbers = [n / 10000, n / 1000 % 10, n / 100 % 10, n / 10 % 10, n % 10];
-    if m {
-        return text::put_filled(out, at, b"-#.####", &numbers);
+    // With four decimals.
+    pub fn put(self, page: &mut Page)
+        requires { Room page.old (Shown.decimals self.minus self.parts) }
+        ensures { Wrote page.old (Shown.decimals self.minus self.parts) page.new }
+    {
+        let n = self.parts;
+        let form: &[u8] = if self.minus { b"-#.####" } else { b"#.####" };
+        page.filled(
+            form,
+            &[n / 10000, n / 1000 % 10, n / 100 % 10, n / 10 % 10, n % 10],
+        );
     }
-    text::put_filled(out, at, b"#.####", &numbers)
 }

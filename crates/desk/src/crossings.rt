@@ -6,26 +6,24 @@ ghost use Rattle.vector.specs.Size.{OnSheet};
 use segments::Crossing;
 use std::io::Read;
 use vector::GridPoint;
+use words::Field;
 
-// A signed coordinate of 32 bits; 0 where it is beyond the sheet.
-fn coordinate(u: u64) -> i32
-    requires { u ≤ 4294967295 }
+// A coordinate; 0 where it is beyond the sheet.
+fn coordinate(z: i32) -> i32
     ensures { nat_abs result ≤ 2 ^ 23 }
 {
-    if u <= 8388608 {
-        return u as i32;
+    if (-8388608..=8388608).contains(&z) {
+        z
+    } else {
+        0
     }
-    if u >= 4286578688 {
-        return -((4294967296 - u) as i32);
-    }
-    0
 }
 
 fn point<R: Read>(input: &mut R) -> GridPoint
     ensures { OnSheet result }
 {
-    let x = coordinate(words::word(input) as u64);
-    let y = coordinate(words::word(input) as u64);
+    let x = coordinate(i32::read(input));
+    let y = coordinate(i32::read(input));
     GridPoint { x, y }
 }
 

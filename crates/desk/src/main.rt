@@ -17,7 +17,7 @@ fn sheet<R: Read>(input: &mut R) -> bool {
     let n = words::count(input);
     let room = words::count(input);
     let mut nodes = [0.0f64; 64];
-    words::read_nodes(input, &mut nodes, n);
+    words::read_list(input, &mut nodes, n);
     if 64 < n {
         return false;
     }
@@ -27,7 +27,7 @@ fn sheet<R: Read>(input: &mut R) -> bool {
     let mut out = [0u8; 1536];
     words::fill(&mut out);
     let code = listing::node_sheet(&nodes[..n], used, &mut out[..room]);
-    let answered = code == words::word(input) as u64;
+    let answered = code == u64::from(words::word(input));
     answered & words::same_bytes(input, &out)
 }
 
@@ -38,15 +38,15 @@ fn wear_record<R: Read>(input: &mut R) -> bool {
     let n = words::count(input);
     let mut bytes = [0u8; 1536];
     words::fill(&mut bytes);
-    words::read_bytes(input, &mut bytes, n);
+    words::read_list(input, &mut bytes, n);
     if 1536 < n {
         return false;
     }
     let w = wear::wear_add(&mut bytes[..n], number, cuts);
-    let code = w.code == words::word(input) as u64;
-    let total = w.total == words::word(input) as u64;
-    let highest = w.highest == words::word(input) as u64;
-    let rings = w.rings == words::word(input) as u64;
+    let code = w.code == u64::from(words::word(input));
+    let total = w.total == u64::from(words::word(input));
+    let highest = w.highest == u64::from(words::word(input));
+    let rings = w.rings == u64::from(words::word(input));
     code & total & highest & rings & words::same_bytes(input, &bytes)
 }
 
@@ -57,41 +57,64 @@ fn smallest_ring<R: Read>(input: &mut R) -> bool {
     let c = words::count_to(input, 256);
     let mut ring = [0i32; 256];
     let mut chain = [0i32; 256];
-    words::read_numbers(input, &mut ring, r);
-    words::read_numbers(input, &mut chain, c);
+    words::read_list(input, &mut ring, r);
+    words::read_list(input, &mut chain, c);
     let s = smallest::smallest_refused(&ring[..r], &chain[..c], size);
-    let code = s.code == words::word(input) as u64;
-    let refusal = s.refusal == words::word(input) as u64;
-    let choice = s.choice == words::word(input) as u64;
-    let points = s.points == words::word(input) as u64;
+    let code = s.code == u64::from(words::word(input));
+    let refusal = s.refusal == u64::from(words::word(input));
+    let choice = s.choice == u64::from(words::word(input));
+    let points = s.points == u64::from(words::word(input));
     code & refusal & choice & points
 }
 
-fn step<R: Read>(input: &mut R, kind: u32) -> bool {
-    if kind == 5 {
-        return sheet(input);
+// A record of a list, by the number that its first word has.
+#[derive(Clone, Copy)]
+enum Kind {
+    Sheet,
+    Wear,
+    Smallest,
+    Crossing,
+}
+
+// A number that no record has.
+#[derive(Clone, Copy)]
+struct UnknownKind;
+
+impl TryFrom<u32> for Kind {
+    type Error = UnknownKind;
+
+    fn try_from(number: u32) -> Result<Kind, UnknownKind> {
+        match number {
+            5 => Ok(Kind::Sheet),
+            6 => Ok(Kind::Wear),
+            7 => Ok(Kind::Smallest),
+            9 => Ok(Kind::Crossing),
+            _ => Err(UnknownKind),
+        }
     }
-    if kind == 6 {
-        return wear_record(input);
+}
+
+fn step<R: Read>(input: &mut R, number: u32) -> bool {
+    let Ok(kind) = Kind::try_from(number) else {
+        return false;
+    };
+    match kind {
+        Kind::Sheet => sheet(input),
+        Kind::Wear => wear_record(input),
+        Kind::Smallest => smallest_ring(input),
+        Kind::Crossing => crossings::crossing(input),
     }
-    if kind == 7 {
-        return smallest_ring(input);
-    }
-    if kind == 9 {
-        return crossings::crossing(input);
-    }
-    false
 }
 
 // All records of a file, which has fewer than a million.
 fn records<R: Read>(input: &mut R) -> Tally {
-    let mut t = Tally::NONE;
+    let mut t = Tally::default();
     for _ in 0u32..1000000 {
-        let kind = words::word(input);
-        if kind == 0 {
+        let number = words::word(input);
+        if number == 0 {
             break;
         }
-        t = t.ran(step(input, kind));
+        t = t.ran(step(input, number));
     }
     t
 }
@@ -102,13 +125,13 @@ fn tally<F: Files, E: Write>(files: &F, errors: &mut E, path: &str) -> Tally {
         Ok(mut list) => records(&mut list),
         Err(error) => {
             stream::fail(errors, path, error);
-            Tally::NONE.ran(false)
+            Tally::default().ran(false)
         }
     }
 }
 
 fn file<F: Files, W: Write, E: Write>(files: &F, output: &mut W, errors: &mut E, path: &str) {
-    tally(files, errors, path).print(output, path.as_bytes());
+    tally(files, errors, path).print(output, path);
 }
 
 fn main(rt: HostRuntime) {
@@ -119,5 +142,5 @@ fn main(rt: HostRuntime) {
     file(&rt, &mut output, &mut errors, "smallest.list");
     file(&rt, &mut output, &mut errors, "crossings.list");
     let wrong = tally(&rt, &mut errors, "wrong.list");
-    wrong.print_told(&mut output, b"wrong.list");
+    wrong.print_told(&mut output, "wrong.list");
 }

@@ -7,62 +7,47 @@
 
 #![tactic(auto)]
 
-ghost use Rattle.std.specs.Prelude.{◌≡◌, not, ◌&&◌, ◌||◌, ◌-◌, ◌≤◌};
-ghost use Rattle.laws.specs.Double.{◌<f◌};
-ghost use Rattle.vector.specs.Rings.{points_of, OnSheetRing};
+ghost use Rattle.std.specs.Prelude.{◌≡◌, ◌-◌, ◌≤◌, length};
+ghost use Rattle.vector.specs.Rings.{OnSheetPoints};
 ghost use Rattle.diagonal.specs.Diagonal as Diagonals;
 ghost use Rattle.diagonal.specs.Answer.{answer};
+ghost use Rattle.diagonal.specs.Best.{wins};
 
-use judge::Judged;
+use judge::Side;
 use limits::Limits;
-use vector::Ring;
+use vector::GridPoint;
 
-// The corner where the best diagonal ends, or that none meets the rule.
+// The best diagonal so far: the corner where it ends, and its larger cosine.
 #[derive(Clone, Copy)]
-pub enum Diagonal {
-    To(usize),
-    Missing,
+struct Best {
+    at: usize,
+    score: f64,
 }
 
-// Whether a diagonal would win over the best so far, whose larger cosine is least: on a tie the earlier one stays.
-fn improves(j: Judged, found: bool, least: f64) -> bool
-    ensures { result ≡ (j.ok && (not found || (j.score <f least))) }
+// Whether a diagonal would win over the best so far: on a tie the earlier one stays.
+fn improves(score: f64, best: Option<Best>) -> bool
+    ensures { result ≡ wins score best }
 {
-    if j.ok {
-        if found {
-            return j.score < least;
-        }
-        return true;
-    }
-    false
+    best.is_none_or(|b| score < b.score)
 }
 
-// The best of the diagonals from corner 0 of a part of n corners to its corners 2 .. n - 2.
-pub fn best_diagonal(limits: Limits, part: Ring) -> Diagonal
-    requires { OnSheetRing part × (3 ≤ part.count) }
-    ensures { answer result ≡ Diagonals.best_to limits (points_of part) (part.count - 3) }
+// The corner where the best of the diagonals from corner 0 of a part of n corners to its corners 2 .. n - 2 ends, if one meets the rule.
+pub fn best_diagonal(limits: Limits, part: &[GridPoint]) -> Option<usize>
+    requires { OnSheetPoints part.now × (3 ≤ length part.now) }
+    ensures { answer result ≡ Diagonals.best_to limits part.now (length part.now - 3) }
 {
-    let n = part.count;
-    let o = part.points[0];
-    let a = part.points[1].sub(o);
-    let na = root::grid_norm(a);
-    let b = part.points[n - 1].sub(o);
-    let nb = root::grid_norm(b);
-    let mut found = false;
-    let mut at = 0;
-    let mut least = 0.0;
+    let n = part.len();
+    let o = part[0];
+    let next = Side::new(part[1].sub(o));
+    let prev = Side::new(part[n - 1].sub(o));
+    let mut best: Option<Best> = None;
+    // Kept: k is the corner that is answered, and its distance from both ends is what the range says.
     for k in 2..n - 1 {
-        let j = judge::judge(limits, o, part.points[k], a, na, b, nb);
-        if improves(j, found, least) {
-            if obstacles::is_unobstructed(part, k) {
-                found = true;
-                at = k;
-                least = j.score;
+        if let Some(score) = judge::judge(limits, o, part[k], next, prev) {
+            if improves(score, best) && obstacles::is_unobstructed(part, k) {
+                best = Some(Best { at: k, score });
             }
         }
     }
-    if found {
-        return Diagonal::To(at);
-    }
-    Diagonal::Missing
+    best.map(|b| b.at)
 }

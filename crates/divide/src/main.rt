@@ -6,8 +6,7 @@
 #![tactic(auto)]
 
 fn main(rt: HostRuntime) {
-    let sent = run::run(&mut rt.stdin(), &mut rt.stdout());
-    if sent.failed {
-        stream::write_all(&mut rt.stderr(), b"divide: standard output failed\n");
+    if run::run(&mut rt.stdin(), &mut rt.stdout()).is_err() {
+        let _ = stream::write_all(&mut rt.stderr(), b"divide: standard output failed\n");
     }
 }

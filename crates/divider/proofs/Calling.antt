@@ -2,7 +2,7 @@
 -- leaves what specs/LentCalls says (`as_called`).
 use Prim.Native.Nat.{ℕ, ◌+◌, ◌/◌, ◌≤◌}
 use native.Mathlib.Omega.{arith}
-use mathlib.Core.Path.{◌≡◌, refl, sym, ap, ◌∙◌, subst}
+use mathlib.Core.Path.{◌≡◌, sym, ap, ◌∙◌, subst}
 use mathlib.Core.List.{List}
 use lib.ListN.{length}
 use lib.Ieee.{Float}
@@ -11,19 +11,18 @@ use Rattle.marks.specs.declared.MarkedRing.{MarkedRing}
 use Rattle.marks.specs.Part.{Part}
 use Rattle.limits.specs.declared.Limits.{Limits}
 use Rattle.limits.specs.Limits.{delivered}
-use Rattle.quads.specs.declared.Cell.{Cell}
 use Rattle.table.specs.declared.Row.{Row}
 use Rattle.table.specs.Answers.{refused_row}
-use Rattle.table.specs.Refusals.{Passes, first_of}
+use Rattle.table.specs.Refusals.{first_of}
 use Rattle.table.proofs.Refusals.{all_pass}
-use Rattle.call.specs.Call.{Lists, Call, lists_of, cell_reserve}
-use Rattle.call.specs.Divide.{CallAnswer, refused, ring_tests, answered, core, start_of}
+use Rattle.call.specs.Call.{Lists, Call, cell_reserve}
+use Rattle.call.specs.Divide.{CallAnswer, ring_tests, answered, core, start_of}
 use Rattle.call.specs.Demand.{Ready, Prepared}
 use Rattle.call.specs.Lent.{point_in, cell_in, all_cells, LentRecords, call_of_records, tests_by, Lent, divide_lent}
 use Rattle.call.specs.LentCalls.{Given, numbers, Pool, lend, answer_of, leaves}
 use Rattle.call.proofs.Tests.{Passed, passed}
 use Rattle.call.proofs.Course as Course
-use Rattle.call.proofs.Course.{Whole, whole, outcome_of, prepared}
+use Rattle.call.proofs.Course.{outcome_of, prepared}
 use Rattle.call.proofs.Demand.{demand3_lent}
 use Rattle.split.specs.Split.{split_bad_vertices}
 use Rattle.entry.specs.Refusal.{refusal}
@@ -43,9 +42,6 @@ module _ (L : Limits) (r : ℕ) (p : Part) (l : List Float) (u : ℕ) (rs q : Li
   core-refused n e z =
       rw (Course.turned-away lists (ring_tests p.points) (answered L r p lists (split_bad_vertices L p) (outcome_of L p lists)) (λ f. z (e ∙ f)), ← e)
       (refused-leaves l u rs q k n)
-
-  pub core-whole : (n : ℕ) → n ≡ first_of (ring_tests p.points) → n ≡ 0 → Whole p.points
-  core-whole n e z = whole p.points (all_pass (ring_tests p.points) tt (sym e ∙ z))
 
   pub core-laid : (n : ℕ) → n ≡ first_of (ring_tests p.points) → n ≡ 0 → (v : Row) (m : List Float) (t o : List ℕ)
       → Leaves (answered L r p lists (split_bad_vertices L p) (outcome_of L p lists)) v l m t q o → Leaves (core L r p lists) v l m t q o

@@ -4,7 +4,7 @@ use native.Mathlib.Omega.{arith}
 use mathlib.Core.Path.{◌≡◌, sym, ap, subst}
 use mathlib.Core.List.{List}
 use lib.IntN.{nat_abs}
-use lib.ListN.{length, replicate}
+use lib.ListN.{length}
 use lib.Ieee.{Float}
 use Rattle.vector.specs.declared.Point.{Point}
 use Rattle.vector.specs.Grid.{polygon_area}
@@ -14,7 +14,6 @@ use Rattle.limits.specs.declared.Limits.{Limits}
 use Rattle.split.specs.Split.{Stack, split_bad_vertices}
 use Rattle.nodes.specs.Flat.{over}
 use Rattle.quads.specs.declared.Cell.{Cell}
-use Rattle.quads.specs.Quads.{no_cell}
 use Rattle.cells.specs.Pieces.{Outcome, done, failed}
 use Rattle.cells.specs.Stages.{nodes_of}
 use Rattle.cells.specs.Claims.{CellsOf}

@@ -8,7 +8,6 @@ use lib.ListN.{length, get_or, take, replicate, length-map, length-take, length-
 use lib.Ieee.{Float}
 use Rattle.laws.proofs.Table.{length_tab}
 use Rattle.vector.specs.declared.Point.{Point}
-use Rattle.vector.specs.declared.GridPoint.{GridPoint}
 use Rattle.vector.specs.Size.{AllOnSheet}
 use Rattle.marks.specs.declared.Edge.{Edge}
 use Rattle.marks.specs.declared.EdgeMark.{EdgeMark}

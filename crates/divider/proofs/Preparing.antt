@@ -1,10 +1,10 @@
 -- The ring that a call prepares: what the code holds after cleaning and marking is the cleaned ring of the definition, with the marks that the chain gives it.
-use Prim.Native.Nat.{ℕ, ◌+◌, ◌*◌, ◌-◌, ◌/◌, ◌≤◌}
+use Prim.Native.Nat.{ℕ, ◌*◌, ◌-◌, ◌/◌, ◌≤◌}
 use native.Mathlib.Omega.{arith}
-use mathlib.Core.Path.{◌≡◌, sym, ap, ◌∙◌}
+use mathlib.Core.Path.{◌≡◌, sym, ap, ◌∙◌, subst}
 use mathlib.Core.List.{List, ◌++◌}
 use lib.IntN.{ℤ}
-use lib.ListN.{length, take, replicate}
+use lib.ListN.{length, replicate}
 use lib.Seq.{length-take-le, take_at}
 use Rattle.laws.proofs.Table.{length_tab}
 use Rattle.vector.specs.Grid.{origin}
@@ -20,7 +20,7 @@ use Rattle.clean.specs.Clean.{clean_polygon}
 use Rattle.clean.specs.Rings.{Cleaned}
 use Rattle.marks.specs.declared.Edge.{Edge}
 use Rattle.marks.specs.Marks.{marks_to, marked}
-use Rattle.marks.specs.Edges.{marks_in, Marked, part_in}
+use Rattle.marks.specs.Edges.{marks_in, Marked}
 use Rattle.call.specs.Lent.{point_in, points_in}
 use Rattle.call.specs.Marked.{all_points}
 use Rattle.divider.specs.Steps.{OnPaper, Prepares}
@@ -37,7 +37,10 @@ read l r e =
 
 module _ (ring chain : List ℤ) (size : ℕ) (own run : Ring) (a : points_of own ≡ all_points ring) (b : points_of run ≡ all_points chain)
     (g : CleanedRing) (w : Cleaned size (points_of own) g) (s : Simplified) (y : Simplifies (points_of run) s)
-    (es : List Edge) (x : Marked (stretches_in s) (points_of g.ring) g.ring.count es) where
+    (es : List Edge) (drawn : Marked (stretches_in s) (points_of g.ring) (length (points_of g.ring)) es) where
+  x : Marked (stretches_in s) (points_of g.ring) g.ring.count es
+  x = subst (λ (n : ℕ). Marked (stretches_in s) (points_of g.ring) n es) (length-take-le g.ring.count g.ring.points (room g.ring w.valid)) drawn
+
   points_are : points_of g.ring ≡ clean_polygon size (all_points ring)
   points_are = w.points ∙ ap (clean_polygon size) a
 

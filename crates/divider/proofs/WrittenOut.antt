@@ -1,6 +1,6 @@
 -- Things written out in a flat list, w numbers each. Things put over some places of it are written over the numbers of those
 -- places, and every other number stays (`put-out`); so it is for nodes (`nodes-out`) and for cells (`cells_out`).
-use Prim.Native.Nat.{ℕ, zero, suc, ◌+◌, ◌-◌, ◌*◌, ◌/◌, ◌≤◌}
+use Prim.Native.Nat.{ℕ, zero, suc, ◌+◌, ◌*◌, ◌/◌, ◌≤◌}
 use native.Mathlib.Nat.{suc-mul, zero-mul, zero-add, mul-le-mul_right}
 use native.Mathlib.Omega.{arith}
 use mathlib.Core.Path.{◌≡◌, refl, sym, ap, ◌∙◌}

@@ -1,7 +1,5 @@
 -- The steps of a call: the ring that it prepares, as an array holds it, and what the core asks for. Definitions only.
-use Rattle.std.specs.Prelude.{ℕ, ◌+◌, ◌*◌, ◌-◌, ◌/◌, ◌≤◌, ◌≡◌, cond, List, eqb, ℤ, nat_abs, length, Float}
-use Rattle.vector.specs.declared.GridPoint.{GridPoint}
-use Rattle.vector.specs.Grid.{polygon_area}
+use Rattle.std.specs.Prelude.{ℕ, ◌+◌, ◌/◌, ◌≤◌, ◌≡◌, List, ℤ, length, Float, Result, Ok, Err}
 use Rattle.vector.specs.Size.{AllOnSheet}
 use Rattle.vector.specs.Rings.{most_points}
 use Rattle.chain.specs.Chain.{simplify_chain}
@@ -11,18 +9,16 @@ use Rattle.marks.specs.Marks.{marked}
 use Rattle.marks.specs.Edges.{part_in, ValidMarkedRing}
 use Rattle.limits.specs.declared.Limits.{Limits}
 use Rattle.nodes.specs.Flat.{nodes_in}
-use Rattle.pieces.specs.declared.Subdivision.{Subdivision}
-use Rattle.pieces.specs.declared.Subdivision.TheVariants as subdivision
-use Rattle.table.specs.declared.Answer as table
-use Rattle.table.specs.declared.Answer.TheVariants as answer
+use Rattle.table.specs.declared.Answer.{Answer}
+use Rattle.table.specs.declared.Refusal.{Refusal}
+use Rattle.table.specs.declared.Row.{Row}
+use Rattle.table.specs.Answers.{values, number_of, refused_row}
 use Rattle.call.specs.Call.{Lists, cell_reserve}
-use Rattle.table.specs.Refusals.{first_of}
-use Rattle.call.specs.Divide.{CallAnswer, ring_tests, refused_or, core, start_of}
+use Rattle.call.specs.Divide.{CallAnswer, refused_or, core, start_of}
 use Rattle.call.specs.Demand.{Prepared}
 use Rattle.call.specs.Marked.{all_points}
 use Rattle.call.specs.Lent.{all_cells, LentRecords, call_of_records, tests_by}
 use Rattle.divider.specs.declared.CellRoom.{CellRoom}
-use Rattle.divider.specs.declared.RingTest.{RingTest}
 
 -- the points of a ring or a chain that was lent are not too many, and are on the sheet
 pub record OnPaper (l : List ℤ) : Type 0 where
@@ -38,14 +34,10 @@ pub record Prepares (ring chain : List ℤ) (size : ℕ) (m : MarkedRing) : Type
 abbrev pub lists_in : List Float → ℕ → List ℕ → List ℕ → ℕ → Lists
 lists_in l u t q k = record { nodes = nodes_in l (length l / 2); node_count_of = u; rims = t; cells = all_cells q; cell_count_of = k }
 
--- what the tests of a cleaned ring find: the first that refuses it, or 0 and the ring's doubled area
-abbrev pub test_of : List GridPoint → RingTest
-test_of r = let k = first_of (ring_tests r) in record { code = k; area = cond (eqb k 0) (nat_abs (polygon_area r)) 0 }
-
--- the answer of pieces of which one failed. It is not asked of pieces that are done: these have the number alone
-abbrev pub failed_answer : Subdivision → ℕ → table.Answer
-failed_answer (subdivision.Failed n k u) cells = answer.Failed n k u cells
-failed_answer (subdivision.Done u d) cells = answer.Refused 8 0 cells
+-- the row of what a step of a call returns: that of its answer, or of a refusal with the caller's two counts
+abbrev pub returned : Result Answer Refusal → ℕ → ℕ → Row
+returned (Ok a) u k = values a
+returned (Err why) u k = refused_row (number_of why) u k
 
 -- what the core asks for: a ring of r points that was prepared, whatever its marks came from, and a set of at most 32 cuts
 pub record CanDivideRing (L : Limits) (r : ℕ) (m : MarkedRing) (l : List Float) (u : ℕ) (t q : List ℕ) (k : ℕ) : Type 0 where

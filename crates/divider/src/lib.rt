@@ -7,79 +7,53 @@
 
 #![tactic(auto)]
 
-ghost use Rattle.std.specs.Prelude.{◌≡◌, List, nat_abs, length};
+ghost use Rattle.std.specs.Prelude.{◌≡◌, List, IfOk, nat_abs, length};
 ghost use Rattle.vector.specs.Grid.{polygon_area};
 ghost use Rattle.vector.specs.Rings.{points_of, OnSheetRing};
 ghost use Rattle.marks.specs.Edges.{part_in};
 ghost use Rattle.limits.specs.Limits.{delivered};
 ghost use Rattle.split.specs.Split.{split_bad_vertices};
-ghost use Rattle.nodes.specs.Nearby.{ValidNearby};
+ghost use Rattle.nodes.specs.Nearby.{ValidCollected};
 ghost use Rattle.quads.specs.declared.Cell.{Cell};
 ghost use Rattle.table.specs.Answers as Answers;
-ghost use Rattle.table.specs.declared.Answer.TheVariants as answer;
-ghost use Rattle.call.specs.Divide.{Whole, outcome_of, answered, core};
+ghost use Rattle.table.specs.Refusals.{first_of};
+ghost use Rattle.call.specs.Divide.{Whole, outcome_of, answered, core, ring_tests};
 ghost use Rattle.divider.specs.Promise.{Leaves, Promise};
-ghost use Rattle.divider.specs.Steps.{OnPaper, Prepares, lists_in, test_of, failed_answer, CanDivideRing, divide_into, HasRoom};
+ghost use Rattle.divider.specs.Steps.{OnPaper, Prepares, lists_in, returned, CanDivideRing, divide_into, HasRoom};
 
 use limits::Limits;
 use marks::MarkedRing;
-use nodes::{MOST_NEARBY, Nearby, NodeNumber};
-use pieces::Subdivision;
-use table::Answer;
+use nodes::{Collected, MOST_NEARBY, NodeNumber};
+use table::{Answer, Refusal};
 use vector::Ring;
 
-// What the tests of a cleaned ring found: the number of a refusal, or 0 and the ring's doubled area.
-#[derive(Clone, Copy)]
-struct RingTest {
-    code: u32,
-    area: u64,
-}
-
-// Refusals 5 to 7 of a cleaned ring.
-fn ring_refusal(ring: Ring) -> RingTest
-    requires { OnSheetRing ring }
-    ensures { result ≡ test_of (points_of ring) }
+// The refusal of a cleaned ring, 5 to 7, or its doubled area.
+fn ring_refusal(ring: &Ring) -> Result<u64, Refusal>
+    requires { OnSheetRing ring.now }
+    ensures code { Answers.code_of result ≡ first_of (ring_tests (points_of ring.now)) }
+    ensures area { IfOk result (λ area. area ≡ nat_abs (polygon_area (points_of ring.now))) }
 {
     if ring.count < 3 {
-        return RingTest { code: 5, area: 0 };
+        return Err(Refusal::UnderThree);
     }
-    if !simple::polygon_simple(ring) {
-        return RingTest { code: 6, area: 0 };
+    let points = ring.as_slice();
+    if !simple::polygon_simple(points) {
+        return Err(Refusal::NotSimple);
     }
-    let area = vector::polygon_area(ring);
-    if 0 < area {
-        return RingTest {
-            code: 0,
-            area: vector::magnitude(area),
-        };
+    let area = vector::polygon_area(points);
+    if area <= 0 {
+        return Err(Refusal::NoArea);
     }
-    RingTest { code: 7, area: 0 }
+    Ok(area.unsigned_abs())
 }
 
-// The answer of a ring with a piece that failed: 8.
-fn failed(laid: Subdivision, cells: usize) -> Answer
-    ensures { result ≡ failed_answer laid cells }
-{
-    let Subdivision::Failed { corners, k, nodes } = laid else {
-        return Answer::Refused {
-            code: 8,
-            nodes: 0,
-            cells: cells,
-        };
-    };
-    Answer::Failed {
-        corners: corners,
-        k: k,
-        nodes: nodes,
-        cells: cells,
-    }
-}
+// Kept: the lists come one by one from C; a struct of their `&mut`s adds to each contract that its references stay the same.
 
 // The pieces of a ring of `own` points that passed every test, and their cells over the places from cell_count on. Its
 // doubled area is the one that the tests found, and the used nodes nearby were collected.
 fn lay_out(
     limits: Limits,
-    ring: MarkedRing,
+    ring: &MarkedRing,
     area: u64,
     own: usize,
     nodes: &mut [f64],
@@ -87,42 +61,46 @@ fn lay_out(
     rims: &mut [u8],
     cells: &mut [NodeNumber],
     cell_count: usize,
-    near: Nearby,
-    numbers: &[NodeNumber],
-    xs: &[f64],
+    found: Collected<'_>,
 ) -> Answer
-    requires { CanDivideRing limits own ring nodes.old node_count rims.old cells.old cell_count × Whole (part_in ring).points
-        × (area ≡ nat_abs (polygon_area (part_in ring).points)) × ValidNearby nodes.old node_count near numbers.now xs.now }
-    ensures { Leaves (answered limits own (part_in ring) (lists_in nodes.old node_count rims.old
-        cells.old cell_count) (split_bad_vertices limits (part_in ring))
-        (outcome_of limits (part_in ring) (lists_in nodes.old node_count rims.old cells.old cell_count)))
+    requires { CanDivideRing limits own ring.now nodes.old node_count rims.old cells.old cell_count × Whole (part_in ring.now).points
+        × (area ≡ nat_abs (polygon_area (part_in ring.now).points)) × ValidCollected nodes.old node_count found }
+    ensures { Leaves (answered limits own (part_in ring.now) (lists_in nodes.old node_count rims.old
+        cells.old cell_count) (split_bad_vertices limits (part_in ring.now))
+        (outcome_of limits (part_in ring.now) (lists_in nodes.old node_count rims.old cells.old cell_count)))
         (Answers.values result) nodes.old nodes.new rims.new cells.old cells.new }
 {
-    let cleaned = ring.ring;
-    let reserve = entry::cell_reserve(limits, own);
-    let s = split::split_bad_vertices(limits, cleaned);
-    let pieces = s.pieces;
-    let count = pieces.count;
-    let share = limits.share;
+    let reserve = entry::reserve_of(limits, own).cells;
+    let s = split::split_bad_vertices(limits, &ring.ring);
     let laid = pieces::subdivide_all(
-        nodes, node_count, rims, cells, cell_count, reserve, ring, pieces, share, near, numbers, xs,
+        nodes,
+        node_count,
+        rims,
+        cells,
+        cell_count,
+        reserve,
+        ring,
+        &s.pieces,
+        limits.share,
+        found,
     );
-    let Subdivision::Done {
-        nodes: listed,
-        cells: added,
-    } = laid
-    else {
-        return failed(laid, cell_count);
-    };
-    Answer::Divided {
-        corners: cleaned.count,
-        marked: marks::mark_count(ring),
-        cuts: s.cuts,
-        pieces: count,
-        turned: s.turned,
-        area: area,
-        nodes: listed,
-        cells: cell_count + added,
+    match laid {
+        Ok(laid) => Answer::Divided {
+            corners: ring.ring.count,
+            marked: marks::mark_count(ring),
+            cuts: s.cuts,
+            pieces: s.pieces.count,
+            turned: s.turned,
+            area,
+            nodes: laid.nodes,
+            cells: cell_count + laid.cells,
+        },
+        Err(piece) => Answer::Failed {
+            corners: piece.corners,
+            k: piece.k,
+            nodes: piece.nodes,
+            cells: cell_count,
+        },
     }
 }
 
@@ -130,34 +108,24 @@ fn lay_out(
 // used nodes nearby. Refusals 5 to 7, or its pieces and their cells.
 pub fn divide_core(
     limits: Limits,
-    ring: MarkedRing,
+    ring: &MarkedRing,
     own: usize,
     nodes: &mut [f64],
     node_count: usize,
     rims: &mut [u8],
     cells: &mut [NodeNumber],
     cell_count: usize,
-    near: Nearby,
-    numbers: &[NodeNumber],
-    xs: &[f64],
-) -> Answer
-    requires { CanDivideRing limits own ring nodes.old node_count rims.old cells.old cell_count
-        × ValidNearby nodes.old node_count near numbers.now xs.now }
-    ensures { Leaves (core limits own (part_in ring) (lists_in nodes.old node_count rims.old cells.old cell_count))
-        (Answers.values result) nodes.old nodes.new rims.new cells.old cells.new }
+    found: Collected<'_>,
+) -> Result<Answer, Refusal>
+    requires { CanDivideRing limits own ring.now nodes.old node_count rims.old cells.old cell_count
+        × ValidCollected nodes.old node_count found }
+    ensures { Leaves (core limits own (part_in ring.now) (lists_in nodes.old node_count rims.old cells.old cell_count))
+        (returned result node_count cell_count) nodes.old nodes.new rims.new cells.old cells.new }
 {
-    let cleaned = ring.ring;
-    let test = ring_refusal(cleaned);
-    if test.code != 0 {
-        return Answer::Refused {
-            code: test.code,
-            nodes: node_count,
-            cells: cell_count,
-        };
-    }
-    lay_out(
-        limits, ring, test.area, own, nodes, node_count, rims, cells, cell_count, near, numbers, xs,
-    )
+    let area = ring_refusal(&ring.ring)?;
+    Ok(lay_out(
+        limits, ring, area, own, nodes, node_count, rims, cells, cell_count, found,
+    ))
 }
 
 // The ring of a call, cleaned, with the marks that the chain gives its edges.
@@ -167,25 +135,22 @@ fn prepared(ring: &[i32], chain: &[i32], size: u32) -> MarkedRing
 {
     let n = ring.len() / 2;
     let m = chain.len() / 2;
-    let clean = clean::clean_polygon(lent_points::points(ring, n), size);
-    let cleaned = clean.ring;
-    let run = chain::simplify_chain(lent_points::points(chain, m));
-    let edges = marks::mark_edges(cleaned, run);
+    let own = lent_points::points(ring, n);
+    let clean = clean::clean_polygon(&own, size);
+    let run = lent_points::points(chain, m);
+    let simplified = chain::simplify_chain(run.as_slice());
+    let edges = marks::mark_edges(clean.ring.as_slice(), &simplified);
     MarkedRing {
-        ring: cleaned,
-        edges: edges,
+        ring: clean.ring,
+        edges,
     }
 }
 
-// The answer of a call that is refused before it touches anything.
-pub fn refused(code: u32, nodes: usize, cells: usize) -> Answer
-    ensures { result ≡ answer.Refused code nodes cells }
+// The answer of a call: that of its last step, or the refusal of one, with the caller's two counts.
+pub fn answer_of(step: Result<Answer, Refusal>, nodes: usize, cells: usize) -> Answer
+    ensures { Answers.values result ≡ returned step nodes cells }
 {
-    Answer::Refused {
-        code: code,
-        nodes: nodes,
-        cells: cells,
-    }
+    step.unwrap_or_else(|why| Answer::Refused { why, nodes, cells })
 }
 
 // The caller's cell list, of which the tests look at the number of places and at how many are used; and the place where
@@ -195,6 +160,60 @@ pub struct CellRoom {
     pub places: usize,
     pub used: usize,
     pub at: usize,
+}
+
+// The steps of a divider call: its tests, the ring that is prepared, and the core. The first that refuses ends them.
+fn divide_steps(
+    limits: Limits,
+    ring: &[i32],
+    chain: &[i32],
+    size: u32,
+    nodes: &mut [f64],
+    node_count: usize,
+    rims: &mut [u8],
+    cells: &mut [NodeNumber],
+    room: CellRoom,
+) -> Result<Answer, Refusal>
+    requires { HasRoom limits room cells.old }
+    ensures { (cs : List Cell) → length cs ≡ room.places
+        → Leaves (divide_into limits (record {
+          ring = ring.now;
+          chain = chain.now;
+          size = size;
+          nodes = nodes.old;
+          node_count_of = node_count;
+          rims = rims.old;
+          cells = cs;
+          cell_count_of = room.used;
+        }) cells.old room.at)
+        (returned result node_count room.at) nodes.old nodes.new rims.new cells.old cells.new }
+{
+    entry::points_refusal(limits, ring, chain, size)?;
+    let own = ring.len() / 2;
+    let w = extent::window(ring, chain);
+    let mut numbers = [0; MOST_NEARBY];
+    let mut xs = [0.0; MOST_NEARBY];
+    let near = entry::lists_refusal(
+        limits,
+        own,
+        nodes,
+        node_count,
+        rims,
+        room.places,
+        room.used,
+        w,
+        &mut numbers,
+        &mut xs,
+    )?;
+    let marked = prepared(ring, chain, size);
+    let found = Collected {
+        near,
+        numbers: &numbers,
+        xs: &xs,
+    };
+    divide_core(
+        limits, &marked, own, nodes, node_count, rims, cells, room.at, found,
+    )
 }
 
 // The divider call with a set of limits, its cells written as numbers.
@@ -223,34 +242,10 @@ pub fn divide_with(
         }) cells.old room.at)
         (Answers.values result) nodes.old nodes.new rims.new cells.old cells.new }
 {
-    let code = entry::points_refusal(limits, ring, chain, size);
-    if code != 0 {
-        return refused(code, node_count, room.at);
-    }
-    let own = ring.len() / 2;
-    let w = extent::window(ring, chain);
-    let mut numbers = [0; MOST_NEARBY];
-    let mut xs = [0.0; MOST_NEARBY];
-    let test = entry::lists_refusal(
-        limits,
-        own,
-        nodes,
-        node_count,
-        rims,
-        room.places,
-        room.used,
-        w,
-        &mut numbers,
-        &mut xs,
+    let step = divide_steps(
+        limits, ring, chain, size, nodes, node_count, rims, cells, room,
     );
-    if test.code != 0 {
-        return refused(test.code, node_count, room.at);
-    }
-    let near = test.near;
-    let marked = prepared(ring, chain, size);
-    divide_core(
-        limits, marked, own, nodes, node_count, rims, cells, room.at, near, &numbers, &xs,
-    )
+    answer_of(step, node_count, room.at)
 }
 
 // The divider call with the caller's set of limits, over the lists that the caller lends.

@@ -1,3 +1,2 @@
--- Laws of the loop, and of the words.
+-- Laws of a run.
 pub mod Reaching
-pub mod Saying

@@ -1,17 +1,20 @@
 -- The loop of `draw`: it begins with no byte read, a byte more keeps the invariant and brings the end nearer, and where it ends the run is finished.
 use Prim.Native.Nat.{ℕ, suc, ◌+◌, ◌-◌, ◌*◌, ◌≤◌, ◌<◌}
 use mathlib.Core.Path.{◌≡◌, refl, sym, ap, subst, ◌∙◌}
-use mathlib.Core.Bool.{Bool, true, false, true≢false, ◌&&◌, ◌||◌, cond}
+use mathlib.Core.Bool.{Bool, true, false, true≢false, not, ◌||◌, cond}
 use mathlib.Core.List.{List, [], ◌∷◌, ◌++◌}
 use native.Mathlib.Omega.{arith}
 use lib.ListN.{length, length-append}
 use lib.Dec.{eqb}
 use lib.IntN.{ℤ}
-use borrow.Author.Tests.{eq-eqb, ne_eqb, eqb-true, eqb-false}
+use borrow.Author.Tests.{eqb-false}
+use Rattle.std.specs.Prelude.{Option, Some, None}
+use Rattle.std.specs.Option.{is_some}
+use Rattle.drawing.specs.declared.Wrong.{Wrong}
+use Rattle.drawing.specs.declared.Wrong.TheVariants.{LongLine, LongText}
 use Rattle.drawing.specs.declared.State.{State}
-use Rattle.drawing.specs.Page.{Page, page, gone_on, stops, line_ends, fed, ends, begun, blank_page, Run, onward, ran, finished, Kept, Moves}
+use Rattle.drawing.specs.Page.{Page, page, gone_on, stops, line_ends, fed, ends, begun, blank_page, Run, after, onward, ran, finished, Kept, Moves}
 use Rattle.draw.specs.declared.Ended.{Ended}
-use Rattle.draw.specs.declared.Taken.{Taken}
 use Rattle.draw.specs.Reached.{Reached, LineEnded, Sendable, written, ending, Ends}
 
 pub begun_so : (s : State) (text : List ℕ) (ring chain : List ℤ) (out : List ℕ) → s ≡ begun → length text ≡ 80 → length ring ≡ 120 → length chain ≡ 120
@@ -33,21 +36,24 @@ begun_so s text ring chain out e a b c d =
       bound = rw e (omega arith);
     }
 
-onward-blocks : (r : Run) (b : ℕ) → r.page.state.draft.wrong ≡ 0 → (onward r b).blocks ≡ r.blocks ++ (fed b r.page).out
+onward-as : (w : Option Wrong) (r : Run) (b : ℕ) → r.page.state.draft.wrong ≡ w → onward r b ≡ after w r (fed b r.page)
 unfolding onward
-onward-blocks r b e = rw (eq-eqb r.page.state.draft.wrong 0 e)
+onward-as w r b e = ap (λ (v : Option Wrong). after v r (fed b r.page)) e
 
-onward-goes : (r : Run) (b : ℕ) → r.page.state.draft.wrong ≡ 0 → (onward r b).page ≡ fed b r.page
-unfolding onward
-onward-goes r b e = rw (eq-eqb r.page.state.draft.wrong 0 e)
+after-wrong : (r : Run) (q : Page) → (r.page.state.draft.wrong ≡ None → ⊥) → after r.page.state.draft.wrong r q ≡ r
+after-wrong r q k = go r.page.state.draft.wrong k
+  where
+    go : (w : Option Wrong) → (w ≡ None → ⊥) → after w r q ≡ r
+    go None k = absurd (k refl)
+    go (Some w) k = refl
 
-onward-stays : (r : Run) (b : ℕ) → (r.page.state.draft.wrong ≡ 0 → ⊥) → onward r b ≡ r
+onward-stays : (r : Run) (b : ℕ) → (r.page.state.draft.wrong ≡ None → ⊥) → onward r b ≡ r
 unfolding onward
-onward-stays r b e = rw (ne_eqb r.page.state.draft.wrong 0 e)
+onward-stays r b k = after-wrong r (fed b r.page) k
 
 -- a byte does not look at what was written before
 blind : (b : ℕ) (s : State) (text : List ℕ) (ring chain : List ℤ) (out : List ℕ) → fed b (page s text ring chain []) ≡ fed b (page s text ring chain out)
-unfolding fed stops line_ends
+unfolding fed line_ends
 blind b s text ring chain out = refl
 
 blind_end : (s : State) (text : List ℕ) (ring chain : List ℤ) (out : List ℕ) → ends (page s text ring chain []) ≡ ends (page s text ring chain out)
@@ -55,21 +61,22 @@ unfolding ends
 blind_end s text ring chain out = refl
 
 -- ---- the end comes nearer with each byte
-abbrev near : State → ℕ
-near s = cond (eqb s.draft.wrong 0) (suc s.left) 0
+abbrev near_by : Option Wrong → ℕ → ℕ
+near_by None n = suc n
+near_by (Some w) n = 0
 
-abbrev pub nearer : Taken → ℕ
-nearer t = cond t.sent (near t.state) 0
+abbrev pub nearer : State → ℕ
+nearer s = near_by s.draft.wrong s.left
 
-at_most : (t : Bool) (n m : ℕ) → n < m → cond t (suc n) 0 < suc m
-at_most true n m h = omega arith
-at_most false n m h = omega arith
+at_most : (w : Option Wrong) (n m : ℕ) → n < m → near_by w n < suc m
+at_most None n m h = omega arith
+at_most (Some w) n m h = omega arith
 
 -- a byte fewer may come, or the run has ended; and it writes one pair at most
 fed-step : (b : ℕ) (p : Page)
-    → (near (fed b p).state < suc p.state.left)
+    → (nearer (fed b p).state < suc p.state.left)
     × (length (fed b p).out ≤ 1024 → length (fed b p).out + 1024 * (fed b p).state.left ≤ 1024 * p.state.left)
-unfolding fed stops line_ends
+unfolding fed line_ends
 fed-step b p = go (eqb p.state.left 0) (eqb b 10) (p.state.comment || eqb b 35) (eqb p.state.length 80) refl
   where
     s : State
@@ -77,51 +84,43 @@ fed-step b p = go (eqb p.state.left 0) (eqb b 10) (p.state.comment || eqb b 35) 
 
     pages : Bool → Bool → Bool → Bool → Page
     pages t u v w =
-        cond t (stops 29 p)
+        cond t (stops LongText p)
         (cond u (line_ends p)
         (cond v (record { state = gone_on s s.length true; text = p.text; ring = p.ring; chain = p.chain; out = [] })
-        (cond w (stops 28 p)
+        (cond w (stops LongLine p)
         (record { state = gone_on s (s.length + 1) false; text = p.text ++ (b ∷ []); ring = p.ring; chain = p.chain; out = [] }))))
 
     less : eqb s.left 0 ≡ false → s.left - 1 < s.left
     less e = let n = eqb-false s.left 0 e in omega (arith, n)
 
     go : (t u v w : Bool) → eqb s.left 0 ≡ t
-        → (near (pages t u v w).state < suc s.left)
+        → (nearer (pages t u v w).state < suc s.left)
         × (length (pages t u v w).out ≤ 1024 → length (pages t u v w).out + 1024 * (pages t u v w).state.left ≤ 1024 * s.left)
     go true u v w e = (omega arith, λ h. omega arith)
-    go false true v w e = (at_most (eqb (line_ends p).state.draft.wrong 0) (s.left - 1) s.left (less e), λ h. omega (arith, less e))
-    go false false true w e = (at_most (eqb s.draft.wrong 0) (s.left - 1) s.left (less e), λ h. omega (arith, less e))
+    go false true v w e = (at_most (line_ends p).state.draft.wrong (s.left - 1) s.left (less e), λ h. omega (arith, less e))
+    go false false true w e = (at_most s.draft.wrong (s.left - 1) s.left (less e), λ h. omega (arith, less e))
     go false false false true e = (omega arith, λ h. omega arith)
-    go false false false false e = (at_most (eqb s.draft.wrong 0) (s.left - 1) s.left (less e), λ h. omega (arith, less e))
+    go false false false false e = (at_most s.draft.wrong (s.left - 1) s.left (less e), λ h. omega (arith, less e))
 
-pub falls : (b : ℕ) (t u : Taken) {text text' : List ℕ} {ring chain ring' chain' : List ℤ} {out' : List ℕ} → t.sent ≡ true → t.state.draft.wrong ≡ 0
-    → Moves (fed b) t.state text ring chain u.state text' ring' chain' out' → nearer u < nearer t
-falls b t u {text} {text'} {ring} {chain} {ring'} {chain'} {out'} e w m =
-    let q : nearer t ≡ suc t.state.left = λ j. cond (e j) (cond (eqb (w j) 0) (suc t.state.left) 0) 0 in
-    subst (λ (n : ℕ). nearer u < n) (sym q) (go u.sent)
-  where
-    near_by : near u.state < suc t.state.left
-    near_by =
-        let a : u.state ≡ (fed b (page t.state text ring chain [])).state = ap (λ (p : Page). p.state) m.same in
-        rw a (fed-step b (page t.state text ring chain [])).0
-
-    go : (k : Bool) → cond k (near u.state) 0 < suc t.state.left
-    go true = near_by
-    go false = omega arith
+pub falls : (b : ℕ) (s r : State) {text text' : List ℕ} {ring chain ring' chain' : List ℤ} {out' : List ℕ} → s.draft.wrong ≡ None
+    → Moves (fed b) s text ring chain r text' ring' chain' out' → nearer r < nearer s
+falls b s r {text} {text'} {ring} {chain} {ring'} {chain'} {out'} w m =
+    let q : nearer s ≡ suc s.left = ap (λ (v : Option Wrong). near_by v s.left) w in
+    let a : r ≡ (fed b (page s text ring chain [])).state = ap (λ (p : Page). p.state) m.same in
+    let h : nearer r < suc s.left = rw a (fed-step b (page s text ring chain [])).0 in
+    omega (arith, q, h)
 
 -- ---- whether a run goes on
-both : (a b : Bool) → (a && b) ≡ true → (a ≡ true) × (b ≡ true)
-both true b e = (refl, e)
-both false b e = absurd (true≢false (sym e))
+pub not_none : {w : Option Wrong} {v : Wrong} → w ≡ Some v → w ≡ None → ⊥
+not_none {w} {v} e z = let q : ◌≡◌ {A = Option Wrong} None (Some v) = sym z ∙ e in cc
 
-pub goes : (t : Taken) {r : Bool} → r ≡ (t.sent && eqb t.state.draft.wrong 0) → r ≡ true → (t.sent ≡ true) × (t.state.draft.wrong ≡ 0)
-goes t e h = let q = both t.sent (eqb t.state.draft.wrong 0) (sym e ∙ h) in (q.0, eqb-true t.state.draft.wrong 0 q.1)
+pub goes_on : (w : Option Wrong) {r : Bool} → is_some w ≡ not r → r ≡ true → w ≡ None
+goes_on None e h = refl
+goes_on (Some v) e h = absurd (true≢false (e ∙ ap not h))
 
-pub halts : (t : Taken) {r : Bool} → r ≡ (t.sent && eqb t.state.draft.wrong 0) → r ≡ false → t.sent ≡ true → t.state.draft.wrong ≡ 0 → ⊥
-halts t {r} e h d z =
-    let q : (t.sent && eqb t.state.draft.wrong 0) ≡ true = λ j. d j && eqb (z j) 0 in
-    true≢false (sym q ∙ sym e ∙ h)
+pub halts : (w : Option Wrong) {r : Bool} → is_some w ≡ not r → r ≡ false → w ≡ None → ⊥
+halts None e h z = true≢false (sym (e ∙ ap not h))
+halts (Some v) e h z = not_none refl z
 
 -- ---- what a run has reached
 part-short : (t : Bool) (out : List ℕ) → length out ≡ 1024 → length (cond t out []) ≤ 1024
@@ -135,18 +134,18 @@ module _ {s : State} {text : List ℕ} {ring chain : List ℤ} {out : List ℕ} 
   fed_as : (b : ℕ) → fed b (page s text ring chain []) ≡ fed b (ran q.input).page
   fed_as b = blind b s text ring chain out ∙ ap (fed b) q.same
 
-  pub fed-is : (b : ℕ) → s.draft.wrong ≡ 0 → fed b (page s text ring chain []) ≡ (ran (b ∷ q.input)).page
+  pub fed-is : (b : ℕ) → s.draft.wrong ≡ None → fed b (page s text ring chain []) ≡ (ran (b ∷ q.input)).page
   unfolding ran
-  fed-is b e = fed_as b ∙ sym (onward-goes (ran q.input) b (wrong_is ∙ e))
+  fed-is b e = fed_as b ∙ sym (ap (λ (x : Run). x.page) (onward-as None (ran q.input) b (wrong_is ∙ e)))
 
-  module _ (b : ℕ) {r : State} {text' : List ℕ} {ring' chain' : List ℤ} {out' : List ℕ} (e : s.draft.wrong ≡ 0)
+  module _ (b : ℕ) {r : State} {text' : List ℕ} {ring' chain' : List ℤ} {out' : List ℕ} (e : s.draft.wrong ≡ None)
       (m : Moves (fed b) s text ring chain r text' ring' chain' out') where
     wrote : written r out' ≡ (fed b (ran q.input).page).out
     wrote = ap (λ (p : Page). p.out) (m.same ∙ fed_as b)
 
     pub all : (ran (b ∷ q.input)).blocks ≡ (ran q.input).blocks ++ written r out'
     unfolding ran
-    all = onward-blocks (ran q.input) b (wrong_is ∙ e) ∙ ap (λ (l : List ℕ). (ran q.input).blocks ++ l) (sym wrote)
+    all = ap (λ (x : Run). x.blocks) (onward-as None (ran q.input) b (wrong_is ∙ e)) ∙ ap (λ (l : List ℕ). (ran q.input).blocks ++ l) (sym wrote)
 
     pub bounded : sent + length (written r out') + 1024 * r.left ≤ 17179869184
     bounded =
@@ -183,13 +182,14 @@ module _ {s : State} {text : List ℕ} {ring chain : List ℤ} {out : List ℕ} 
           few = omega (arith, q.bound);
         }
 
-  stuck : (s.draft.wrong ≡ 0 → ⊥) → finished q.input ≡ ran q.input
+  stuck : (s.draft.wrong ≡ None → ⊥) → finished q.input ≡ ran q.input
   unfolding finished ran
   stuck k =
       let h = onward-stays (ran q.input) 10 (λ z. k (sym wrong_is ∙ z)) in
-      rw (h, ne_eqb (ran q.input).page.state.draft.wrong 0 (λ z. k (sym wrong_is ∙ z)))
+      after-wrong (onward (ran q.input) 10) (ends (onward (ran q.input) 10).page)
+      (λ z. k (sym wrong_is ∙ ap (λ (x : Run). x.page.state.draft.wrong) (sym h) ∙ z)) ∙ h
 
-  pub ends_wrong : (s.draft.wrong ≡ 0 → ⊥) → (r : Ended) → r ≡ ending s sent → Ends r
+  pub ends_wrong : (s.draft.wrong ≡ None → ⊥) → (r : Ended) → r ≡ ending s sent → Ends r
   ends_wrong k r e =
       let x : s ≡ (finished q.input).page.state = ap (λ (p : Page). p.state) q.same ∙ ap (λ (x : Run). x.page.state) (sym (stuck k)) in
       let y : sent ≡ length (finished q.input).blocks = q.count ∙ ap (λ (x : Run). length x.blocks) (sym (stuck k)) in
@@ -207,22 +207,22 @@ module _ {a : State} {text : List ℕ} {ring chain : List ℤ} {out : List ℕ} 
   counted : sent ≡ length (ran (10 ∷ bs)).blocks
   counted = q.count ∙ ap (λ (l : List ℕ). length (ran l).blocks) i
 
-  bad_last : (a.draft.wrong ≡ 0 → ⊥) → finished bs ≡ ran (10 ∷ bs)
+  bad_last : (a.draft.wrong ≡ None → ⊥) → finished bs ≡ ran (10 ∷ bs)
   unfolding finished
-  bad_last k = rw (ne_eqb (ran (10 ∷ bs)).page.state.draft.wrong 0 (λ z. k (sym last_wrong ∙ z)))
+  bad_last k = after-wrong (ran (10 ∷ bs)) (ends (ran (10 ∷ bs)).page) (λ z. k (sym last_wrong ∙ z))
 
-  pub ends_last : (a.draft.wrong ≡ 0 → ⊥) → (r : Ended) → r ≡ ending a sent → Ends r
+  pub ends_last : (a.draft.wrong ≡ None → ⊥) → (r : Ended) → r ≡ ending a sent → Ends r
   ends_last k r d =
       let x : a ≡ (finished bs).page.state = ap (λ (p : Page). p.state) last ∙ ap (λ (x : Run). x.page.state) (sym (bad_last k)) in
       let y : sent ≡ length (finished bs).blocks = counted ∙ ap (λ (x : Run). length x.blocks) (sym (bad_last k)) in
       record { input = bs; said = d ∙ (λ j. ending (x j) (y j)) }
 
-  good_last : a.draft.wrong ≡ 0
+  good_last : a.draft.wrong ≡ None
       → record { page = ends (ran (10 ∷ bs)).page; blocks = (ran (10 ∷ bs)).blocks ++ (ends (ran (10 ∷ bs)).page).out } ≡ finished bs
   unfolding finished
-  good_last k = rw (eq-eqb (ran (10 ∷ bs)).page.state.draft.wrong 0 (last_wrong ∙ k))
+  good_last k = sym (ap (λ (w : Option Wrong). after w (ran (10 ∷ bs)) (ends (ran (10 ∷ bs)).page)) (last_wrong ∙ k))
 
-  module _ {b : State} {out' : List ℕ} (k : a.draft.wrong ≡ 0) (n : Moves ends a text ring chain b text ring chain out') where
+  module _ {b : State} {out' : List ℕ} (k : a.draft.wrong ≡ None) (n : Moves ends a text ring chain b text ring chain out') where
     over : page b text ring chain out' ≡ ends (ran (10 ∷ bs)).page
     over = n.same ∙ blind_end a text ring chain out ∙ ap ends last
 

@@ -1,8 +1,11 @@
 -- The loop of `draw`: what holds between two bytes, what it writes, and how it ends. Of what the operating system reads and writes no contract can speak, so the input stands
 -- for the bytes that the loop stepped over, the latest first, and what was written for its length.
-use Rattle.std.specs.Prelude.{ℕ, ◌+◌, ◌*◌, ◌≤◌, ◌≡◌, Bool, false, cond, List, [], ◌∷◌, length, ltb, eqb, ℤ}
+use Rattle.std.specs.Prelude.{ℕ, ◌+◌, ◌*◌, ◌≤◌, ◌≡◌, Bool, cond, Option, Some, None, List, [], ◌∷◌, length, ℤ}
 use Rattle.drawing.specs.declared.State.{State}
 use Rattle.drawing.specs.Page.{page, ran, finished, Kept}
+use Rattle.drawing.specs.declared.Wrong.{Wrong}
+use Rattle.drawing.specs.declared.Wrong.TheVariants.{Refused, Misread, NoRing, RingFull, ChainFull, SecondChain, LongLine, LongText}
+use Rattle.draw.specs.declared.Bad.{Bad}
 use Rattle.draw.specs.declared.Ended.{Ended}
 
 -- what a step wrote
@@ -32,9 +35,23 @@ pub record Sendable (s : State) (out : List ℕ) (sent : ℕ) : Type 0 where
   pub long : length out ≡ 1024
   pub few : sent ≤ 17179869184
 
--- what is said at the end: the number of what is wrong, with the line; of a ring as a whole, the line that it begins at
-unfoldable pub ending : State → ℕ → Ended
-ending s sent = record { failed = false; wrong = s.draft.wrong; line = cond (ltb s.draft.wrong 21) s.draft.began s.line; sent = sent }
+-- what is said at the end: what is wrong, with the line; of a ring as a whole, the line that it begins at
+abbrev pub line_of : State → Wrong → ℕ
+line_of s (Refused r) = s.draft.began
+line_of s (Misread f) = s.line
+line_of s NoRing = s.line
+line_of s RingFull = s.line
+line_of s ChainFull = s.line
+line_of s SecondChain = s.line
+line_of s LongLine = s.line
+line_of s LongText = s.line
+
+abbrev pub bad_of : Option Wrong → State → Option Bad
+bad_of None s = None
+bad_of (Some w) s = Some (record { wrong = w; line = line_of s w })
+
+abbrev pub ending : State → ℕ → Ended
+ending s sent = record { bad = bad_of s.draft.wrong s; sent = sent }
 
 -- the run over a text has ended: what is said is what is wrong with it, and as many bytes were written as it has blocks for
 pub record Ends (r : Ended) : Type 0 where

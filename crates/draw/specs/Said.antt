@@ -1,12 +1,19 @@
 -- What a read came to, and the words that `draw` says for a number: of what is wrong with a drawing, or of why it was cut short. Definitions only.
-use Rattle.std.specs.Prelude.{ℕ, cond, List, eqb, min, Ok, Err}
+use Rattle.std.specs.Prelude.{ℕ, cond, Option, None, List, slice_get, eqb, Ok, Err}
 use Rattle.std.specs.declared.result.Result.{Result}
 use Rattle.text.specs.Text.{bytes}
+use Rattle.draw.specs.declared.Cut.{Cut}
+use Rattle.draw.specs.declared.Cut.TheVariants.{Reading, Writing}
 
--- a read into `most` places: 2 where it failed, else how many bytes there are
-abbrev pub came_to : {E : Type 0} → Result ℕ E → ℕ → ℕ
-came_to (Ok k) most = min k most
-came_to (Err e) most = 2
+-- a read into some bytes: it failed, the input has ended, or the first of them
+abbrev pub came_to : {E : Type 0} → Result ℕ E → List ℕ → Result (Option ℕ) Cut
+came_to (Ok k) bytes = Ok (cond (eqb k 0) None (slice_get bytes 0))
+came_to (Err e) bytes = Err Reading
+
+-- 30 and 31 are those of standard input and output
+abbrev pub number_of_cut : Cut → ℕ
+number_of_cut Reading = 30
+number_of_cut Writing = 31
 
 -- 25 to 29 are those of too much, 30 and 31 of standard input and output
 unfoldable pub said_more : ℕ → List ℕ

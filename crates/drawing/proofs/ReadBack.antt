@@ -8,15 +8,24 @@ use native.Mathlib.Omega.{arith}
 use lib.ListN.{length, take, drop, replicate, length-replicate}
 use lib.Seq.{drop-length}
 use lib.IntN.{ℤ}
-use borrow.Author.Tests.{ne_eqb, le-ltb}
+use borrow.Author.Tests.{ne_eqb}
 use Rattle.laws.specs.All.{All}
 use Rattle.blocks.specs.declared.Block.TheVariants.{Ring, Chain}
 use Rattle.blocks.specs.Blocks.{read_block}
-use Rattle.writer.specs.Write.{refusal, written, pair_bytes, padded}
+use Rattle.std.specs.Prelude.{Ok, Err}
+use Rattle.std.specs.declared.result.Result.{Result}
+use Rattle.writer.specs.declared.Refusal.{Refusal}
+use Rattle.writer.specs.declared.Refusal.TheVariants.{Counts, Units, Destination}
+use Rattle.writer.specs.Write.{refusal, tested, answer_of, written, pair_bytes, padded}
 use Rattle.writer.proofs.Saved.{saved}
-use Rattle.lines.specs.declared.Heard.{Heard}
+use Rattle.writer.proofs.Passed.{agrees}
+use Rattle.lines.specs.declared.Line.{Line}
+use Rattle.lines.specs.declared.Line.TheVariants.{Nothing, Ring as RingLine, Chain as ChainLine, Point}
+use Rattle.lines.specs.declared.Fault.{Fault}
+use Rattle.drawing.specs.declared.Phase.TheVariants.{Closed, Ring as RingOpen}
 use Rattle.drawing.specs.declared.Draft.{Draft}
-use Rattle.drawing.specs.Drawing.{Drawn, point_of, closes, corner_of, joined, points, takes}
+use Rattle.drawing.specs.Drawing.{Drawn, point_of, complete, closes, corner_of, points, takes}
+use Rattle.drawing.proofs.Closing.{opened}
 
 -- what the blocks of a complete ring read as
 pub record ReadsAs (d : Drawn) (bytes : List ℕ) : Type 0 where
@@ -25,16 +34,24 @@ pub record ReadsAs (d : Drawn) (bytes : List ℕ) : Type 0 where
   pub ring_same : take (2 * (length d.ring / 2)) (padded d.ring) ≡ d.ring
   pub chain_same : take (2 * (length d.chain / 2)) (padded d.chain) ≡ d.chain
 
-module _ (d : Drawn) (k : d.draft.phase ≡ 0 → ⊥) (z : refusal d.ring d.chain d.draft.size d.draft.block 1024 ≡ 0) where
+module _ (d : Drawn) (k : d.draft.phase ≡ Closed → ⊥) (z : refusal d.ring d.chain d.draft.size d.draft.block 1024 ≡ 0) where
   abbrev room : List ℕ
   room = replicate 1024 0
 
   fits : refusal d.ring d.chain d.draft.size d.draft.block (length room) ≡ 0
   fits = ap (λ (n : ℕ). refusal d.ring d.chain d.draft.size d.draft.block n) (length-replicate {A = ℕ} 1024 0) ∙ z
 
+  passes : tested d.ring d.chain d.draft.size d.draft.block 1024 ≡ Ok tt
+  passes = go (tested d.ring d.chain d.draft.size d.draft.block 1024) (agrees d.ring d.chain d.draft.size d.draft.block 1024 _ refl ∙ z)
+    where
+      go : (t : Result (Unit {0}) Refusal) → answer_of t ≡ 0 → t ≡ Ok tt
+      go (Ok u) e = refl
+      go (Err Counts) e = absurd (omega arith)
+      go (Err Units) e = absurd (omega arith)
+      go (Err Destination) e = absurd (omega arith)
+
   pair : pair_bytes d.ring d.chain d.draft.size d.draft.block ≡ (closes d).out
-  unfolding closes
-  pair = rw (ne_eqb d.draft.phase 0 k, z)
+  pair = sym (ap (λ (x : Drawn). x.out) (opened d k ∙ ap (λ (t : Result (Unit {0}) Refusal). complete t d) passes))
 
   as_written : written d.ring d.chain d.draft.size d.draft.block room ≡ (closes d).out
   unfolding written
@@ -53,42 +70,49 @@ module _ (d : Drawn) (k : d.draft.phase ≡ 0 → ⊥) (z : refusal d.ring d.cha
       }
 
 -- ---- the points that the lines say
-abbrev pub said_by : List Heard → List ℤ
-said_by [] = []
-said_by (h ∷ hs) = point_of h.x h.y ++ said_by hs
+abbrev pub numbers_of : Result Line Fault → List ℤ
+numbers_of (Err f) = []
+numbers_of (Ok Nothing) = []
+numbers_of (Ok (RingLine size)) = []
+numbers_of (Ok ChainLine) = []
+numbers_of (Ok (Point x y)) = point_of x y
 
-abbrev pub takes_all : ℕ → List Heard → Drawn → Drawn
+abbrev pub said_by : List (Result Line Fault) → List ℤ
+said_by [] = []
+said_by (h ∷ hs) = numbers_of h ++ said_by hs
+
+abbrev pub takes_all : ℕ → List (Result Line Fault) → Drawn → Drawn
 takes_all n [] d = d
 takes_all n (h ∷ hs) d = takes_all (n + 1) hs (takes n h d)
 
-abbrev pub Point : Heard → Type 0
-Point h = h.kind ≡ 3
+abbrev pub IsPoint : Result Line Fault → Type 0
+IsPoint (Err f) = ⊥
+IsPoint (Ok Nothing) = ⊥
+IsPoint (Ok (RingLine size)) = ⊥
+IsPoint (Ok ChainLine) = ⊥
+IsPoint (Ok (Point x y)) = Unit {0}
 
-one_more : (n : ℕ) (h : Heard) (d : Drawn) → h.kind ≡ 3 → d.draft.phase ≡ 1 → d.draft.corners < 60
-    → takes n h d ≡ record { draft = corner_of d.draft; ring = d.ring ++ point_of h.x h.y; chain = d.chain; out = [] }
-unfolding takes points joined
-one_more n h d e p c =
-    let a = ne_eqb h.kind 0 (λ z. omega arith) in
-    let b = le-ltb 3 h.kind (omega arith) in
-    let f = ne_eqb h.kind 1 (λ z. omega arith) in
-    let g = ne_eqb d.draft.phase 0 (λ z. omega arith) in
-    let i = ne_eqb h.kind 2 (λ z. omega arith) in
-    let j = ne_eqb d.draft.phase 2 (λ z. omega arith) in
-    let l = ne_eqb d.draft.corners 60 (λ z. omega arith) in
-    rw (a, b, f, g, i, j, l)
+one_more : (n : ℕ) (x y : ℤ) (d : Drawn) → d.draft.phase ≡ RingOpen → d.draft.corners < 60
+    → takes n (Ok (Point x y)) d ≡ record { draft = corner_of d.draft; ring = d.ring ++ point_of x y; chain = d.chain; out = [] }
+unfolding points
+one_more n x y d p c = rw (p, ne_eqb d.draft.corners 60 (λ z. omega arith))
 
 corner_phase : (o : Draft) → o.corners < 60 → ((corner_of o).phase ≡ o.phase) × ((corner_of o).corners ≡ o.corners + 1)
-unfolding corner_of
 corner_phase o c = let l = ne_eqb o.corners 60 (λ z. omega arith) in rw l (refl, refl)
 
 -- a ring's points are those of its lines
-pub points-said : (n : ℕ) (hs : List Heard) (d : Drawn) → All Point hs → d.draft.phase ≡ 1 → d.draft.corners + length hs ≤ 60
+pub points-said : (n : ℕ) (hs : List (Result Line Fault)) (d : Drawn) → All IsPoint hs → d.draft.phase ≡ RingOpen → d.draft.corners + length hs ≤ 60
     → (takes_all n hs d).ring ≡ d.ring ++ said_by hs
 points-said n [] d a p c = sym (append-nil d.ring)
-points-said n (h ∷ hs) d a p c =
+points-said n (Err f ∷ hs) d a p c = absurd a.0
+points-said n (Ok Nothing ∷ hs) d a p c = absurd a.0
+points-said n (Ok (RingLine size) ∷ hs) d a p c = absurd a.0
+points-said n (Ok ChainLine ∷ hs) d a p c = absurd a.0
+points-said n (Ok (Point x y) ∷ hs) d a p c =
     let k : d.draft.corners < 60 = omega arith in
-    let e = one_more n h d a.0 p k in
+    let e = one_more n x y d p k in
     let q = corner_phase d.draft k in
-    let f : (takes n h d).draft.phase ≡ 1 = ap (λ (x : Drawn). x.draft.phase) e ∙ q.0 ∙ p in
-    let g : (takes n h d).draft.corners + length hs ≤ 60 = let w = ap (λ (x : Drawn). x.draft.corners) e ∙ q.1 in omega arith in
-    points-said (n + 1) hs (takes n h d) a.1 f g ∙ ap (λ (x : Drawn). x.ring ++ said_by hs) e ∙ append_assoc d.ring (point_of h.x h.y) (said_by hs)
+    let f : (takes n (Ok (Point x y)) d).draft.phase ≡ RingOpen = ap (λ (x : Drawn). x.draft.phase) e ∙ q.0 ∙ p in
+    let g : (takes n (Ok (Point x y)) d).draft.corners + length hs ≤ 60 = let w = ap (λ (x : Drawn). x.draft.corners) e ∙ q.1 in omega arith in
+    points-said (n + 1) hs (takes n (Ok (Point x y)) d) a.1 f g ∙ ap (λ (x : Drawn). x.ring ++ said_by hs) e
+    ∙ append_assoc d.ring (point_of x y) (said_by hs)

@@ -3,12 +3,11 @@ use Prim.Native.Nat.{ℕ}
 use mathlib.Core.Path.{◌≡◌, refl}
 use mathlib.Core.List.{List, [], ◌∷◌}
 use lib.IntN.{pos, negsuc}
-use Rattle.laws.specs.Bounded.{any, first}
 use Rattle.text.specs.Text.{bytes}
-use Rattle.numeral.specs.Numeral.{scaled, more, scan_to, scanned, whole, signs, read, units, capped, signed}
-use Rattle.lines.specs.Line.{blank, start, end, same, size_good, ring_line, chain_line, point_of, point_line, words, heard}
-use Rattle.drawing.specs.Drawing.{fails, stays, closes, begins, chain_of, chains, corner_of, run_of, joined, points, takes}
-use Rattle.drawing.specs.Page.{stops, line_ends, fed, onward, ran, latest_first, Page}
+use Rattle.numeral.specs.Numeral.{scaled, more, scan_to, scanned, whole, has_minus, behind, read, units, within, signed}
+use Rattle.lines.specs.Line.{words, heard}
+use Rattle.drawing.specs.Drawing.{said_of, closes, begins, points}
+use Rattle.drawing.specs.Page.{line_ends, fed, onward, ran, latest_first, Page}
 
 -- the page after the bytes of a text
 abbrev after : List ℕ → Page
@@ -16,15 +15,15 @@ after t = (ran (latest_first [] t)).page
 
 -- what is opened to compute: numbers, lines, drawings
 unfoldable numbers : Unit {0}
-unfolding scaled more scan_to scanned whole signs read units capped signed
+unfolding scaled more scan_to scanned whole has_minus behind read units within signed
 numbers = tt
 
 unfoldable hearing : Unit {0}
-unfolding numbers any first bytes blank start end same size_good ring_line chain_line point_of point_line words heard
+unfolding numbers bytes words heard
 hearing = tt
 
 unfoldable drawing : Unit {0}
-unfolding hearing fails stays closes begins chain_of chains corner_of run_of joined points takes stops line_ends fed onward ran latest_first
+unfolding hearing closes begins points line_ends fed onward ran latest_first
 drawing = tt
 
 -- "`printf 'ring 1\n0 0\n1 0\n1 1\n0 1\n'`": the four corners in units
@@ -38,10 +37,10 @@ unfolding drawing
 chained = refl
 
 -- what is wrong, and in which line: no such line, no ring yet
-pub bad-line : ((after (bytes "ring 1\n0 0\n1 x\n1 1\n")).state.draft.wrong ≡ 21) × ((after (bytes "ring 1\n0 0\n1 x\n1 1\n")).state.line ≡ 3)
+pub bad-line : (said_of (after (bytes "ring 1\n0 0\n1 x\n1 1\n")).state.draft.wrong ≡ 21) × ((after (bytes "ring 1\n0 0\n1 x\n1 1\n")).state.line ≡ 3)
 unfolding drawing
 bad-line = (refl, refl)
 
-pub no_ring_yet : (after (bytes "0 0\n")).state.draft.wrong ≡ 24
+pub no_ring_yet : said_of (after (bytes "0 0\n")).state.draft.wrong ≡ 24
 unfolding drawing
 no_ring_yet = refl

@@ -1,11 +1,33 @@
 -- A drawing line by line: what a line adds to the ring that is open, and the blocks of a ring that is complete. Definitions only.
-use Rattle.std.specs.Prelude.{ℕ, ◌+◌, ◌*◌, ◌≤◌, ◌≡◌, Bool, true, false, ◌&&◌, not, cond, List, [], ◌∷◌, ◌++◌, length, take, ltb, eqb, ℤ}
-use Rattle.numeral.specs.Numeral.{signed}
-use Rattle.lines.specs.declared.Coordinate.{Coordinate}
-use Rattle.lines.specs.declared.Heard.{Heard}
-use Rattle.lines.specs.Line.{heard}
-use Rattle.writer.specs.Write.{refusal, pair_bytes}
+use Rattle.std.specs.Prelude.{ℕ, ◌+◌, ◌*◌, ◌≤◌, ◌<◌, ◌≡◌, true, false, cond, Option, Some, None, Ok, Err, List, [], ◌∷◌, ◌++◌, length, take, eqb, ℤ}
+use Rattle.std.specs.declared.result.Result.{Result}
+use Rattle.lines.specs.declared.Line.{Line}
+use Rattle.lines.specs.declared.Line.TheVariants.{Nothing, Ring as RingLine, Chain as ChainLine, Point}
+use Rattle.lines.specs.declared.Fault.{Fault}
+use Rattle.lines.specs.Line as Says
+use Rattle.writer.specs.declared.Refusal.{Refusal}
+use Rattle.writer.specs.Write as Write
+use Rattle.writer.specs.Write.{tested, pair_bytes}
+use Rattle.drawing.specs.declared.Wrong.{Wrong}
+use Rattle.drawing.specs.declared.Wrong.TheVariants.{Refused, Misread, NoRing, RingFull, ChainFull, SecondChain, LongLine, LongText}
+use Rattle.drawing.specs.declared.Phase.{Phase}
+use Rattle.drawing.specs.declared.Phase.TheVariants.{Closed, Ring, Chain}
 use Rattle.drawing.specs.declared.Draft.{Draft}
+
+-- the number that is said of what is wrong; 0 where nothing is
+abbrev pub number_of : Wrong → ℕ
+number_of (Refused r) = Write.number_of r
+number_of (Misread f) = Says.number_of f
+number_of NoRing = 24
+number_of RingFull = 25
+number_of ChainFull = 26
+number_of SecondChain = 27
+number_of LongLine = 28
+number_of LongText = 29
+
+abbrev pub said_of : Option Wrong → ℕ
+said_of None = 0
+said_of (Some w) = number_of w
 
 -- the ring that is open, its points and its chain's, x and y in turn, and the blocks that the last line wrote
 pub record Drawn : Type 0 where
@@ -23,82 +45,89 @@ abbrev pub before : Draft → List ℤ → List ℤ → Drawn
 before o ring chain = record { draft = o; ring = take (o.corners * 2) ring; chain = take (o.run * 2) chain; out = [] }
 
 -- "a line `x y`": its two coordinates
-abbrev pub point_of : Coordinate → Coordinate → List ℤ
-point_of x y = signed x.minus x.units ∷ signed y.minus y.units ∷ []
+abbrev pub point_of : ℤ → ℤ → List ℤ
+point_of x y = x ∷ y ∷ []
 
--- "A bad line ends the run": what is wrong is said by its number, and nothing is written
-abbrev pub failed : Draft → ℕ → Draft
-failed o code = record { began = o.began; phase = o.phase; size = o.size; corners = o.corners; run = o.run; block = o.block; wrong = code; wrote = false }
+-- "A bad line ends the run": what is wrong is said, and nothing is written
+abbrev pub failed : Draft → Wrong → Draft
+failed o w = record o { wrong = Some w; wrote = false }
 
-unfoldable pub fails : ℕ → Drawn → Drawn
-fails code d = record { draft = failed d.draft code; ring = d.ring; chain = d.chain; out = [] }
+abbrev pub fails : Wrong → Drawn → Drawn
+fails w d = record { draft = failed d.draft w; ring = d.ring; chain = d.chain; out = [] }
 
 -- nothing new
 abbrev pub still : Draft → Draft
-still o = record { began = o.began; phase = o.phase; size = o.size; corners = o.corners; run = o.run; block = o.block; wrong = o.wrong; wrote = false }
+still o = record o { wrote = false }
 
-unfoldable pub stays : Drawn → Drawn
+abbrev pub stays : Drawn → Drawn
 stays d = record { draft = still d.draft; ring = d.ring; chain = d.chain; out = [] }
 
 -- a complete ring, which the writer does not refuse: its pair of blocks is out, the next ring's block is two further, and no ring is open
 abbrev pub closed_of : Draft → Draft
-closed_of o = record { began = o.began; phase = 0; size = o.size; corners = 0; run = 0; block = o.block + 2; wrong = o.wrong; wrote = true }
+closed_of o = record o { phase = Closed; corners = 0; run = 0; block = o.block + 2; wrote = true }
+
+abbrev pub complete : Result (Unit {0}) Refusal → Drawn → Drawn
+complete (Ok u) d =
+    record { draft = closed_of d.draft; ring = []; chain = []; out = pair_bytes d.ring d.chain d.draft.size d.draft.block }
+complete (Err r) d = fails (Refused r) d
+
+abbrev pub closes_at : Phase → Drawn → Drawn
+closes_at Closed d = stays d
+closes_at Ring d = complete (tested d.ring d.chain d.draft.size d.draft.block 1024) d
+closes_at Chain d = complete (tested d.ring d.chain d.draft.size d.draft.block 1024) d
 
 unfoldable pub closes : Drawn → Drawn
-closes d =
-    let o = d.draft in
-    let code = refusal d.ring d.chain o.size o.block 1024 in
-    cond (eqb o.phase 0) (stays d)
-    (cond (eqb code 0) (record { draft = closed_of o; ring = []; chain = []; out = pair_bytes d.ring d.chain o.size o.block }) (fails code d))
+closes d = closes_at d.draft.phase d
 
 -- "A ring is `ring SIZE`": the ring before it is complete; this one begins at line n
 abbrev pub begun_of : ℕ → ℕ → Draft → Draft
-begun_of n size c = record { began = n; phase = 1; size = size; corners = 0; run = 0; block = c.block; wrong = 0; wrote = c.wrote }
+begun_of n size c = record c { began = n; phase = Ring; size = size; corners = 0; run = 0 }
+
+abbrev pub afresh : Option Wrong → ℕ → ℕ → Drawn → Drawn
+afresh None n size c = record { draft = begun_of n size c.draft; ring = []; chain = []; out = c.out }
+afresh (Some w) n size c = c
 
 unfoldable pub begins : ℕ → ℕ → Drawn → Drawn
-begins n size d =
-    let c = closes d in
-    cond (eqb c.draft.wrong 0) (record { draft = begun_of n size c.draft; ring = []; chain = []; out = c.out }) c
+begins n size d = afresh (closes d).draft.wrong n size (closes d)
 
--- "then, if it has one, `chain` and its points": one chain
-unfoldable pub chain_of : Draft → Draft
-chain_of o =
-    cond (eqb o.phase 2) (failed o 27)
-    (record { began = o.began; phase = 2; size = o.size; corners = o.corners; run = o.run; block = o.block; wrong = o.wrong; wrote = false })
+-- "then, if it has one, `chain` and its points": of an open ring, and one chain
+abbrev pub chain_at : Phase → Draft → Draft
+chain_at Closed o = failed o NoRing
+chain_at Chain o = failed o SecondChain
+chain_at Ring o = record o { phase = Chain; wrote = false }
 
-unfoldable pub chains : Drawn → Drawn
+abbrev pub chain_of : Draft → Draft
+chain_of o = chain_at o.phase o
+
+abbrev pub chains : Drawn → Drawn
 chains d = record { draft = chain_of d.draft; ring = d.ring; chain = d.chain; out = [] }
 
 -- one point more, of 60 at most: of the ring, and of the chain
-unfoldable pub corner_of : Draft → Draft
-corner_of o =
-    cond (eqb o.corners 60) (failed o 25)
-    (record { began = o.began; phase = o.phase; size = o.size; corners = o.corners + 1; run = o.run; block = o.block; wrong = o.wrong; wrote = false })
+abbrev pub corner_of : Draft → Draft
+corner_of o = cond (eqb o.corners 60) (failed o RingFull) (record o { corners = o.corners + 1; wrote = false })
 
-unfoldable pub run_of : Draft → Draft
-run_of o =
-    cond (eqb o.run 60) (failed o 26)
-    (record { began = o.began; phase = o.phase; size = o.size; corners = o.corners; run = o.run + 1; block = o.block; wrong = o.wrong; wrote = false })
+abbrev pub run_of : Draft → Draft
+run_of o = cond (eqb o.run 60) (failed o ChainFull) (record o { run = o.run + 1; wrote = false })
 
 -- the points with one more, where there is room
-unfoldable pub joined : ℕ → List ℤ → Heard → List ℤ
-joined n ps h = cond (eqb n 60) ps (ps ++ point_of h.x h.y)
+abbrev pub joined : ℕ → List ℤ → ℤ → ℤ → List ℤ
+joined n ps x y = cond (eqb n 60) ps (ps ++ point_of x y)
 
-unfoldable pub points : Heard → Drawn → Drawn
-points h d =
-    let o = d.draft in
-    cond (eqb o.phase 2)
-    (record { draft = run_of o; ring = d.ring; chain = joined o.run d.chain h; out = [] })
-    (record { draft = corner_of o; ring = joined o.corners d.ring h; chain = d.chain; out = [] })
+abbrev pub points_at : Phase → ℤ → ℤ → Drawn → Drawn
+points_at Closed x y d = fails NoRing d
+points_at Ring x y d = record { draft = corner_of d.draft; ring = joined d.draft.corners d.ring x y; chain = d.chain; out = [] }
+points_at Chain x y d = record { draft = run_of d.draft; ring = d.ring; chain = joined d.draft.run d.chain x y; out = [] }
 
--- what was heard of line n. A point or a chain wants a ring that is open
-unfoldable pub takes : ℕ → Heard → Drawn → Drawn
-takes n h d =
-    cond (eqb h.kind 0) (stays d)
-    (cond (ltb 3 h.kind) (fails h.kind d)
-    (cond (eqb h.kind 1) (begins n h.size d)
-    (cond (eqb d.draft.phase 0) (fails 24 d)
-    (cond (eqb h.kind 2) (chains d) (points h d)))))
+unfoldable pub points : ℤ → ℤ → Drawn → Drawn
+points x y d = points_at d.draft.phase x y d
+
+-- what was heard of line n
+abbrev pub takes : ℕ → Result Line Fault → Drawn → Drawn
+takes n (Err f) d = fails (Misread f) d
+takes n (Ok Nothing) d = stays d
+takes n (Ok (RingLine size)) d = begins n size d
+takes n (Ok ChainLine) d = chains d
+takes n (Ok (Point x y)) d = points x y d
 
 -- what the code's numbers and lists keep to
 pub record Fine (o : Draft) (ring chain : List ℤ) (out : List ℕ) : Type 0 where
@@ -114,11 +143,7 @@ pub record Does (f : Drawn → Drawn) (o : Draft) (ring chain : List ℤ) (r : D
   pub same : shows r ring' chain' out' ≡ f (before o ring chain)
   pub fine : Fine r ring' chain' out'
 
--- a point was added to the ring's places, and to the chain's
-pub record AddsRing (o : Draft) (h : Heard) (ring : List ℤ) (r : Draft) (ring' : List ℤ) : Type 0 where
-  pub state : r ≡ corner_of o
-  pub points : take (r.corners * 2) ring' ≡ joined o.corners (take (o.corners * 2) ring) h
-
-pub record AddsChain (o : Draft) (h : Heard) (chain : List ℤ) (r : Draft) (chain' : List ℤ) : Type 0 where
-  pub state : r ≡ run_of o
-  pub points : take (r.run * 2) chain' ≡ joined o.run (take (o.run * 2) chain) h
+-- a point was put behind n others, or there was no room
+abbrev pub Puts : ℕ → ℤ → ℤ → List ℤ → Option ℕ → List ℤ → Type 0
+Puts n x y ps None qs = (n ≡ 60) × (qs ≡ ps)
+Puts n x y ps (Some m) qs = (n < 60) × (m ≡ n + 1) × (take ((n + 1) * 2) qs ≡ take (n * 2) ps ++ point_of x y)

@@ -1,9 +1,12 @@
 -- A drawing byte by byte, and as a whole: from the bytes of a text to those of its blocks. Definitions only.
-use Rattle.std.specs.Prelude.{ℕ, ◌+◌, ◌-◌, ◌*◌, ◌≤◌, ◌≡◌, Bool, true, false, ◌||◌, cond, List, [], ◌∷◌, ◌++◌, length, take, eqb, ℤ}
+use Rattle.std.specs.Prelude.{ℕ, ◌+◌, ◌-◌, ◌*◌, ◌≤◌, ◌≡◌, Bool, true, false, ◌||◌, cond, Option, Some, None, List, [], ◌∷◌, ◌++◌, length, take, eqb, ℤ}
 use Rattle.lines.specs.Line.{heard}
+use Rattle.drawing.specs.declared.Wrong.{Wrong}
+use Rattle.drawing.specs.declared.Wrong.TheVariants.{LongLine, LongText}
+use Rattle.drawing.specs.declared.Phase.TheVariants.{Closed}
 use Rattle.drawing.specs.declared.Draft.{Draft}
 use Rattle.drawing.specs.declared.State.{State}
-use Rattle.drawing.specs.Drawing.{Drawn, failed, still, closes, takes, Fine}
+use Rattle.drawing.specs.Drawing.{Drawn, said_of, failed, still, closes, takes, Fine}
 
 -- what stands between two bytes: the numbers, the bytes of the line so far, the points of the open ring and of its chain, and the blocks that the last byte
 -- wrote
@@ -29,18 +32,22 @@ drawn_of p = record { draft = p.state.draft; ring = p.ring; chain = p.chain; out
 
 -- one byte fewer may come; the line has n bytes so far
 abbrev pub gone_on : State → ℕ → Bool → State
-gone_on s n c = record { left = s.left - 1; line = s.line; length = n; comment = c; draft = still s.draft }
+gone_on s n c = record s { left = s.left - 1; length = n; comment = c; draft = still s.draft }
 
 -- what is wrong with the line that is being read
-abbrev pub stopped : State → ℕ → State
-stopped s code = record { left = s.left; line = s.line; length = s.length; comment = s.comment; draft = failed s.draft code }
+abbrev pub stopped : State → Wrong → State
+stopped s w = record s { draft = failed s.draft w }
 
-unfoldable pub stops : ℕ → Page → Page
-stops code p = record { state = stopped p.state code; text = p.text; ring = p.ring; chain = p.chain; out = [] }
+abbrev pub stops : Wrong → Page → Page
+stops w p = record { state = stopped p.state w; text = p.text; ring = p.ring; chain = p.chain; out = [] }
 
 -- the line after one that said o: a bad line's number stays
+abbrev pub number_after : Option Wrong → ℕ → ℕ
+number_after None n = n + 1
+number_after (Some w) n = n
+
 abbrev pub line_after : ℕ → Draft → ℕ
-line_after n o = cond (eqb o.wrong 0) (n + 1) n
+line_after n o = number_after o.wrong n
 
 abbrev pub next_line : State → Draft → State
 next_line s o = record { left = s.left - 1; line = line_after s.line o; length = 0; comment = false; draft = o }
@@ -55,10 +62,10 @@ line_ends p =
 unfoldable pub fed : ℕ → Page → Page
 fed b p =
     let s = p.state in
-    cond (eqb s.left 0) (stops 29 p)
+    cond (eqb s.left 0) (stops LongText p)
     (cond (eqb b 10) (line_ends p)
     (cond (s.comment || eqb b 35) (record { state = gone_on s s.length true; text = p.text; ring = p.ring; chain = p.chain; out = [] })
-    (cond (eqb s.length 80) (stops 28 p)
+    (cond (eqb s.length 80) (stops LongLine p)
     (record { state = gone_on s (s.length + 1) false; text = p.text ++ (b ∷ []); ring = p.ring; chain = p.chain; out = [] }))))
 
 -- the end of the text, after its last line: the open ring is complete
@@ -67,7 +74,7 @@ ends p =
     let s = p.state in
     let d = closes (drawn_of p) in
     record {
-      state = record { left = s.left; line = s.line; length = s.length; comment = s.comment; draft = d.draft };
+      state = record s { draft = d.draft };
       text = p.text;
       ring = d.ring;
       chain = d.chain;
@@ -82,7 +89,7 @@ begun =
       line = 1;
       length = 0;
       comment = false;
-      draft = record { began = 0; phase = 0; size = 0; corners = 0; run = 0; block = 0; wrong = 0; wrote = false };
+      draft = record { began = 0; phase = Closed; size = 0; corners = 0; run = 0; block = 0; wrong = None; wrote = false };
     }
 
 abbrev pub blank_page : Page
@@ -93,11 +100,14 @@ pub record Run : Type 0 where
   pub page : Page
   pub blocks : List ℕ
 
--- one byte on; a run with something wrong stays as it is
+-- what comes after a run; one with something wrong stays as it is
+abbrev pub after : Option Wrong → Run → Page → Run
+after None r q = record { page = q; blocks = r.blocks ++ q.out }
+after (Some w) r q = r
+
+-- one byte on
 unfoldable pub onward : Run → ℕ → Run
-onward r b =
-    let q = fed b r.page in
-    cond (eqb r.page.state.draft.wrong 0) (record { page = q; blocks = r.blocks ++ q.out }) r
+onward r b = after r.page.state.draft.wrong r (fed b r.page)
 
 -- the run over some bytes, the latest first
 unfoldable pub ran : List ℕ → Run
@@ -108,8 +118,7 @@ ran (b ∷ bs) = onward (ran bs) b
 unfoldable pub finished : List ℕ → Run
 finished bs =
     let r = ran (10 ∷ bs) in
-    let q = ends r.page in
-    cond (eqb r.page.state.draft.wrong 0) (record { page = q; blocks = r.blocks ++ q.out }) r
+    after r.page.state.draft.wrong r (ends r.page)
 
 -- the text t in its order
 unfoldable pub latest_first : List ℕ → List ℕ → List ℕ
@@ -121,7 +130,7 @@ unfoldable pub drawn : List ℕ → List ℕ
 drawn t = (finished (latest_first [] t)).blocks
 
 unfoldable pub wrong_with : List ℕ → ℕ
-wrong_with t = (finished (latest_first [] t)).page.state.draft.wrong
+wrong_with t = said_of (finished (latest_first [] t)).page.state.draft.wrong
 
 -- what the code's numbers and lists keep to
 pub record Kept (s : State) (text : List ℕ) (ring chain : List ℤ) (out : List ℕ) : Type 0 where

@@ -8,61 +8,100 @@
 #![tactic(auto)]
 
 ghost use Rattle.std.specs.Prelude.{◌≡◌, [], ◌∷◌, ◌++◌, ◌+◌, ◌*◌, ◌≤◌, ◌<◌, length, take};
-ghost use Rattle.numeral.specs.Numeral.{signed};
-ghost use Rattle.lines.specs.Line.{HeardOnSheet};
 ghost use Rattle.drawing.specs.Drawing as Drawing;
 ghost use Rattle.drawing.specs.Page as Page;
 
-use lines::{Coordinate, Heard};
+use lines::{Fault, Line};
+use writer::Refusal;
 
-// What is wrong with a line, beside what `lines` says: no ring is open; more points than 60 in a ring, in a chain; a second
-// chain; a line or a text that is too long. 1, 2 and 12 are the writer's, of a ring as a whole.
-pub const NO_RING: u32 = 24;
+// What is wrong: with the ring as a whole, which the writer refuses; with a line by itself; no ring is open; more points than 60
+// in a ring, in a chain; a second chain; a line or a text that is too long.
+#[derive(Clone, Copy, Debug, PartialEq, Eq)]
+pub enum Wrong {
+    Refused(Refusal),
+    Misread(Fault),
+    NoRing,
+    RingFull,
+    ChainFull,
+    SecondChain,
+    LongLine,
+    LongText,
+}
 
-pub const RING_FULL: u32 = 25;
+impl Wrong {
+    // The number that is said of it.
+    pub fn number(self) -> u32
+        ensures { result ≡ Drawing.number_of self }
+    {
+        match self {
+            Wrong::Refused(refusal) => refusal.number() as u32,
+            Wrong::Misread(fault) => fault.number(),
+            Wrong::NoRing => 24,
+            Wrong::RingFull => 25,
+            Wrong::ChainFull => 26,
+            Wrong::SecondChain => 27,
+            Wrong::LongLine => 28,
+            Wrong::LongText => 29,
+        }
+    }
+}
 
-pub const CHAIN_FULL: u32 = 26;
+impl From<Refusal> for Wrong {
+    ghost use Rattle.drawing.specs.declared.Wrong.TheVariants.{Refused};
 
-pub const SECOND_CHAIN: u32 = 27;
+    ghost from_gives = { λ refusal wrong. wrong ≡ Refused refusal };
 
-pub const LONG_LINE: u32 = 28;
+    fn from(refusal: Refusal) -> Wrong {
+        Wrong::Refused(refusal)
+    }
+}
 
-pub const LONG_TEXT: u32 = 29;
+impl From<Fault> for Wrong {
+    ghost use Rattle.drawing.specs.declared.Wrong.TheVariants.{Misread};
+
+    ghost from_gives = { λ fault wrong. wrong ≡ Misread fault };
+
+    fn from(fault: Fault) -> Wrong {
+        Wrong::Misread(fault)
+    }
+}
 
 // The bytes that a line may have, and a text.
 pub const MOST_LINE: usize = 80;
 
 pub const MOST_TEXT: u32 = 16777216;
 
-// The ring that is open: the line that it begins at; 0 where none is open, 1 where its points come, 2 where its chain's do; its
-// sheet size and how many points there are of both; the number of its block; what is wrong, or 0; and whether the last step
-// wrote a pair.
+// Where the points of a line go: no ring is open, or they are the ring's, or its chain's.
+#[derive(Clone, Copy, Debug, PartialEq, Eq)]
+pub enum Phase {
+    Closed,
+    Ring,
+    Chain,
+}
+
+// The ring that is open: the line that it begins at; its sheet size and how many points there are of it and of its chain; the
+// number of its block; what is wrong, if something is; and whether the last step wrote a pair.
 #[derive(Clone, Copy)]
 pub struct Draft {
     pub began: u32,
-    pub phase: u32,
+    pub phase: Phase,
     pub size: u32,
     pub corners: usize,
     pub run: usize,
     pub block: u32,
-    pub wrong: u32,
+    pub wrong: Option<Wrong>,
     pub wrote: bool,
 }
 
 impl Draft {
     // What is wrong is said; nothing is written.
-    fn fails(self, code: u32) -> Draft
-        ensures { result ≡ Drawing.failed self code }
+    fn fails(self, wrong: Wrong) -> Draft
+        ensures { result ≡ Drawing.failed self wrong }
     {
         Draft {
-            began: self.began,
-            phase: self.phase,
-            size: self.size,
-            corners: self.corners,
-            run: self.run,
-            block: self.block,
-            wrong: code,
+            wrong: Some(wrong),
             wrote: false,
+            ..self
         }
     }
 
@@ -71,26 +110,24 @@ impl Draft {
         ensures { result ≡ Drawing.still self }
     {
         Draft {
-            began: self.began,
-            phase: self.phase,
-            size: self.size,
-            corners: self.corners,
-            run: self.run,
-            block: self.block,
-            wrong: self.wrong,
             wrote: false,
+            ..self
         }
     }
 }
 
-// Puts a point behind `count` others.
-fn put_point(places: &mut [i32], count: usize, x: Coordinate, y: Coordinate)
-    requires { (count < 60) × (length places.old ≡ 120) × (x.units ≤ 8388608) × (y.units ≤ 8388608) }
-    ensures { take ((count + 1) * 2) places.new ≡ take (count * 2) places.old ++ Drawing.point_of x y }
+// Puts a point behind `count` others, if there is room for one more, and says how many there are then.
+fn put_point(places: &mut [i32], count: usize, x: i32, y: i32) -> Option<usize>
+    requires { (count ≤ 60) × (length places.old ≡ 120) }
+    ensures { Drawing.Puts count x y places.old result places.new }
 {
+    if count == 60 {
+        return None;
+    }
     let k = count * 2;
-    places[k] = numeral::signed(x.minus, x.units);
-    places[k + 1] = numeral::signed(y.minus, y.units);
+    places[k] = x;
+    places[k + 1] = y;
+    Some(count + 1)
 }
 
 // Writes the pair of the open ring, where one is open.
@@ -98,24 +135,21 @@ fn close(o: Draft, ring: &[i32], chain: &[i32], out: &mut [u8]) -> Draft
     requires { Drawing.Fine o ring.now chain.now out.old }
     ensures { Drawing.Does Drawing.closes o ring.now chain.now result ring.now chain.now out.new }
 {
-    if o.phase == 0 {
+    if let Phase::Closed = o.phase {
         return o.quiet();
     }
     let end = o.corners * 2;
     let stop = o.run * 2;
-    let code = writer::blocks_write(&ring[..end], &chain[..stop], o.size, o.block, out);
-    if code > 0 {
-        return o.fails(code as u32);
-    }
-    Draft {
-        began: o.began,
-        phase: 0,
-        size: o.size,
-        corners: 0,
-        run: 0,
-        block: o.block + 2,
-        wrong: o.wrong,
-        wrote: true,
+    match writer::save(&ring[..end], &chain[..stop], o.size, o.block, out) {
+        Err(refusal) => o.fails(refusal.into()),
+        Ok(()) => Draft {
+            phase: Phase::Closed,
+            corners: 0,
+            run: 0,
+            block: o.block + 2,
+            wrote: true,
+            ..o
+        },
     }
 }
 
@@ -126,18 +160,16 @@ fn begin(o: Draft, line: u32, size: u32, ring: &[i32], chain: &[i32], out: &mut 
         out.new }
 {
     let c = close(o, ring, chain, out);
-    if c.wrong > 0 {
-        return c;
-    }
-    Draft {
-        began: line,
-        phase: 1,
-        size,
-        corners: 0,
-        run: 0,
-        block: c.block,
-        wrong: 0,
-        wrote: c.wrote,
+    match c.wrong {
+        Some(_) => c,
+        None => Draft {
+            began: line,
+            phase: Phase::Ring,
+            size,
+            corners: 0,
+            run: 0,
+            ..c
+        },
     }
 }
 
@@ -145,109 +177,63 @@ fn begin(o: Draft, line: u32, size: u32, ring: &[i32], chain: &[i32], out: &mut 
 fn chain_line(o: Draft) -> Draft
     ensures { result ≡ Drawing.chain_of o }
 {
-    if o.phase == 2 {
-        return o.fails(SECOND_CHAIN);
-    }
-    Draft {
-        began: o.began,
-        phase: 2,
-        size: o.size,
-        corners: o.corners,
-        run: o.run,
-        block: o.block,
-        wrong: o.wrong,
-        wrote: false,
+    match o.phase {
+        Phase::Closed => o.fails(Wrong::NoRing),
+        Phase::Chain => o.fails(Wrong::SecondChain),
+        Phase::Ring => Draft {
+            phase: Phase::Chain,
+            wrote: false,
+            ..o
+        },
     }
 }
 
-// A point of the open ring.
-fn ring_point(o: Draft, h: Heard, ring: &mut [i32]) -> Draft
-    requires { (o.corners ≤ 60) × (length ring.old ≡ 120) × HeardOnSheet h }
-    ensures { Drawing.AddsRing o h ring.old result ring.new }
+// A point of the open ring, or of its chain.
+fn point(o: Draft, x: i32, y: i32, ring: &mut [i32], chain: &mut [i32], out: &[u8]) -> Draft
+    requires { Drawing.Fine o ring.old chain.old out.now }
+    ensures { Drawing.Does (Drawing.points x y) o ring.old chain.old result ring.new chain.new out.now }
 {
-    if o.corners == 60 {
-        return o.fails(RING_FULL);
+    match o.phase {
+        Phase::Closed => o.fails(Wrong::NoRing),
+        Phase::Ring => match put_point(ring, o.corners, x, y) {
+            None => o.fails(Wrong::RingFull),
+            Some(corners) => Draft {
+                corners,
+                wrote: false,
+                ..o
+            },
+        },
+        Phase::Chain => match put_point(chain, o.run, x, y) {
+            None => o.fails(Wrong::ChainFull),
+            Some(run) => Draft {
+                run,
+                wrote: false,
+                ..o
+            },
+        },
     }
-    let n = o.corners;
-    let x = h.x;
-    let y = h.y;
-    put_point(ring, n, x, y);
-    Draft {
-        began: o.began,
-        phase: o.phase,
-        size: o.size,
-        corners: n + 1,
-        run: o.run,
-        block: o.block,
-        wrong: o.wrong,
-        wrote: false,
-    }
-}
-
-// A point of its chain.
-fn chain_point(o: Draft, h: Heard, chain: &mut [i32]) -> Draft
-    requires { (o.run ≤ 60) × (length chain.old ≡ 120) × HeardOnSheet h }
-    ensures { Drawing.AddsChain o h chain.old result chain.new }
-{
-    if o.run == 60 {
-        return o.fails(CHAIN_FULL);
-    }
-    let n = o.run;
-    let x = h.x;
-    let y = h.y;
-    put_point(chain, n, x, y);
-    Draft {
-        began: o.began,
-        phase: o.phase,
-        size: o.size,
-        corners: o.corners,
-        run: n + 1,
-        block: o.block,
-        wrong: o.wrong,
-        wrote: false,
-    }
-}
-
-fn point(o: Draft, h: Heard, ring: &mut [i32], chain: &mut [i32], out: &[u8]) -> Draft
-    requires { Drawing.Fine o ring.old chain.old out.now × HeardOnSheet h }
-    ensures { Drawing.Does (Drawing.points h) o ring.old chain.old result ring.new chain.new out.now }
-{
-    if o.phase == 2 {
-        return chain_point(o, h, chain);
-    }
-    ring_point(o, h, ring)
 }
 
 // What was heard of line `number`.
 fn take_heard(
     o: Draft,
     number: u32,
-    h: Heard,
+    heard: Result<Line, Fault>,
     ring: &mut [i32],
     chain: &mut [i32],
     out: &mut [u8],
 ) -> Draft
-    requires { Drawing.Fine o ring.old chain.old out.old × HeardOnSheet h }
-    ensures { Drawing.Does (Drawing.takes number h) o ring.old chain.old result ring.new chain.new
+    requires { Drawing.Fine o ring.old chain.old out.old }
+    ensures { Drawing.Does (Drawing.takes number heard) o ring.old chain.old result ring.new chain.new
         out.new }
 {
-    let kind = h.kind;
-    if kind == lines::NOTHING {
-        return o.quiet();
+    match heard {
+        Err(fault) => o.fails(fault.into()),
+        Ok(Line::Nothing) => o.quiet(),
+        Ok(Line::Ring { size }) => begin(o, number, size, ring, chain, out),
+        Ok(Line::Chain) => chain_line(o),
+        Ok(Line::Point { x, y }) => point(o, x, y, ring, chain, out),
     }
-    if lines::POINT < kind {
-        return o.fails(kind);
-    }
-    if kind == lines::RING {
-        return begin(o, number, h.size, ring, chain, out);
-    }
-    if o.phase == 0 {
-        return o.fails(NO_RING);
-    }
-    if kind == lines::CHAIN {
-        return chain_line(o);
-    }
-    point(o, h, ring, chain, out)
 }
 
 // The state between two bytes: how many may still come, the number of the line from 1, its bytes so far, whether its comment
@@ -268,12 +254,12 @@ impl State {
     {
         let draft = Draft {
             began: 0,
-            phase: 0,
+            phase: Phase::Closed,
             size: 0,
             corners: 0,
             run: 0,
             block: 0,
-            wrong: 0,
+            wrong: None,
             wrote: false,
         };
         State {
@@ -289,26 +275,21 @@ impl State {
         requires { 0 < self.left }
         ensures { result ≡ Page.gone_on self length comment }
     {
-        let o = self.draft;
         State {
             left: self.left - 1,
-            line: self.line,
             length,
             comment,
-            draft: o.quiet(),
+            draft: self.draft.quiet(),
+            ..self
         }
     }
 
-    fn stops(self, code: u32) -> State
-        ensures { result ≡ Page.stopped self code }
+    fn stops(self, wrong: Wrong) -> State
+        ensures { result ≡ Page.stopped self wrong }
     {
-        let o = self.draft;
         State {
-            left: self.left,
-            line: self.line,
-            length: self.length,
-            comment: self.comment,
-            draft: o.fails(code),
+            draft: self.draft.fails(wrong),
+            ..self
         }
     }
 }
@@ -318,10 +299,10 @@ fn next_line(line: u32, o: Draft) -> u32
     requires { line < 16777217 }
     ensures { result ≡ Page.line_after line o }
 {
-    if o.wrong == 0 {
-        return line + 1;
+    match o.wrong {
+        None => line + 1,
+        Some(_) => line,
     }
-    line
 }
 
 // The end of a line.
@@ -330,9 +311,8 @@ fn end_line(s: State, text: &[u8], ring: &mut [i32], chain: &mut [i32], out: &mu
     ensures { Page.Moves Page.line_ends s text.now ring.old chain.old result text.now ring.new
         chain.new out.new }
 {
-    let n = s.length;
-    let h = lines::hear(&text[..n]);
-    let draft = take_heard(s.draft, s.line, h, ring, chain, out);
+    let heard = lines::hear(&text[..s.length]);
+    let draft = take_heard(s.draft, s.line, heard, ring, chain, out);
     State {
         left: s.left - 1,
         line: next_line(s.line, draft),
@@ -356,23 +336,19 @@ pub fn feed(
         chain.new out.new }
 {
     if s.left == 0 {
-        return s.stops(LONG_TEXT);
+        return s.stops(Wrong::LongText);
     }
     if b == b'\n' {
         return end_line(s, text, ring, chain, out);
     }
-    if s.comment {
-        return s.goes(s.length, true);
-    }
-    if b == b'#' {
+    if s.comment || b == b'#' {
         return s.goes(s.length, true);
     }
     if s.length == MOST_LINE {
-        return s.stops(LONG_LINE);
+        return s.stops(Wrong::LongLine);
     }
-    let n = s.length;
-    text[n] = b;
-    s.goes(n + 1, false)
+    text[s.length] = b;
+    s.goes(s.length + 1, false)
 }
 
 // The end of the text, after its last line.
@@ -381,12 +357,8 @@ pub fn finish(s: State, text: &[u8], ring: &[i32], chain: &[i32], out: &mut [u8]
     ensures { Page.Moves Page.ends s text.now ring.now chain.now result text.now ring.now
         chain.now out.new }
 {
-    let draft = close(s.draft, ring, chain, out);
     State {
-        left: s.left,
-        line: s.line,
-        length: s.length,
-        comment: s.comment,
-        draft,
+        draft: close(s.draft, ring, chain, out),
+        ..s
     }
 }

@@ -7,38 +7,33 @@
 
 #![tactic(auto)]
 
-ghost use Rattle.std.specs.Prelude.{◌≡◌, ◌||◌, not, cond, List, ◌/◌, ◌≤◌, ltb, length, get_or};
+ghost use Rattle.std.specs.Prelude.{◌≡◌, ◌||◌, not, cond, List, IfOk, ◌/◌, ◌≤◌, ltb, length, get_or};
 ghost use Rattle.laws.specs.Bounded.{any};
 ghost use Rattle.vector.specs.Rings.{most_points};
 ghost use Rattle.nodes.specs.Flat.{nodes_in};
 ghost use Rattle.nodes.specs.Nearby.{most_nearby, Framed, ValidNearby};
 ghost use Rattle.quads.specs.declared.Cell.{Cell};
+ghost use Rattle.table.specs.Answers.{code_of};
 ghost use Rattle.call.specs.Call as Call;
-ghost use Rattle.entry.specs.Refusal as Refusal;
+ghost use Rattle.entry.specs.Refusal as Tests;
 
 use limits::Limits;
 use nodes::{MOST_PLACES, Nearby, NodeNumber, Window};
+use reserve::Places;
+use table::Refusal;
 
-// What the tests of the lists found: the number of a refusal, or 0, and the nodes that were collected.
-#[derive(Clone, Copy)]
-pub struct ListTest {
-    pub code: u32,
-    pub near: Nearby,
-}
-
-// A used rim mark is neither set (1) nor clear (0). Nothing ends the loop, so that several are judged at once.
+// A used rim mark is neither set (1) nor clear (0). Nothing ends the scan, so that several are judged at once.
 fn any_mark_out(rims: &[u8], used: usize) -> bool
     requires { used ≤ length rims.now }
     ensures { result ≡ any (λ i. ltb 1 (get_or rims.now i 0)) used }
 {
-    let mut found = false;
-    for i in 0..used {
-        found = found | (1 < rims[i]);
-    }
-    found
+    rims[..used]
+        .iter()
+        .fold(false, |found, &mark| found | (1 < mark))
 }
 
 // 3 of the counts: a used count above its list, too many node places, or too few rim marks.
+#[tactic(auto, unfolding(crate::specs::Refusal::counts_over))]
 fn counts_over(
     places: usize,
     node_count: usize,
@@ -46,44 +41,28 @@ fn counts_over(
     cell_places: usize,
     cell_count: usize,
 ) -> bool
-    ensures { result ≡ Refusal.counts_over places node_count marks cell_places cell_count }
+    ensures { result ≡ Tests.counts_over places node_count marks cell_places cell_count }
 {
-    if places < node_count {
-        return true;
-    }
-    if cell_places < cell_count {
-        return true;
-    }
-    if MOST_PLACES < places {
-        return true;
-    }
-    marks < places
+    places < node_count || cell_places < cell_count || MOST_PLACES < places || marks < places
 }
 
-// The node places and the cell places that a ring of r points may take.
-pub fn node_reserve(limits: Limits, r: usize) -> usize
+// The places that a ring of r points may take.
+pub fn reserve_of(limits: Limits, r: usize) -> Places
     requires { (3 ≤ r) × (r ≤ most_points) }
-    ensures { result ≡ Call.node_reserve limits r }
+    ensures nodes { result.nodes ≡ Call.node_reserve limits r }
+    ensures cells { result.cells ≡ Call.cell_reserve limits r }
 {
-    reserve::node_places(limits.cuts, r)
-}
-
-pub fn cell_reserve(limits: Limits, r: usize) -> usize
-    requires { (3 ≤ r) × (r ≤ most_points) }
-    ensures { result ≡ Call.cell_reserve limits r }
-{
-    reserve::cell_places(limits.cuts, r)
+    reserve::places_for(limits.cuts, r)
 }
 
 // 4: too few free places.
-fn room_out(limits: Limits, r: usize, nodes: usize, cells: usize) -> bool
+#[tactic(auto, unfolding(call::specs::Call::room_out_of))]
+fn room_out(limits: Limits, r: usize, free: Places) -> bool
     requires { (3 ≤ r) × (r ≤ most_points) }
-    ensures { result ≡ Call.room_out_of limits r nodes cells }
+    ensures { result ≡ Call.room_out_of limits r free.nodes free.cells }
 {
-    if nodes < node_reserve(limits, r) {
-        return true;
-    }
-    cells < cell_reserve(limits, r)
+    let reserve = reserve_of(limits, r);
+    free.nodes < reserve.nodes || free.cells < reserve.cells
 }
 
 // 3 of the used nodes, which are all held or not, and of the used marks; and 4.
@@ -93,43 +72,40 @@ fn used_refusal(
     held: bool,
     rims: &[u8],
     node_count: usize,
-    free_nodes: usize,
-    free_cells: usize,
-) -> u32
+    free: Places,
+) -> Result<(), Refusal>
     requires { (node_count ≤ length rims.now) × (3 ≤ own) × (own ≤ most_points) }
-    ensures { result ≡ cond (not held || any (λ i. ltb 1 (get_or rims.now i 0)) node_count) 3
-        (cond (Call.room_out_of limits own free_nodes free_cells) 4 0) }
+    ensures { code_of result ≡ cond (not held || any (λ i. ltb 1 (get_or rims.now i 0)) node_count) 3
+        (cond (Call.room_out_of limits own free.nodes free.cells) 4 0) }
 {
-    if !held {
-        return 3;
+    if !held || any_mark_out(rims, node_count) {
+        return Err(Refusal::Lists);
     }
-    if any_mark_out(rims, node_count) {
-        return 3;
+    if room_out(limits, own, free) {
+        return Err(Refusal::Room);
     }
-    if room_out(limits, own, free_nodes, free_cells) {
-        return 4;
-    }
-    0
+    Ok(())
 }
 
-// The first refusal of the ring, the chain and the set of limits, or 0: 1, 2 and 15.
-pub fn points_refusal(limits: Limits, ring: &[i32], chain: &[i32], size: u32) -> u32
-    ensures { result ≡ Refusal.points_refusal limits ring.now chain.now size }
+// The first refusal of the ring, the chain and the set of limits: 1, 2 and 15.
+#[tactic(auto, unfolding(crate::specs::Refusal::points_refusal))]
+pub fn points_refusal(limits: Limits, ring: &[i32], chain: &[i32], size: u32) -> Result<(), Refusal>
+    ensures { code_of result ≡ Tests.points_refusal limits ring.now chain.now size }
 {
     if lent_points::counts_out(ring.len(), chain.len()) {
-        return 1;
+        return Err(Refusal::Counts);
     }
     if lent_points::units_out(ring, chain, size) {
-        return 2;
+        return Err(Refusal::Units);
     }
     if limits::limits_out(limits) {
-        return 15;
+        return Err(Refusal::Limits);
     }
-    0
+    Ok(())
 }
 
-// The first refusal of the lists for a ring of `own` points, or 0: 3 and 4. Of the cell list only the number of its places
-// is looked at. Where the counts fit, the used nodes in the window are collected.
+// The first refusal of the lists for a ring of `own` points, 3 and 4, or the nodes that were collected. Of the cell list only
+// the number of its places is looked at. Where the counts fit, the used nodes in the window are collected.
 pub fn lists_refusal(
     limits: Limits,
     own: usize,
@@ -141,40 +117,29 @@ pub fn lists_refusal(
     w: Window,
     numbers: &mut [NodeNumber],
     xs: &mut [f64],
-) -> ListTest
+) -> Result<Nearby, Refusal>
     requires { (3 ≤ own) × (own ≤ most_points) × Framed w × (length numbers.old ≡ most_nearby) × (length xs.old ≡ most_nearby) }
-    ensures { ((cells : List Cell) → length cells ≡ cell_places → result.code ≡ Refusal.lists_refusal limits own
+    ensures code { (cells : List Cell) → length cells ≡ cell_places → code_of result ≡ Tests.lists_refusal limits own
         (record {
           nodes = nodes_in nodes.now (length nodes.now / 2);
           node_count_of = node_count;
           rims = rims.now;
           cells = cells;
           cell_count_of = cell_count;
-        }))
-        × Refusal.Looked w nodes.now (Refusal.looked_at (length nodes.now / 2) node_count (length rims.now)
-        cell_places cell_count) numbers.old xs.old result.near numbers.new xs.new
-        × (result.code ≡ 0 → ValidNearby nodes.now node_count result.near numbers.new xs.new) }
+        }) }
+    ensures looked { Tests.Looked w nodes.now (Tests.looked_at (length nodes.now / 2) node_count (length rims.now)
+        cell_places cell_count) numbers.old xs.old result numbers.new xs.new }
+    ensures near { IfOk result (λ near. ValidNearby nodes.now node_count near numbers.new xs.new) }
 {
     let places = nodes.len() / 2;
     if counts_over(places, node_count, rims.len(), cell_places, cell_count) {
-        return ListTest {
-            code: 3,
-            near: Nearby {
-                window: w,
-                old: 0,
-                count: 0,
-            },
-        };
+        return Err(Refusal::Lists);
     }
     let s = survey::used_nodes(nodes, node_count, w, numbers, xs);
-    let free_nodes = places - node_count;
-    let free_cells = cell_places - cell_count;
-    let code = used_refusal(
-        limits, own, s.held, rims, node_count, free_nodes, free_cells,
-    );
-    let near = s.near;
-    ListTest {
-        code: code,
-        near: near,
-    }
+    let free = Places {
+        nodes: places - node_count,
+        cells: cell_places - cell_count,
+    };
+    used_refusal(limits, own, s.held, rims, node_count, free)?;
+    Ok(s.near)
 }

@@ -9,49 +9,48 @@ use blocks::{Block, Reading};
 pub use pairs::same_pair;
 use std::io::Read;
 use table::Row;
+use words::Field;
+
+// Whether a value is the next word of the file.
+fn is_word<R: Read>(input: &mut R, x: u64) -> bool {
+    x == u64::from(words::word(input))
+}
 
 fn same_row<R: Read>(input: &mut R, v: Row) -> bool {
-    let mut same = v.code == words::word(input) as u64;
-    same = same & (v.corners == words::word(input) as u64);
-    same = same & (v.k == words::word(input) as u64);
-    same = same & (v.marked == words::word(input) as u64);
-    same = same & (v.cuts == words::word(input) as u64);
-    same = same & (v.pieces == words::word(input) as u64);
-    same = same & (v.turned == words::long(input));
-    same = same & (v.area == words::long(input));
-    same = same & (v.nodes == words::word(input) as u64);
-    same & (v.cells == words::word(input) as u64)
+    let mut same = is_word(input, v.code);
+    for x in [v.corners, v.k, v.marked, v.cuts, v.pieces] {
+        same &= is_word(input, x);
+    }
+    for x in [v.turned, v.area] {
+        same &= x == words::long(input);
+    }
+    for x in [v.nodes, v.cells] {
+        same &= is_word(input, x);
+    }
+    same
 }
 
 // Number i of the node list: new ones from `at` on come from the file, all others are as they were.
 fn node_before<R: Read>(input: &mut R, before: &[f64], i: usize, at: usize, n: usize) -> f64 {
-    if at <= i {
-        if i - at < n {
-            return words::double(words::long(input));
-        }
+    if at <= i && i - at < n {
+        return f64::read(input);
     }
-    if i < before.len() {
-        return before[i];
-    }
-    0.0
+    before.get(i).copied().unwrap_or(0.0)
 }
 
 fn same_nodes<R: Read>(input: &mut R, nodes: &[f64], before: &[f64], at: usize) -> bool {
     let n = words::count(input);
     let mut same = true;
-    for i in 0..nodes.len() {
-        let x = node_before(input, before, i, at, n);
-        same = same & words::same_bits(nodes[i], x);
+    for (i, node) in nodes.iter().enumerate() {
+        same &= words::same_bits(*node, node_before(input, before, i, at, n));
     }
     same
 }
 
 // Number i of the cell list, which was filled with 65,535 before the call.
 fn cell_before<R: Read>(input: &mut R, i: usize, at: usize, n: usize) -> u32 {
-    if at <= i {
-        if i - at < n {
-            return words::word(input);
-        }
+    if at <= i && i - at < n {
+        return words::word(input);
     }
     65535
 }
@@ -60,45 +59,26 @@ fn same_cells<R: Read>(input: &mut R, cells: &[u32]) -> bool {
     let at = words::count(input);
     let n = words::count(input);
     let mut same = true;
-    for i in 0..cells.len() {
-        let x = cell_before(input, i, at, n);
-        same = same & (cells[i] == x);
+    for (i, cell) in cells.iter().enumerate() {
+        same &= *cell == cell_before(input, i, at, n);
     }
     same
 }
 
-// The rim marks before a call.
-pub fn copy(from: &[u8], to: &mut [u8]) {
-    for i in 0..from.len() {
-        words::put_byte(to, i, from[i]);
-    }
-}
-
-// Byte i of a list; 255, which is no mark, where it has none.
-fn byte_at(bytes: &[u8], i: usize) -> u8 {
-    if i < bytes.len() {
-        return bytes[i];
-    }
-    255
-}
-
-// Mark i after a call: the first n come from the file, all others are as they were.
+// Mark i after a call: the first n come from the file, all others are as they were. A list that has none gives 255, which is
+// no mark.
 fn mark_after(want: &[u8], before: &[u8], i: usize, n: usize) -> u8 {
-    if i < n {
-        return byte_at(want, i);
-    }
-    byte_at(before, i)
+    let list = if i < n { want } else { before };
+    list.get(i).copied().unwrap_or(255)
 }
 
 fn same_rims<R: Read>(input: &mut R, rims: &[u8], before: &[u8]) -> bool {
     let n = words::count(input);
     let mut want = [0u8; 1536];
     words::read_packed(input, &mut want, n);
-    let mut same = true;
-    for i in 0..rims.len() {
-        same = same & (rims[i] == mark_after(&want, before, i, n));
-    }
-    same
+    rims.iter()
+        .enumerate()
+        .all(|(i, mark)| *mark == mark_after(&want, before, i, n))
 }
 
 // All that a call leaves: its row and every place of its lists, of which `before` and `marks` are what it found.
@@ -120,27 +100,24 @@ pub fn same_left<R: Read>(
 
 fn same_points<R: Read>(input: &mut R, points: &[i32]) -> bool {
     let mut same = true;
-    for i in 0..points.len() {
-        let x = blocks::signed(words::word(input));
-        same = same & (points[i] == x);
+    for point in points {
+        same &= *point == i32::read(input);
     }
     same
 }
 
 fn same_reading<R: Read>(input: &mut R, kind: u32, n: usize, size: u32, points: &[i32]) -> bool {
     let mut same = words::word(input) == 0;
-    same = same & (words::word(input) == kind);
-    same = same & (words::count(input) == n);
-    same = same & (words::word(input) == size);
+    same &= words::word(input) == kind;
+    same &= words::count(input) == n;
+    same &= words::word(input) == size;
     same & same_points(input, points)
 }
 
 pub fn same_block<R: Read>(input: &mut R, number: u32, r: Reading) -> bool {
-    let answer = r.block;
-    let points = r.points;
-    match answer {
+    match r.block {
         Block::Refused { code, block } => (block == number) & (words::word(input) == code),
-        Block::Ring { count, size } => same_reading(input, 1, count, size, &points),
-        Block::Chain { count } => same_reading(input, 2, count, 0, &points),
+        Block::Ring { count, size } => same_reading(input, 1, count, size, &r.points),
+        Block::Chain { count } => same_reading(input, 2, count, 0, &r.points),
     }
 }

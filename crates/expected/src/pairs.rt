@@ -1,12 +1,8 @@
 // A ring and its chain saved as two blocks, compared with a list that says every byte of the destination.
 
-ghost use Rattle.std.specs.Prelude.{◌*◌, ◌+◌, ◌≤◌, ◌<◌, length};
+ghost use Rattle.std.specs.Prelude.{◌<◌};
 
 use std::io::Read;
-
-fn four(a: u8, b: u8, c: u8, d: u8) -> u32 {
-    words::wide(a) + 256 * words::wide(b) + 65536 * words::wide(c) + 16777216 * words::wide(d)
-}
 
 // Word k of a destination: the first n come from the file, all others are as found.
 fn word_left<R: Read>(input: &mut R, k: usize, n: usize) -> u32
@@ -16,22 +12,22 @@ fn word_left<R: Read>(input: &mut R, k: usize, n: usize) -> u32
         return words::word(input);
     }
     let i = k * 4;
-    four(
+    u32::from_le_bytes([
         words::found(i),
         words::found(i + 1),
         words::found(i + 2),
         words::found(i + 3),
-    )
+    ])
 }
 
 // The answer, and all 1,536 bytes that were filled, those beyond the lent ones too.
 pub fn same_pair<R: Read>(input: &mut R, code: u64, out: &[u8; 1536]) -> bool {
-    let mut same = code == words::word(input) as u64;
+    let mut same = code == u64::from(words::word(input));
     let n = words::count(input);
     for k in 0..384 {
         let i = k * 4;
-        let x = word_left(input, k, n);
-        same = same & (four(out[i], out[i + 1], out[i + 2], out[i + 3]) == x);
+        let have = u32::from_le_bytes([out[i], out[i + 1], out[i + 2], out[i + 3]]);
+        same &= have == word_left(input, k, n);
     }
     same
 }

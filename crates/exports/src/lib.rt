@@ -18,6 +18,7 @@ ghost use Rattle.listing.specs.Sheet as Sheet;
 ghost use Rattle.wear.specs.Bytes as Bytes;
 
 use limits::Limits;
+use marked::Marking;
 use nodes::NodeNumber;
 use smallest::Smallest;
 use table::Row;
@@ -37,13 +38,13 @@ pub fn ring_divide(
     ensures { Promise delivered (lent ring.now chain.now size nodes.old node_count rims.old
         cells.old cell_count) result nodes.new rims.new cells.new }
 {
-    let a = divider::divide(
+    Row::from(divider::divide(
         ring, chain, size, nodes, node_count, rims, cells, cell_count,
-    );
-    Row::new(a)
+    ))
 }
 
 // The five values of a set, held together.
+// Kept: C hands them over one by one.
 fn set_of(corner: f64, least: f64, greatest: f64, cuts: u32, share: f64) -> Limits
     ensures { result ≡ record { cuts = cuts; corner = corner; least = least; greatest = greatest; share = share } }
 {
@@ -78,10 +79,9 @@ pub fn ring_divide_set(
         result nodes.new rims.new cells.new }
 {
     let limits = set_of(corner, least, greatest, cuts, share);
-    let a = divider::divide_set(
+    Row::from(divider::divide_set(
         limits, ring, chain, size, nodes, node_count, rims, cells, cell_count,
-    );
-    Row::new(a)
+    ))
 }
 
 // The divider call with given marks: 0 straight, 1 snapped to its given point, 2 snapped to the outline.
@@ -110,10 +110,15 @@ pub fn ring_divide_marked(
     })
         result nodes.new rims.new cells.new }
 {
-    let a = marked::divide_marked(
-        ring, kinds, snaps, outline, loops, size, nodes, node_count, rims, cells, cell_count,
-    );
-    Row::new(a)
+    let marking = Marking {
+        kinds,
+        snaps,
+        outline,
+        loops,
+    };
+    Row::from(marked::divide_marked(
+        ring, marking, size, nodes, node_count, rims, cells, cell_count,
+    ))
 }
 
 // The same with the caller's set of limits.
@@ -149,11 +154,15 @@ pub fn ring_divide_marked_set(
         result nodes.new rims.new cells.new }
 {
     let limits = set_of(corner, least, greatest, cuts, share);
-    let a = marked::divide_marked_set(
-        limits, ring, kinds, snaps, outline, loops, size, nodes, node_count, rims, cells,
-        cell_count,
-    );
-    Row::new(a)
+    let marking = Marking {
+        kinds,
+        snaps,
+        outline,
+        loops,
+    };
+    Row::from(marked::divide_marked_set(
+        limits, ring, marking, size, nodes, node_count, rims, cells, cell_count,
+    ))
 }
 
 // The divider call of the practice paper.
@@ -170,10 +179,9 @@ pub fn ring_divide_practice(
     ensures { Practice.PracticePromise (lent ring.now chain.now size nodes.old node_count rims.old
         cells.old cell_count) result nodes.new rims.new cells.new }
 {
-    let a = practice::divide_practice(
+    Row::from(practice::divide_practice(
         ring, chain, size, nodes, node_count, rims, cells, cell_count,
-    );
-    Row::new(a)
+    ))
 }
 
 // The smallest choice of a ring's points that is still refused with the ring's own number, 5 to 8; or 1, 2, 18 or 19.

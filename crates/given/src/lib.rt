@@ -30,8 +30,8 @@ fn loop_counts(loops: &[u32]) -> [usize; 20]
     ensures { take (length loops.now) result ≡ loops.now }
 {
     let mut out = [0usize; 20];
-    for i in 0..loops.len() {
-        out[i] = loops[i] as usize;
+    for (i, m) in loops.iter().enumerate() {
+        out[i] = *m as usize;
     }
     out
 }
@@ -58,21 +58,22 @@ fn lead_line(kinds: &[u8], outline: &[i32], loops: &[u32]) -> LeadLine
 }
 
 // The mark of the edge from a to b, of a kind and with its given point.
-fn given_mark(kind: u8, p: Point, a: GridPoint, b: GridPoint, lead: LeadLine) -> EdgeMark
-    requires { Fits lead }
-    ensures { result ≡ Marked.mark_of kind p (Marked.lead_point (sought lead) a b) }
+fn given_mark(kind: u8, p: Point, a: GridPoint, b: GridPoint, lead: &LeadLine) -> EdgeMark
+    requires { Fits lead.now }
+    ensures { result ≡ Marked.mark_of kind p (Marked.lead_point (sought lead.now) a b) }
 {
-    if kind == 1 {
-        return EdgeMark::Snap(p);
+    match kind {
+        1 => EdgeMark::Snap(p),
+        2 => {
+            let m = quads::halfway(Point::new(a), Point::new(b));
+            EdgeMark::Snap(outline::nearest_boundary_point(
+                m,
+                &lead.points,
+                &lead.loops[..lead.count],
+            ))
+        }
+        _ => EdgeMark::Straight,
     }
-    if kind == 2 {
-        let m = quads::halfway(Point::new(a), Point::new(b));
-        let points = lead.points;
-        let loops = lead.loops;
-        let q = outline::nearest_boundary_point(m, points, loops, lead.count);
-        return EdgeMark::Snap(q);
-    }
-    EdgeMark::Straight
 }
 
 // The same where the edge stays, and else straight: it joins two kept points over dropped ones.
@@ -82,35 +83,34 @@ fn surviving_mark(
     p: Point,
     a: GridPoint,
     b: GridPoint,
-    lead: LeadLine,
+    lead: &LeadLine,
 ) -> EdgeMark
-    requires { Fits lead }
-    ensures { result ≡ cond stays (Marked.mark_of kind p (Marked.lead_point (sought lead) a b)) Straight }
+    requires { Fits lead.now }
+    ensures { result ≡ cond stays (Marked.mark_of kind p (Marked.lead_point (sought lead.now) a b)) Straight }
 {
     if stays {
-        return given_mark(kind, p, a, b, lead);
+        given_mark(kind, p, a, b, lead)
+    } else {
+        EdgeMark::Straight
     }
-    EdgeMark::Straight
 }
 
 // The marks of the ring after cleaning. The edge from a kept place stays exactly if the next kept place is the next place of
 // the ring.
+// Kept: an edge looks at two kept places, this one and the next round the ring, so that it counts places.
 fn marks_left(
-    ring: Ring,
-    clean: CleanedRing,
+    ring: &Ring,
+    clean: &CleanedRing,
     kinds: &[u8],
     snaps: &[f64],
-    lead: LeadLine,
+    lead: &LeadLine,
 ) -> [Edge; MOST_POINTS]
-    requires { Fits lead × MarksOf ring kinds.now snaps.now clean }
-    ensures { Laid (mark_left ring clean kinds.now snaps.now (sought lead)) clean.ring.count result }
+    requires { Fits lead.now × MarksOf ring.now kinds.now snaps.now clean.now }
+    ensures { Laid (mark_left ring.now clean.now kinds.now snaps.now (sought lead.now)) clean.now.ring.count result }
 {
     let n = ring.count;
     let count = clean.ring.count;
-    let straight = Edge {
-        mark: EdgeMark::Straight,
-    };
-    let mut edges = [straight; MOST_POINTS];
+    let mut edges = [Edge::STRAIGHT; MOST_POINTS];
     for j in 0..count {
         let k = clean.places[j] as usize;
         let after = vector::next(k, n);
@@ -124,24 +124,23 @@ fn marks_left(
             ring.points[after],
             lead,
         );
-        edges[j] = Edge { mark: mark };
+        edges[j] = Edge { mark };
     }
     edges
 }
 
 // The marks of a cleaned ring: those given to the ring that it came of that survive.
 pub fn surviving_marks(
-    ring: Ring,
-    clean: CleanedRing,
+    ring: &Ring,
+    clean: &CleanedRing,
     kinds: &[u8],
     snaps: &[f64],
     outline: &[i32],
     loops: &[u32],
 ) -> [Edge; MOST_POINTS]
-    requires { MarksOf ring kinds.now snaps.now clean × (Marked.outline_out kinds.now outline.now loops.now ≡ false) }
+    requires { MarksOf ring.now kinds.now snaps.now clean.now × (Marked.outline_out kinds.now outline.now loops.now ≡ false) }
     ensures { Survive (record { kinds = kinds.now; snaps = snaps.now; outline = outline.now; loops = loops.now })
-        (points_of ring) (places_in clean) result }
+        (points_of ring.now) (places_in clean.now) result }
 {
-    let lead = lead_line(kinds, outline, loops);
-    marks_left(ring, clean, kinds, snaps, lead)
+    marks_left(ring, clean, kinds, snaps, &lead_line(kinds, outline, loops))
 }

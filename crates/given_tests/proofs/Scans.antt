@@ -1,35 +1,48 @@
 -- The scans of refusals 13 and 14, place by place: kinds, given points and loops. The sum of the loops stops past 60, where the outline has too few points
 -- for it.
-use Prim.Native.Nat.{ℕ, ◌+◌, ◌*◌, ◌-◌, ◌/◌, ◌≤◌, ◌<◌}
+use Prim.Native.Nat.{ℕ, zero, suc, ◌+◌, ◌*◌, ◌≤◌, ◌<◌}
 use native.Mathlib.Omega.{arith}
-use mathlib.Core.Path.{◌≡◌, sym, ap, ◌∙◌, subst}
+use mathlib.Core.Path.{◌≡◌, refl, sym, ap, ◌∙◌}
 use mathlib.Core.Bool.{Bool, true, false, not, ◌||◌}
-use mathlib.Core.List.{List, [], ◌++◌}
-use lib.IntN.{ℤ}
-use lib.ListN.{length, get_or, take, replicate}
+use mathlib.Core.List.{List, [], ◌∷◌}
+use lib.ListN.{length, get_or, take}
 use lib.Seq.{take-length}
-use lib.Dec.{T, ltb, eqb}
+use lib.Dec.{ltb, eqb}
 use lib.Ieee.{Float}
 use borrow.Author.Tests.{lt-ltb, ltb-false, ne_eqb, eqb-true}
+use Rattle.std.specs.List.{list_any}
 use Rattle.laws.specs.Bounded.{any}
 use Rattle.laws.proofs.Booleans.{is_true, is_false, not-of, neither, or-true}
 use Rattle.laws.proofs.Search.{any_hit, any_none}
-use Rattle.laws.proofs.Table.{length_tab}
-use Rattle.vector.specs.declared.GridPoint.{GridPoint}
-use Rattle.vector.specs.Grid.{origin}
-use Rattle.vector.specs.Size.{AllOnSheet}
-use Rattle.outline.specs.Outline.{segments, total}
-use Rattle.outline.proofs.Scan.{total_up, sum_more, segments-front, loops-few}
+use Rattle.outline.specs.Outline.{total}
+use Rattle.outline.proofs.Scan.{total_up, sum_more, loops-few}
 use Rattle.nodes.specs.Flat.{node_in_of}
-use Rattle.call.specs.Lent.{point_in, points_in}
-use Rattle.call.specs.Marked.{mark_out, called_for, loops_out, outline_out}
-use Rattle.call.proofs.Marked.{Outlined, outline_in}
+use Rattle.call.specs.Marked.{mark_out, loops_out}
 
 abbrev pub calls : List ℕ → ℕ → Bool
 calls kinds i = eqb (get_or kinds i 0) 2
 
 abbrev pub out_at : List ℕ → List Float → ℕ → Bool
 out_at kinds snaps i = mark_out (get_or kinds i 0) (node_in_of snaps i)
+
+-- ---- the library's search over the elements is the one over their places
+any-first : (p : ℕ → Bool) (n : ℕ) → any p (suc n) ≡ (p 0 || any (λ i. p (suc i)) n)
+unfolding any
+any-first p zero = last (p 0)
+  where
+    last : (b : Bool) → (false || b) ≡ (b || false)
+    last true = refl
+    last false = refl
+any-first p (suc n) = ap (λ (b : Bool). b || p (suc n)) (any-first p n) ∙ apart (p 0) (any (λ i. p (suc i)) n) (p (suc n))
+  where
+    apart : (a b d : Bool) → (a || b || d) ≡ (a || (b || d))
+    apart true b d = refl
+    apart false b d = refl
+
+pub list-any-is : (p : ℕ → Bool) (l : List ℕ) → list_any p l ≡ any (λ i. p (get_or l i 0)) (length l)
+unfolding any
+list-any-is p [] = refl
+list-any-is p (x ∷ l) = ap (λ (b : Bool). p x || b) (list-any-is p l) ∙ sym (any-first (λ i. p (get_or (x ∷ l) i 0)) (length l))
 
 -- ---- loops
 abbrev pub short : List ℕ → ℕ → Bool

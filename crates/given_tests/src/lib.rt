@@ -13,19 +13,11 @@ ghost use Rattle.call.specs.Marked as Marked;
 use vector::{MOST_POINTS, Point};
 
 // A mark that is of no kind, or whose given point is out of limits.
+// Kept: the kinds are the bytes of the C interface, and an enum for them would only be matched back to these two tests.
 fn mark_out(kind: u8, p: Point) -> bool
     ensures { result ≡ Marked.mark_out kind p }
 {
-    if 2 < kind {
-        return true;
-    }
-    if kind != 1 {
-        return false;
-    }
-    if nodes::is_held(p.x) {
-        return !nodes::is_held(p.y);
-    }
-    true
+    2 < kind || kind == 1 && !(nodes::is_held(p.x) && nodes::is_held(p.y))
 }
 
 // The point that is given with mark i.
@@ -33,10 +25,9 @@ pub fn snap_at(snaps: &[f64], i: usize) -> Point
     requires { i * 2 + 2 ≤ length snaps.now }
     ensures { result ≡ node_in_of snaps.now i }
 {
-    let at = i * 2;
     Point {
-        x: snaps[at],
-        y: snaps[at + 1],
+        x: snaps[i * 2],
+        y: snaps[i * 2 + 1],
     }
 }
 
@@ -45,14 +36,11 @@ pub fn marks_out(n: usize, kinds: &[u8], snaps: &[f64]) -> bool
     requires { n ≤ most_points }
     ensures { result ≡ Marked.marks_out kinds.now snaps.now n }
 {
-    if kinds.len() != n {
+    if kinds.len() != n || snaps.len() != n * 2 {
         return true;
     }
-    if snaps.len() != n * 2 {
-        return true;
-    }
-    for i in 0..n {
-        if mark_out(kinds[i], snap_at(snaps, i)) {
+    for (i, kind) in kinds.iter().enumerate() {
+        if mark_out(*kind, snap_at(snaps, i)) {
             return true;
         }
     }
@@ -63,12 +51,7 @@ pub fn marks_out(n: usize, kinds: &[u8], snaps: &[f64]) -> bool
 pub fn called_for(kinds: &[u8]) -> bool
     ensures { result ≡ Marked.called_for kinds.now }
 {
-    for i in 0..kinds.len() {
-        if kinds[i] == 2 {
-            return true;
-        }
-    }
-    false
+    kinds.contains(&2)
 }
 
 // Loops that have under 3 points, or do not add up to n, at most 60. The sum stops past 60, so that it does not wrap.
@@ -77,12 +60,11 @@ fn loops_out(loops: &[u32], n: usize) -> bool
     ensures { result ≡ Marked.loops_out loops.now n }
 {
     let mut total: usize = 0;
-    for i in 0..loops.len() {
-        let m = loops[i] as usize;
-        if m < 3 {
+    for m in loops {
+        if *m < 3 {
             return true;
         }
-        total += m;
+        total += *m as usize;
         if MOST_POINTS < total {
             return true;
         }
@@ -94,21 +76,11 @@ fn loops_out(loops: &[u32], n: usize) -> bool
 pub fn outline_out(kinds: &[u8], outline: &[i32], loops: &[u32]) -> bool
     ensures { result ≡ Marked.outline_out kinds.now outline.now loops.now }
 {
-    if !called_for(kinds) {
-        return false;
-    }
     let n = outline.len() / 2;
-    if outline.len() % 2 != 0 {
-        return true;
-    }
-    if n == 0 {
-        return true;
-    }
-    if MOST_POINTS < n {
-        return true;
-    }
-    if loops_out(loops, n) {
-        return true;
-    }
-    lent_points::any_outside(outline)
+    called_for(kinds)
+        && (outline.len() % 2 != 0
+            || n == 0
+            || MOST_POINTS < n
+            || loops_out(loops, n)
+            || lent_points::any_outside(outline))
 }

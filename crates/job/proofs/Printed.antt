@@ -1,17 +1,17 @@
 -- Claim: `printed` of an input is what a loop writes that reads, steps and writes until the run has ended, where each read gives the next 512 bytes or what
 -- is left. The run of every input ends, at the latest with the first read that gives less than a block (`ended`) and, of bytes, with read 65,537 (`in_time`);
 -- and wherever it has ended, it is the whole run (`settles`), and the text so far is `printed` (`prints`).
-use Prim.Native.Nat.{ℕ, zero, suc, ◌+◌, ◌-◌, ◌*◌, ◌/◌, ◌≤◌, ◌<◌}
+use Prim.Native.Nat.{ℕ, zero, suc, ◌+◌, ◌-◌, ◌/◌, ◌≤◌, ◌<◌}
 use mathlib.Core.Path.{◌≡◌, refl, sym, ap, ◌∙◌, subst}
 use mathlib.Core.Bool.{true, false}
 use mathlib.Core.Logic.{◌⊎◌, inl, inr}
-use mathlib.Core.List.{List, [], ◌∷◌}
+use mathlib.Core.List.{List}
 use native.Mathlib.Omega.{arith}
 use native.Mathlib.Decide.{dec_le}
 use native.Mathlib.Numerals.{add-one}
-use lib.ListN.{length, drop, take, length-drop, length-take}
+use lib.ListN.{length, length-drop, length-take}
 use Rattle.job.specs.Run.{Bytes, Course, onward, ran, block_at, read_to, whole_run, printed}
-use Rattle.job.proofs.Runs.{known, not-both, stays, short-ends, numbered, block-bytes}
+use Rattle.job.proofs.Runs.{known, stays, short-ends, numbered, block-bytes}
 
 module _ (l : List ℕ) where
   -- one read more

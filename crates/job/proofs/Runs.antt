@@ -20,7 +20,6 @@ use Rattle.blocks.specs.Fields.{pair}
 use Rattle.blocks.specs.Blocks.{count_of, size_of, refusal, refused_block, accepted_block, read_block}
 use Rattle.state.specs.declared.State.{State}
 use Rattle.told.specs.declared.Told.{Told}
-use Rattle.told.specs.declared.Told.TheVariants as Told
 use Rattle.job.specs.Step.{Step, text_of, ends, waits, divides, taken, step_of}
 use Rattle.job.specs.Run.{Bytes, Course, onward, ran, block_at, read_to}
 

@@ -1,15 +1,13 @@
 -- 01, Job blocks, program, and What is returned: one step of a run, from the bytes of a block to what is told of it and what is kept. Definitions only.
-use Rattle.std.specs.Prelude.{ℕ, ◌+◌, ◌*◌, ◌/◌, ◌%◌, ◌≤◌, ◌<◌, ◌≡◌, true, false, ◌&&◌, cond, List, length, take, replicate, eqb, ℤ, Float}
+use Rattle.std.specs.Prelude.{ℕ, ◌+◌, ◌*◌, ◌/◌, ◌%◌, ◌≤◌, ◌≡◌, true, false, ◌&&◌, cond, List, length, take, replicate, eqb, ℤ, Float}
 use Rattle.limits.specs.Limits.{delivered}
 use Rattle.nodes.specs.Flat.{over}
 use Rattle.quads.specs.Flat.{over_cells}
 use Rattle.call.specs.Lent.{Lent, divide_lent}
-use Rattle.call.specs.Divide.{CallAnswer}
 use Rattle.blocks.specs.declared.Block.{Block}
 use Rattle.blocks.specs.declared.Block.TheVariants.{Ring, Chain, Refused}
-use Rattle.blocks.specs.Blocks.{points, read_block}
+use Rattle.blocks.specs.Blocks.{read_block}
 use Rattle.told.specs.declared.Told.{Told}
-use Rattle.told.specs.declared.Told.TheVariants as Told
 use Rattle.told.specs.Text.{told_text, CanTell}
 use Rattle.state.specs.declared.State.{State}
 use Rattle.job.specs.declared.Stepped.{Stepped}

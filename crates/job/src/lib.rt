@@ -38,7 +38,7 @@ pub fn divide_ring(
     let end = s.count * 2;
     let stop = run * 2;
     let used = s.used;
-    let row = Row::new(divider::divide(
+    let row = Row::from(divider::divide(
         &ring[..end],
         &chain[..stop],
         s.size,
@@ -56,10 +56,9 @@ pub fn divide_ring(
     let next = s.block + 1;
     let state = State {
         block: next,
-        count: s.count,
-        size: s.size,
         used: row.nodes as usize,
         ended: false,
+        ..s
     };
     Stepped { state, told }
 }

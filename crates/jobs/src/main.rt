@@ -11,12 +11,34 @@ use std::fs::File;
 use std::io::Write;
 use std::rt::Files;
 
+// The jobs, in their order, and last what cannot be read.
+const JOBS: [&str; 19] = [
+    "whole.job",
+    "empty.job",
+    "one-byte.job",
+    "torn-ring.job",
+    "torn-chain.job",
+    "missing-chain.job",
+    "missing-later-chain.job",
+    "torn-before-check.job",
+    "check.job",
+    "check-before-kind.job",
+    "kind.job",
+    "count.job",
+    "number.job",
+    "unused-point.job",
+    "size-of-chain.job",
+    "zeros.job",
+    "rounding.job",
+    "third.job",
+    ".",
+];
+
 fn job<F: Files, W: Write, E: Write>(files: &F, output: &mut W, errors: &mut E, path: &str) {
     match fs::open(files, path) {
         Ok(mut file) => {
-            stream::write_all(output, path.as_bytes());
-            stream::write_all(output, b"\n");
-            run::run(&mut file, output);
+            let _ = write!(output, "{path}\n");
+            let _ = run::run(&mut file, output);
         }
         Err(error) => stream::fail(errors, path, error),
     }
@@ -32,9 +54,9 @@ fn unwritten<F: Files<File = File>, W: Write, E: Write>(
     match fs::open(files, path) {
         Ok(file) => {
             let sent = run::run(&mut &file, &mut &file);
-            stream::write_all(output, path.as_bytes());
-            if sent.failed {
-                stream::write_all(output, b", read only: writing failed\n");
+            let _ = write!(output, "{path}");
+            if sent.is_err() {
+                let _ = write!(output, ", read only: writing failed\n");
             }
         }
         Err(error) => stream::fail(errors, path, error),
@@ -44,24 +66,8 @@ fn unwritten<F: Files<File = File>, W: Write, E: Write>(
 fn main(rt: HostRuntime) {
     let mut output = rt.stdout();
     let mut errors = rt.stderr();
-    job(&rt, &mut output, &mut errors, "whole.job");
-    job(&rt, &mut output, &mut errors, "empty.job");
-    job(&rt, &mut output, &mut errors, "one-byte.job");
-    job(&rt, &mut output, &mut errors, "torn-ring.job");
-    job(&rt, &mut output, &mut errors, "torn-chain.job");
-    job(&rt, &mut output, &mut errors, "missing-chain.job");
-    job(&rt, &mut output, &mut errors, "missing-later-chain.job");
-    job(&rt, &mut output, &mut errors, "torn-before-check.job");
-    job(&rt, &mut output, &mut errors, "check.job");
-    job(&rt, &mut output, &mut errors, "check-before-kind.job");
-    job(&rt, &mut output, &mut errors, "kind.job");
-    job(&rt, &mut output, &mut errors, "count.job");
-    job(&rt, &mut output, &mut errors, "number.job");
-    job(&rt, &mut output, &mut errors, "unused-point.job");
-    job(&rt, &mut output, &mut errors, "size-of-chain.job");
-    job(&rt, &mut output, &mut errors, "zeros.job");
-    job(&rt, &mut output, &mut errors, "rounding.job");
-    job(&rt, &mut output, &mut errors, "third.job");
-    job(&rt, &mut output, &mut errors, ".");
+    for path in JOBS {
+        job(&rt, &mut output, &mut errors, path);
+    }
     unwritten(&rt, &mut output, &mut errors, "whole.job");
 }

@@ -59,25 +59,36 @@ impl SoughtKey {
         requires { Within 1024 x × Sought self }
         ensures { result ≡ eq_z (key_of self) (Keys.key x) }
     {
-        if x == self.own {
-            return true;
-        }
-        if self.is_near(x) {
-            let k = key(x);
-            let own = key(self.own);
-            return k == own;
-        }
-        false
+        x == self.own || (self.is_near(x) && key(x) == key(self.own))
     }
 }
 
-// Whether the point x, y has the two keys.
-pub fn has_key(kx: SoughtKey, ky: SoughtKey, x: f64, y: f64) -> bool
-    requires { Within 1024 x × Within 1024 y × Sought kx × Sought ky }
-    ensures { result ≡ (eq_z (key_of kx) (Keys.key x) && eq_z (key_of ky) (Keys.key y)) }
-{
-    if kx.is_key_of(x) {
-        return ky.is_key_of(y);
+// A point to look for: a key for each coordinate.
+#[derive(Clone, Copy)]
+pub struct SoughtPoint {
+    pub x: SoughtKey,
+    pub y: SoughtKey,
+    pub ghost sought: { Sought x × Sought y },
+}
+
+impl SoughtPoint {
+    pub fn new(x: f64, y: f64) -> SoughtPoint
+        requires { Within 1024 x × Within 1024 y }
+        ensures { (result.x ≡ sought_key x) × (result.y ≡ sought_key y) }
+    {
+        SoughtPoint {
+            x: SoughtKey::new(x),
+            y: SoughtKey::new(y),
+        }
     }
-    false
+
+    // Whether the point x, y has the two keys.
+    pub fn has_key(self, x: f64, y: f64) -> bool
+        requires { Within 1024 x × Within 1024 y }
+        ensures { result ≡ (eq_z (key_of self.x) (Keys.key x) && eq_z (key_of self.y) (Keys.key y)) }
+    {
+        let a = self.x;
+        let b = self.y;
+        a.is_key_of(x) && b.is_key_of(y)
+    }
 }

@@ -5,45 +5,31 @@
 
 #![tactic(auto)]
 
-ghost use Rattle.std.specs.Prelude.{◌≡◌, ◌++◌, ◌*◌, ◌≤◌, length, take, drop};
-ghost use Rattle.quads.specs.Quads.{cells_to};
+ghost use Rattle.std.specs.Prelude.{◌≡◌, ◌++◌, ◌*◌, ◌≤◌, length, drop};
 ghost use Rattle.quads.specs.Flat.{four, over_cells};
+ghost use Rattle.quads.specs.Round.{cells_of};
 
 use nodes::NodeNumber;
-use quads::Cell;
+use quads::{Cell, Round};
 
 // A cell's four numbers, over the first places of a list.
+// Kept: cells stand in the list as numbers, four each, as C lends it.
 fn put_cell(out: &mut [NodeNumber], c: Cell)
     requires { 4 ≤ length out.old }
     ensures { out.new ≡ four c ++ drop 4 out.old }
 {
-    out[0] = c.a;
-    out[1] = c.b;
-    out[2] = c.c;
-    out[3] = c.d;
+    let four: [NodeNumber; 4] = c.into();
+    out[..4].copy_from_slice(&four);
 }
 
-// The cells of a piece, over the first places of a list: cell k is centre, middle k, corner k + 1, middle k + 1.
-pub fn put_cells(
-    cells: &mut [NodeNumber],
-    centre: NodeNumber,
-    ms: [NodeNumber; 60],
-    vs: [NodeNumber; 60],
-    n: usize,
-)
-    requires { (n ≤ 60) × (n * 4 ≤ length cells.old) × (length ms ≡ 60) × (length vs ≡ 60) }
-    ensures { cells.new ≡ over_cells cells.old (cells_to centre (take n ms) (take n vs) n) }
+// The cells of a piece round its centre, over the first places of a list.
+pub fn put_cells(cells: &mut [NodeNumber], round: &Round<'_>)
+    requires { length round.now.middles.now * 4 ≤ length cells.old }
+    ensures { cells.new ≡ over_cells cells.old (cells_of round.now) }
 {
-    let mut at = 0;
-    for k in 0..n {
-        let e = vector::next(k, n);
-        let c = Cell {
-            a: centre,
-            b: ms[k],
-            c: vs[e],
-            d: ms[e],
-        };
-        put_cell(&mut cells[at..], c);
-        at += 4;
+    // Kept: k is counted, since a chunk's writes are not known after a loop over chunks_exact_mut.
+    for k in 0..round.middles.len() {
+        let at = k * 4;
+        put_cell(&mut cells[at..], round.cell(k));
     }
 }

@@ -16,51 +16,37 @@ ghost use Rattle.call.specs.Lent.{point_in, points_in};
 use vector::{GridPoint, MOST_POINTS, Ring};
 
 // 1: a count that is odd, or out of limits. Of the ring's numbers and the chain's, two a point.
+#[tactic(auto, unfolding(call::specs::Call::counts_out))]
 pub fn counts_out(ring: usize, chain: usize) -> bool
     ensures { result ≡ (not (eqb (ring % 2) 0) || not (eqb (chain % 2) 0) || Call.counts_out (ring / 2) (chain / 2)) }
 {
-    if ring % 2 != 0 {
-        return true;
-    }
-    if chain % 2 != 0 {
-        return true;
-    }
-    if ring / 2 < 3 {
-        return true;
-    }
-    if MOST_POINTS < ring / 2 {
-        return true;
-    }
-    MOST_POINTS < chain / 2
+    ring % 2 != 0
+        || chain % 2 != 0
+        || ring / 2 < 3
+        || MOST_POINTS < ring / 2
+        || MOST_POINTS < chain / 2
 }
 
 fn beyond(z: i32) -> bool
     ensures { result ≡ Call.beyond z }
 {
-    if 8388608 < z {
-        return true;
-    }
-    z < -8388608
+    8388608 < z || z < -8388608
 }
 
+#[tactic(auto, unfolding(call::specs::Call::outside))]
 fn outside(p: GridPoint) -> bool
     ensures { result ≡ Call.outside p }
 {
-    if beyond(p.x) {
-        return true;
-    }
-    beyond(p.y)
+    beyond(p.x) || beyond(p.y)
 }
 
-// Point i of a ring or a chain.
-fn point_at(l: &[i32], i: usize) -> GridPoint
-    requires { i * 2 + 2 ≤ length l.now }
-    ensures { result ≡ point_in l.now i }
+// The point of two numbers.
+fn point(numbers: &[i32; 2]) -> GridPoint
+    ensures { result ≡ point_in numbers.now 0 }
 {
-    let at = i * 2;
     GridPoint {
-        x: l[at],
-        y: l[at + 1],
+        x: numbers[0],
+        y: numbers[1],
     }
 }
 
@@ -68,36 +54,24 @@ fn point_at(l: &[i32], i: usize) -> GridPoint
 pub fn any_outside(l: &[i32]) -> bool
     ensures { result ≡ Call.any_outside (points_in l.now (length l.now / 2)) }
 {
-    for i in 0..l.len() / 2 {
-        if outside(point_at(l, i)) {
-            return true;
-        }
-    }
-    false
+    let (points, _) = l.as_chunks::<2>();
+    points.iter().any(|p| outside(point(p)))
 }
 
 // The sheet size is out of limits.
 pub fn size_out(size: u32) -> bool
     ensures { result ≡ (eqb size 0 || ltb 2048 size) }
 {
-    if size == 0 {
-        return true;
-    }
-    2048 < size
+    size == 0 || 2048 < size
 }
 
 // 2: a coordinate or the sheet size.
+#[tactic(auto, unfolding(call::specs::Call::units_out))]
 pub fn units_out(ring: &[i32], chain: &[i32], size: u32) -> bool
     ensures { result ≡ Call.units_out (points_in ring.now (length ring.now / 2))
         (points_in chain.now (length chain.now / 2)) size }
 {
-    if any_outside(ring) {
-        return true;
-    }
-    if any_outside(chain) {
-        return true;
-    }
-    size_out(size)
+    any_outside(ring) || any_outside(chain) || size_out(size)
 }
 
 // The first n points of a ring or a chain as a value; the places after them hold the origin.
@@ -109,8 +83,9 @@ pub fn points(l: &[i32], n: usize) -> Ring
         points: [GridPoint::ORIGIN; MOST_POINTS],
         count: n,
     };
-    for i in 0..n {
-        out.points[i] = point_at(l, i);
+    let (points, _) = l.as_chunks::<2>();
+    for (i, p) in points[..n].iter().enumerate() {
+        out.points[i] = point(p);
     }
     out
 }

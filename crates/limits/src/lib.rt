@@ -55,54 +55,38 @@ impl Limits {
 }
 
 // A value is between two, ends allowed. A NaN is not.
+#[tactic(auto, using(crate::proofs::Literals::contains_is), unfolding(crate::specs::Sets::between))]
 fn between(low: f64, high: f64, x: f64) -> bool
     ensures { result ≡ Sets.between low high x }
 {
-    if low <= x {
-        return x <= high;
-    }
-    false
+    (low..=high).contains(&x)
 }
 
 // The cosines of a diagonal: each between -1 and 1, and the least not above the greatest.
+#[tactic(auto, using(crate::proofs::Literals::one_is, crate::proofs::Literals::minus_one_is), unfolding(crate::specs::Sets::cosines_out))]
 fn cosines_out(least: f64, greatest: f64) -> bool
     ensures { result ≡ Sets.cosines_out least greatest }
 {
-    if !between(-1.0, 1.0, least) {
-        return true;
-    }
-    if !between(-1.0, 1.0, greatest) {
-        return true;
-    }
-    greatest < least
+    !between(-1.0, 1.0, least) || !between(-1.0, 1.0, greatest) || greatest < least
 }
 
 // 15: the set of limits.
+#[tactic(auto, using(crate::proofs::Literals::zero_is, crate::proofs::Literals::one_is, crate::proofs::Literals::two_is), unfolding(crate::specs::Sets::limits_out))]
 pub fn limits_out(limits: Limits) -> bool
     ensures { result ≡ Sets.limits_out limits }
 {
-    if 32 < limits.cuts {
-        return true;
-    }
-    if !between(1.0, 2.0, limits.corner) {
-        return true;
-    }
-    if cosines_out(limits.least, limits.greatest) {
-        return true;
-    }
-    !between(0.0, 1.0, limits.share)
+    32 < limits.cuts
+        || !between(1.0, 2.0, limits.corner)
+        || cosines_out(limits.least, limits.greatest)
+        || !between(0.0, 1.0, limits.share)
 }
 
 // The set of the practice paper: the one on delivery with 12 cuts.
 pub fn practice() -> Limits
     ensures { result ≡ Sets.practice_set }
 {
-    let delivered = Limits::on_delivery();
     Limits {
         cuts: 12,
-        corner: delivered.corner,
-        least: delivered.least,
-        greatest: delivered.greatest,
-        share: delivered.share,
+        ..Limits::on_delivery()
     }
 }

@@ -1,2 +1,2 @@
--- Laws of a line's words.
-pub mod Tests
+-- Laws of a line.
+pub mod Sheet

@@ -5,224 +5,157 @@
 
 #![tactic(auto)]
 
-ghost use Rattle.std.specs.Prelude.{◌≡◌, true, ◌&&◌, not, ◌^◌, ◌≤◌, ◌<◌, length};
+ghost use Rattle.std.specs.Prelude.{◌≡◌, ◌≤◌, not, length, IfOk};
+ghost use Rattle.std.specs.List.{take_while};
 ghost use Rattle.numeral.specs.Numeral.{Scaled};
-ghost use Rattle.lines.specs.Line as Line;
+ghost use Rattle.lines.specs.Line as Says;
 
 use numeral::Said;
 
-// What a line can say; above these numbers stands what is wrong with it.
-pub const NOTHING: u32 = 0;
-
-pub const RING: u32 = 1;
-
-pub const CHAIN: u32 = 2;
-
-pub const POINT: u32 = 3;
-
-// No line of these; no sheet size; a coordinate beyond 1,024 mm.
-pub const UNKNOWN: u32 = 21;
-
-pub const NO_SIZE: u32 = 22;
-
-pub const BEYOND: u32 = 23;
-
-// A coordinate as it is written: so many units with a sign.
-#[derive(Clone, Copy)]
-pub struct Coordinate {
-    pub minus: bool,
-    pub units: u64,
+// What a line says: nothing, a ring with its sheet size, that the open ring's chain begins, or a point.
+#[derive(Clone, Copy, Debug, PartialEq, Eq)]
+pub enum Line {
+    Nothing,
+    Ring { size: u32 },
+    Chain,
+    Point { x: i32, y: i32 },
 }
 
-// What was heard of a line: one of the numbers above, a ring's sheet size, a point's coordinates.
-#[derive(Clone, Copy)]
-pub struct Heard {
-    pub kind: u32,
-    pub size: u32,
-    pub x: Coordinate,
-    pub y: Coordinate,
+// What is wrong with it, by its number: no line of these; no sheet size; a coordinate beyond 1,024 mm.
+#[derive(Clone, Copy, Debug, PartialEq, Eq)]
+pub enum Fault {
+    Unknown = 21,
+    NoSize = 22,
+    Beyond = 23,
 }
 
-impl Heard {
-    // A line that has no numbers.
-    fn plain(kind: u32, size: u32) -> Heard
-        ensures { result ≡ Line.plain kind size }
+impl Fault {
+    pub fn number(self) -> u32
+        ensures { result ≡ Says.number_of self }
     {
-        let none = Coordinate {
-            minus: false,
-            units: 0,
-        };
-        Heard {
-            kind,
-            size,
-            x: none,
-            y: none,
-        }
+        self as u32
     }
 }
 
 fn blank(b: u8) -> bool
-    ensures { result ≡ Line.blank b }
+    ensures { result ≡ Says.blank b }
 {
-    if b == 32 {
-        return true;
-    }
-    if b == 9 {
-        return true;
-    }
-    b == 13
+    matches!(b, b' ' | b'\t' | b'\r')
+}
+
+// How many bytes at the front are blank.
+fn blanks(bytes: &[u8]) -> usize
+    ensures { result ≡ length (take_while Says.blank bytes.now) }
+{
+    bytes.iter().take_while(|b| blank(**b)).count()
+}
+
+// How many are not. Kept: a flag or a closure that made the two one would be longer than this line.
+fn letters(bytes: &[u8]) -> usize
+    ensures { result ≡ length (take_while (λ b. not (Says.blank b)) bytes.now) }
+{
+    bytes.iter().take_while(|b| !blank(**b)).count()
 }
 
 // The first place from `at` on that is not blank.
 fn start_of(line: &[u8], at: usize) -> usize
     requires { at ≤ length line.now }
-    ensures { (result ≡ Line.start line.now at) × (result ≤ length line.now) × (at ≤ result) }
+    ensures place { result ≡ Says.start line.now at }
+    ensures within { result ≤ length line.now }
+    ensures from { at ≤ result }
 {
-    let mut i = at;
-    while i < line.len() {
-        if !blank(line[i]) {
-            return i;
-        }
-        i += 1;
-    }
-    i
+    at + blanks(&line[at..])
 }
 
 // The first place from `at` on that is blank.
 fn end_of(line: &[u8], at: usize) -> usize
     requires { at ≤ length line.now }
-    ensures { (result ≡ Line.end line.now at) × (result ≤ length line.now) × (at ≤ result) }
+    ensures place { result ≡ Says.end line.now at }
+    ensures within { result ≤ length line.now }
+    ensures from { at ≤ result }
 {
-    let mut i = at;
-    while i < line.len() {
-        if blank(line[i]) {
-            return i;
-        }
-        i += 1;
-    }
-    i
+    at + letters(&line[at..])
 }
 
-fn same(word: &[u8], form: &[u8]) -> bool
-    ensures { result ≡ Line.same word.now form.now }
-{
-    if word.len() != form.len() {
-        return false;
-    }
-    for k in 0..word.len() {
-        if word[k] != form[k] {
-            return false;
-        }
-    }
-    true
-}
-
+// A whole number from 1 to 2,048.
 fn size_good(n: Said) -> bool
-    ensures { result ≡ Line.size_good n }
+    ensures { result ≡ Says.size_good n }
 {
-    if !n.number {
-        return false;
-    }
-    if n.minus {
-        return false;
-    }
-    if 1 < n.scale {
-        return false;
-    }
-    if n.value == 0 {
-        return false;
-    }
-    n.value <= 2048
+    !n.minus && n.scale <= 1 && n.value != 0 && n.value <= 2048
 }
 
-fn hear_size(n: Said) -> Heard
-    ensures { result ≡ Line.ring_line n }
+fn hear_size(word: &[u8]) -> Result<Line, Fault>
+    ensures { result ≡ Says.ring_line word.now }
 {
+    let n = numeral::read(word).ok_or(Fault::NoSize)?;
     if size_good(n) {
-        return Heard::plain(RING, n.value as u32);
-    }
-    Heard::plain(NO_SIZE, 0)
-}
-
-fn hear_chain(more: usize) -> Heard
-    ensures { result ≡ Line.chain_line more }
-{
-    if more == 0 {
-        return Heard::plain(CHAIN, 0);
-    }
-    Heard::plain(UNKNOWN, 0)
-}
-
-// The point of two counts of units.
-fn point_of(xm: bool, xn: u64, ym: bool, yn: u64) -> Heard
-    ensures { (result ≡ Line.point_of xm xn ym yn) × Line.HeardOnSheet result }
-{
-    if 8388608 < xn {
-        return Heard::plain(BEYOND, 0);
-    }
-    if 8388608 < yn {
-        return Heard::plain(BEYOND, 0);
-    }
-    let x = Coordinate {
-        minus: xm,
-        units: xn,
-    };
-    let y = Coordinate {
-        minus: ym,
-        units: yn,
-    };
-    Heard {
-        kind: POINT,
-        size: 0,
-        x,
-        y,
+        Ok(Line::Ring {
+            size: n.value as u32,
+        })
+    } else {
+        Err(Fault::NoSize)
     }
 }
 
-fn hear_point(x: Said, y: Said) -> Heard
-    requires { Scaled x × Scaled y }
-    ensures { (result ≡ Line.point_line x y) × Line.HeardOnSheet result }
+fn hear_chain(more: &[u8]) -> Result<Line, Fault>
+    ensures { result ≡ Says.chain_line more.now }
 {
-    if !x.number {
-        return Heard::plain(UNKNOWN, 0);
+    if more.is_empty() {
+        Ok(Line::Chain)
+    } else {
+        Err(Fault::Unknown)
     }
-    if !y.number {
-        return Heard::plain(UNKNOWN, 0);
-    }
-    let xn = numeral::units(x.value, x.scale);
-    let yn = numeral::units(y.value, y.scale);
-    point_of(x.minus, xn, y.minus, yn)
+}
+
+fn coordinate(n: Said) -> Result<i32, Fault>
+    requires { Scaled n }
+    ensures said { result ≡ Says.coordinate n }
+    ensures on_sheet { IfOk result Says.OnSheet }
+{
+    let units = numeral::units(n.value, n.scale).ok_or(Fault::Beyond)?;
+    Ok(numeral::signed(n.minus, units))
+}
+
+fn hear_point(first: &[u8], second: &[u8]) -> Result<Line, Fault>
+    ensures said { result ≡ Says.point_line first.now second.now }
+    ensures on_sheet { IfOk result Says.HeardOnSheet }
+{
+    let x = numeral::read(first).ok_or(Fault::Unknown)?;
+    let y = numeral::read(second).ok_or(Fault::Unknown)?;
+    let x = coordinate(x)?;
+    let y = coordinate(y)?;
+    Ok(Line::Point { x, y })
 }
 
 // A line of one word, or of two.
-fn hear_words(first: &[u8], second: &[u8]) -> Heard
-    ensures { (result ≡ Line.words first.now second.now) × Line.HeardOnSheet result }
+fn hear_words(first: &[u8], second: &[u8]) -> Result<Line, Fault>
+    ensures said { result ≡ Says.words first.now second.now }
+    ensures on_sheet { IfOk result Says.HeardOnSheet }
 {
-    if same(first, b"ring") {
-        return hear_size(numeral::read(second));
+    if first == b"ring".as_slice() {
+        return hear_size(second);
     }
-    if same(first, b"chain") {
-        return hear_chain(second.len());
+    if first == b"chain".as_slice() {
+        return hear_chain(second);
     }
-    let x = numeral::read(first);
-    let y = numeral::read(second);
-    hear_point(x, y)
+    hear_point(first, second)
 }
 
 // What the line says.
-pub fn hear(line: &[u8]) -> Heard
-    ensures { (result ≡ Line.heard line.now) × Line.HeardOnSheet result }
+pub fn hear(line: &[u8]) -> Result<Line, Fault>
+    ensures said { result ≡ Says.heard line.now }
+    ensures on_sheet { IfOk result Says.HeardOnSheet }
 {
     let a = start_of(line, 0);
     if a == line.len() {
-        return Heard::plain(NOTHING, 0);
+        return Ok(Line::Nothing);
     }
     let b = end_of(line, a);
     let c = start_of(line, b);
     let d = end_of(line, c);
     let e = start_of(line, d);
     if e < line.len() {
-        return Heard::plain(UNKNOWN, 0);
+        return Err(Fault::Unknown);
     }
     hear_words(&line[a..b], &line[c..d])
 }

@@ -20,7 +20,7 @@ use Rattle.decimals.specs.Nearest.{NearestShown}
 use Rattle.decimals.specs.Shown.{decimals, shown}
 use Rattle.decimals.proofs.Value.{shown-le}
 use Rattle.decimals.proofs.NearestDecimal.{shown-nearest}
-use Rattle.decimals.proofs.Texts.{sign, point, decimals-is, shown-most}
+use Rattle.decimals.proofs.Texts.{sign, decimals-is, shown-most}
 use Rattle.listing.specs.Read.{is_digit_of, read_from, RightAligned}
 use Rattle.listing.specs.Sheet.{right, line, lines, answer, left, nodes_out}
 use Rattle.listing.specs.Claim.{ShownAs, LineOf, SheetIs}

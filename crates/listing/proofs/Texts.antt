@@ -2,6 +2,7 @@
 use Prim.Native.Nat.{ℕ, zero, suc, ◌+◌, ◌-◌, ◌*◌, ◌/◌, ◌%◌, ◌^◌, ◌≤◌, ◌<◌}
 use mathlib.Core.Path.{◌≡◌, refl, sym, ap, ◌∙◌}
 use mathlib.Core.List.{List, [], ◌∷◌, ◌++◌}
+use native.Mathlib.Nat.{pow-succ'}
 use native.Mathlib.Numerals.{add-one}
 use native.Mathlib.Omega.{arith}
 use lib.ListN.{length, get_or, replicate, length-append, length-replicate, replicate-append-replicate}
@@ -18,6 +19,17 @@ one-long n h = sym (ap length (one-digit n (48 + n) h refl))
 
 pub tenth_long : (n : ℕ) → 10 ≤ n → n < 2 ^ 64 → length (decimal n) ≡ length (decimal (n / 10)) + 1
 tenth_long n h k = sym (ap length (more-digits n (48 + n % 10) h k refl)) ∙ length-append (decimal (n / 10)) ((48 + n % 10) ∷ [])
+
+some : (k : ℕ) → 0 < 10 ^ k
+some zero = omega arith
+some (suc k) = let e = pow-succ' 10 k in omega (arith, some k)
+
+-- between two powers of ten
+pub long-between : (k n : ℕ) → 10 ^ k ≤ n → n < 10 * 10 ^ k → n < 2 ^ 64 → k + 1 ≡ length (decimal n)
+long-between zero n h l f = sym (one-long n (omega arith))
+long-between (suc k) n h l f =
+    let e = pow-succ' 10 k in
+    omega (arith, tenth_long n (omega (arith, some k)) f, long-between k (n / 10) (omega arith) (omega arith) (omega arith))
 
 -- ---- spaces
 abbrev pub spaces : ℕ → List ℕ

@@ -9,87 +9,92 @@ ghost use Rattle.std.specs.Float.{nan};
 ghost use Rattle.laws.specs.Within.{Within};
 ghost use Rattle.nodes.specs.Flat.{Usable};
 ghost use Rattle.text.specs.Text.{decimal, Written};
+ghost use Rattle.text.specs.Page.{Room, Wrote};
 ghost use Rattle.decimals.specs.Shown as Shown;
 ghost use Rattle.listing.specs.Sheet as Sheet;
 
+use decimals::Decimal;
 use nodes::MOST_PLACES;
+use text::Page;
 
 // How many digits n has.
 fn width(n: u64) -> usize
     ensures { (result ≡ length (decimal n)) × (result ≤ 20) }
 {
-    let mut m = n;
-    let mut w: usize = 1;
-    while 10 <= m {
-        m = m / 10;
-        w += 1;
+    match n.checked_ilog10() {
+        Some(k) => k as usize + 1,
+        None => 1,
     }
-    w
 }
 
-fn put_spaces(out: &mut [u8], at: usize, n: usize) -> usize
-    requires { at + n ≤ length out.old }
-    ensures { Written out.old at (replicate n 32) result out.new }
+fn put_spaces(page: &mut Page, n: usize)
+    requires { Room page.old (replicate n 32) }
+    ensures { Wrote page.old (replicate n 32) page.new }
 {
-    let mut next = at;
-    for i in 0..n {
-        next = text::put_byte(out, next, b' ');
+    for _ in 0..n {
+        page.byte(b' ');
     }
-    next
 }
 
 // A node's number, in 8 columns.
-fn put_number(out: &mut [u8], at: usize, i: u64) -> usize
-    requires { (i < 1000000) × (at + 8 ≤ length out.old) }
-    ensures { Written out.old at (Sheet.right 8 (decimal i)) result out.new }
+fn put_number(page: &mut Page, i: u64)
+    requires { (i < 1000000) × Room page.old (Sheet.right 8 (decimal i)) }
+    ensures { Wrote page.old (Sheet.right 8 (decimal i)) page.new }
 {
-    let start = put_spaces(out, at, 8 - width(i));
-    text::put_decimal(out, start, i)
+    put_spaces(page, 8 - width(i));
+    page.decimal(i);
 }
 
-// How many columns that takes.
-fn columns(m: bool, n: u64) -> usize
-    ensures { (result ≡ length (Shown.decimals m n)) × (result ≤ 26) }
+// How many columns a decimal takes: the point and its four digits, and the minus.
+fn columns(d: Decimal) -> usize
+    ensures { (result ≡ length (Shown.decimals d.minus d.parts)) × (result ≤ 26) }
 {
-    let w = width(n / 10000);
-    if m {
-        return w + 6;
-    }
-    w + 5
+    width(d.parts / 10000) + 5 + usize::from(d.minus)
 }
 
 // A coordinate, in 28 columns.
-fn put_coordinate(out: &mut [u8], at: usize, x: f64) -> usize
-    requires { Within 1024 x × (at + 28 ≤ length out.old) }
-    ensures { Written out.old at (Sheet.right 28 (Shown.shown x)) result out.new }
+fn put_coordinate(page: &mut Page, x: f64)
+    requires { Within 1024 x × Room page.old (Sheet.right 28 (Shown.shown x)) }
+    ensures { Wrote page.old (Sheet.right 28 (Shown.shown x)) page.new }
 {
-    let n = decimals::ten_thousandths(x);
-    let m = decimals::minus(x, n);
-    let start = put_spaces(out, at, 28 - columns(m, n));
-    decimals::put_decimals(out, start, m, n)
+    let d = Decimal::of(x);
+    put_spaces(page, 28 - columns(d));
+    d.put(page);
 }
 
-// The line of node i.
+// The line of node i on a page.
+fn line(page: &mut Page, nodes: &[f64], i: usize)
+    requires { (i < 1000000) × (i * 2 + 1 < length nodes.now)
+        × Within 1024 (get_or nodes.now (i * 2) nan) × Within 1024 (get_or nodes.now (i * 2 + 1) nan) × Room page.old (Sheet.line nodes.now i) }
+    ensures { Wrote page.old (Sheet.line nodes.now i) page.new }
+{
+    put_number(page, i as u64);
+    put_coordinate(page, nodes[i * 2]);
+    put_coordinate(page, nodes[i * 2 + 1]);
+    page.byte(b'\n');
+}
+
+// The line of node i, from the place `at` on; answers the place after it.
 pub fn put_line(out: &mut [u8], at: usize, nodes: &[f64], i: usize) -> usize
     requires { (i < 1000000) × (i * 2 + 1 < length nodes.now)
         × Within 1024 (get_or nodes.now (i * 2) nan) × Within 1024 (get_or nodes.now (i * 2 + 1) nan) × (at + 65 ≤ length out.old) }
     ensures { Written out.old at (Sheet.line nodes.now i) result out.new }
 {
-    let x = put_number(out, at, i as u64);
-    let y = put_coordinate(out, x, nodes[i * 2]);
-    let end = put_coordinate(out, y, nodes[i * 2 + 1]);
-    text::put_byte(out, end, b'\n')
+    let mut page = Page { out, at };
+    line(&mut page, nodes, i);
+    page.at
 }
 
 fn put_lines(out: &mut [u8], nodes: &[f64], count: usize) -> usize
     requires { Usable nodes.now count × (count * 65 ≤ length out.old) }
     ensures { Written out.old 0 (Sheet.lines nodes.now count) result out.new }
 {
-    let mut next: usize = 0;
+    let mut page = Page { out, at: 0 };
+    // Kept: the count is of nodes, whose numbers stand in their lines; chunks of two coordinates would need it beside them.
     for i in 0..count {
-        next = put_line(out, next, nodes, i);
+        line(&mut page, nodes, i);
     }
-    next
+    page.at
 }
 
 // 3: the used count, the number of places, or a used node.
@@ -97,10 +102,7 @@ pub fn nodes_out(nodes: &[f64], count: usize) -> bool
     ensures { result ≡ Sheet.nodes_out nodes.now count }
 {
     let places = nodes.len() / 2;
-    if places < count {
-        return true;
-    }
-    if MOST_PLACES < places {
+    if places < count || MOST_PLACES < places {
         return true;
     }
     !nodes::all_held(nodes, count * 2)

@@ -12,13 +12,13 @@ use nodes::NodeNumber;
 use table::Row;
 
 // The number that a ring gets on an empty node list. The lists have the full reserve of 12 points, and each trial gets new ones.
+// Kept: the number itself, 0 for a ring that is divided, as the search compares and returns it.
 pub fn number(ring: &[i32], chain: &[i32], size: u32) -> u64
     ensures { result ≡ number_of ring.now chain.now size }
 {
     let mut nodes = [0.0f64; 110];
     let mut rims = [0u8; 55];
     let mut cells: [NodeNumber; 120] = [0; 120];
-    let a = divider::divide(ring, chain, size, &mut nodes, 0, &mut rims, &mut cells, 0);
-    let v = Row::new(a);
-    v.code
+    let answer = divider::divide(ring, chain, size, &mut nodes, 0, &mut rims, &mut cells, 0);
+    Row::from(answer).code
 }

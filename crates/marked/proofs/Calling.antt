@@ -1,8 +1,8 @@
 -- The call with given marks by the outcome of its tests: refused, or what the core does; and the promise from what was left. As a call of a list of calls it
 -- leaves what demand's specs/LentCalls says (`as_called`).
-use Prim.Native.Nat.{ℕ, ◌/◌, ◌≤◌}
+use Prim.Native.Nat.{ℕ, ◌/◌}
 use native.Mathlib.Omega.{arith}
-use mathlib.Core.Path.{◌≡◌, refl, sym, ap, ◌∙◌, subst}
+use mathlib.Core.Path.{◌≡◌, sym, ap, ◌∙◌, subst}
 use mathlib.Core.List.{List}
 use lib.ListN.{length}
 use lib.Ieee.{Float}
@@ -18,7 +18,7 @@ use Rattle.call.specs.Call.{Lists}
 use Rattle.call.specs.Divide.{CallAnswer, core}
 use Rattle.call.specs.Demand.{Prepared}
 use Rattle.call.specs.Lent.{point_in}
-use Rattle.call.specs.Marked.{Marking, all_points, marks_out, LentMarked, marked_lists, marked_start, marked_tests, divide_marked}
+use Rattle.call.specs.Marked.{all_points, marks_out, LentMarked, marked_lists, marked_start, marked_tests, divide_marked}
 use Rattle.call.specs.LentCalls.{GivenMarked, marked, Pool, lend_marked, answer_of, leaves}
 use Rattle.call.proofs.Course as Course
 use Rattle.call.proofs.Marked.{MarkedPassed, marked_passed, marked-prepared, demand3_marked}

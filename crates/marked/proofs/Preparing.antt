@@ -1,13 +1,12 @@
 -- The ring that the call prepares: what the code holds after cleaning is the cleaned ring of the definition, with the marks that survive.
-use Prim.Native.Nat.{ℕ, ◌+◌, ◌-◌, ◌/◌, ◌≤◌}
+use Prim.Native.Nat.{ℕ, ◌/◌}
 use native.Mathlib.Omega.{arith}
 use mathlib.Core.Path.{◌≡◌, sym, ap, ◌∙◌, subst}
-use mathlib.Core.List.{List, ◌++◌}
+use mathlib.Core.List.{List}
 use lib.IntN.{ℤ}
-use lib.ListN.{length, take, drop, replicate, length-append, length-drop, length-replicate}
+use lib.ListN.{length, length-append, length-drop, length-replicate}
 use lib.Seq.{length-take-le}
 use Rattle.laws.specs.Table.{tab}
-use Rattle.laws.proofs.Table.{length_tab}
 use Rattle.vector.specs.declared.GridPoint.{GridPoint}
 use Rattle.vector.specs.declared.Ring.{Ring}
 use Rattle.vector.specs.Rings.{points_of, OnSheetRing}
@@ -20,7 +19,7 @@ use Rattle.survivors.specs.Survivors.{surviving}
 use Rattle.clean.proofs.Places.{pick-length, kept_image, kept-rising}
 use Rattle.marks.specs.declared.Edge.{Edge}
 use Rattle.marks.specs.declared.EdgeMark.TheVariants.{Straight}
-use Rattle.marks.specs.Edges.{marks_in, part_in}
+use Rattle.marks.specs.Edges.{marks_in}
 use Rattle.call.specs.Marked.{Marking, all_points, given_mark, marked_by}
 use Rattle.call.proofs.Marked.{marks_in_lem}
 use Rattle.given.specs.Steps.{places_in, MarksOf, Survive}

@@ -9,6 +9,11 @@ use Rattle.call.specs.Call.{counts_out, units_out}
 use Rattle.call.specs.Lent.{odd}
 use Rattle.call.specs.Marked.{Marking, all_points, marked_by, marks_out, outline_out}
 use Rattle.divider.specs.Steps.{OnPaper}
+use Rattle.marked.specs.declared.Marking as declared
+
+-- the marks that a caller's slices hold
+abbrev pub lent_in : declared.Marking → Marking
+lent_in m = record { kinds = m.kinds.now; snaps = m.snaps.now; outline = m.outline.now; loops = m.loops.now }
 
 -- the first refusal of the tests before those of the lists, or 0: 1, 2, 13, 14 and 15
 unfoldable pub early_refusal : Limits → List ℤ → Marking → ℕ → ℕ

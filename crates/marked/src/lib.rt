@@ -11,105 +11,97 @@ ghost use Rattle.limits.specs.Limits.{delivered};
 ghost use Rattle.table.specs.Answers as Answers;
 ghost use Rattle.call.specs.Call as Call;
 ghost use Rattle.call.specs.Marked.{all_points};
+ghost use Rattle.divider.specs.Steps.{returned};
 ghost use Rattle.marked.specs.Promise.{MarkedPromise};
-ghost use Rattle.marked.specs.Steps.{early_refusal, Tested, Prepares};
+ghost use Rattle.marked.specs.Steps.{lent_in, early_refusal, Tested, Prepares};
 
 use limits::Limits;
 use marks::MarkedRing;
-use nodes::{MOST_NEARBY, NodeNumber};
-use table::Answer;
+use nodes::{Collected, MOST_NEARBY, NodeNumber};
+use table::{Answer, Refusal};
+
+// The marks of a ring's edges as a caller lends them: the kind of each, 0 straight, 1 snapped to its given point, 2 snapped
+// to the outline; the points, in mm; and the outline with the number of points of each of its loops.
+#[derive(Clone, Copy)]
+pub struct Marking<'a> {
+    pub kinds: &'a [u8],
+    pub snaps: &'a [f64],
+    pub outline: &'a [i32],
+    pub loops: &'a [u32],
+}
 
 // 2 of a ring with no chain: a coordinate or the sheet size.
+#[tactic(auto, unfolding(call::specs::Call::units_out, call::specs::Call::any_outside, laws::specs::Bounded::any))]
 fn units_out(ring: &[i32], size: u32) -> bool
     ensures { result ≡ Call.units_out (all_points ring.now) [] size }
 {
-    if lent_points::any_outside(ring) {
-        return true;
-    }
-    lent_points::size_out(size)
+    lent_points::any_outside(ring) || lent_points::size_out(size)
 }
 
-// The first refusal of what is not a list, or 0: 1 and 2 of the ring, 13 and 14 of its marks, 15 of the set.
+// The first refusal of what is not a list: 1 and 2 of the ring, 13 and 14 of its marks, 15 of the set.
 fn early_refusal(
     limits: Limits,
     ring: &[i32],
-    kinds: &[u8],
-    snaps: &[f64],
-    outline: &[i32],
-    loops: &[u32],
+    marking: Marking<'_>,
     size: u32,
-) -> u32
-    ensures { result ≡ early_refusal limits ring.now (record {
-      kinds = kinds.now;
-      snaps = snaps.now;
-      outline = outline.now;
-      loops = loops.now;
-    }) size }
+) -> Result<(), Refusal>
+    ensures { Answers.code_of result ≡ early_refusal limits ring.now (lent_in marking.entry) size }
 {
     if lent_points::counts_out(ring.len(), 0) {
-        return 1;
+        return Err(Refusal::Counts);
     }
     if units_out(ring, size) {
-        return 2;
+        return Err(Refusal::Units);
     }
-    if given_tests::marks_out(ring.len() / 2, kinds, snaps) {
-        return 13;
+    if given_tests::marks_out(ring.len() / 2, marking.kinds, marking.snaps) {
+        return Err(Refusal::Marks);
     }
-    if given_tests::outline_out(kinds, outline, loops) {
-        return 14;
+    if given_tests::outline_out(marking.kinds, marking.outline, marking.loops) {
+        return Err(Refusal::Outline);
     }
     if limits::limits_out(limits) {
-        return 15;
+        return Err(Refusal::Limits);
     }
-    0
+    Ok(())
 }
 
 // The ring of a call, cleaned, with the marks that survive.
-fn marked_ring(
-    ring: &[i32],
-    kinds: &[u8],
-    snaps: &[f64],
-    outline: &[i32],
-    loops: &[u32],
-    size: u32,
-) -> MarkedRing
-    requires { Tested ring.now (record { kinds = kinds.now; snaps = snaps.now; outline = outline.now; loops = loops.now }) }
-    ensures { Prepares ring.now (record {
-      kinds = kinds.now;
-      snaps = snaps.now;
-      outline = outline.now;
-      loops = loops.now;
-    }) size result }
+fn marked_ring(ring: &[i32], marking: Marking<'_>, size: u32) -> MarkedRing
+    requires { Tested ring.now (lent_in marking) }
+    ensures { Prepares ring.now (lent_in marking.entry) size result }
 {
     let n = ring.len() / 2;
     let own = lent_points::points(ring, n);
-    let clean = clean::clean_polygon(own, size);
-    let cleaned = clean.ring;
-    let edges = given::surviving_marks(own, clean, kinds, snaps, outline, loops);
+    let clean = clean::clean_polygon(&own, size);
+    let edges = given::surviving_marks(
+        &own,
+        &clean,
+        marking.kinds,
+        marking.snaps,
+        marking.outline,
+        marking.loops,
+    );
     MarkedRing {
-        ring: cleaned,
-        edges: edges,
+        ring: clean.ring,
+        edges,
     }
 }
 
-// The divider call with given marks and the caller's set of limits, over the lists that the caller lends.
-pub fn divide_marked_set(
+// The steps of the call: its tests, the ring that is prepared, and the core. The first that refuses ends them.
+fn divide_steps(
     limits: Limits,
     ring: &[i32],
-    kinds: &[u8],
-    snaps: &[f64],
-    outline: &[i32],
-    loops: &[u32],
+    marking: Marking<'_>,
     size: u32,
     nodes: &mut [f64],
     node_count: usize,
     rims: &mut [u8],
     cells: &mut [NodeNumber],
     cell_count: usize,
-) -> Answer
+) -> Result<Answer, Refusal>
     ensures { MarkedPromise limits (record {
       ring = ring.now;
-      marking = record { kinds = kinds.now; snaps = snaps.now; outline = outline.now; loops = loops.now };
+      marking = lent_in marking.entry;
       size = size;
       nodes = nodes.old;
       node_count_of = node_count;
@@ -117,17 +109,14 @@ pub fn divide_marked_set(
       cells = cells.old;
       cell_count_of = cell_count;
     })
-        (Answers.values result) nodes.new rims.new cells.new }
+        (returned result node_count cell_count) nodes.new rims.new cells.new }
 {
-    let code = early_refusal(limits, ring, kinds, snaps, outline, loops, size);
-    if code != 0 {
-        return divider::refused(code, node_count, cell_count);
-    }
+    early_refusal(limits, ring, marking, size)?;
     let own = ring.len() / 2;
     let w = extent::window_with_marks(ring, limits.share);
     let mut numbers = [0; MOST_NEARBY];
     let mut xs = [0.0; MOST_NEARBY];
-    let test = entry::lists_refusal(
+    let near = entry::lists_refusal(
         limits,
         own,
         nodes,
@@ -138,24 +127,52 @@ pub fn divide_marked_set(
         w,
         &mut numbers,
         &mut xs,
-    );
-    if test.code != 0 {
-        return divider::refused(test.code, node_count, cell_count);
-    }
-    let near = test.near;
-    let marked = marked_ring(ring, kinds, snaps, outline, loops, size);
+    )?;
+    let marked = marked_ring(ring, marking, size);
+    let found = Collected {
+        near,
+        numbers: &numbers,
+        xs: &xs,
+    };
     divider::divide_core(
-        limits, marked, own, nodes, node_count, rims, cells, cell_count, near, &numbers, &xs,
+        limits, &marked, own, nodes, node_count, rims, cells, cell_count, found,
     )
+}
+
+// The divider call with given marks and the caller's set of limits, over the lists that the caller lends.
+pub fn divide_marked_set(
+    limits: Limits,
+    ring: &[i32],
+    marking: Marking<'_>,
+    size: u32,
+    nodes: &mut [f64],
+    node_count: usize,
+    rims: &mut [u8],
+    cells: &mut [NodeNumber],
+    cell_count: usize,
+) -> Answer
+    ensures { MarkedPromise limits (record {
+      ring = ring.now;
+      marking = lent_in marking.entry;
+      size = size;
+      nodes = nodes.old;
+      node_count_of = node_count;
+      rims = rims.old;
+      cells = cells.old;
+      cell_count_of = cell_count;
+    })
+        (Answers.values result) nodes.new rims.new cells.new }
+{
+    let step = divide_steps(
+        limits, ring, marking, size, nodes, node_count, rims, cells, cell_count,
+    );
+    divider::answer_of(step, node_count, cell_count)
 }
 
 // The same with the set on delivery.
 pub fn divide_marked(
     ring: &[i32],
-    kinds: &[u8],
-    snaps: &[f64],
-    outline: &[i32],
-    loops: &[u32],
+    marking: Marking<'_>,
     size: u32,
     nodes: &mut [f64],
     node_count: usize,
@@ -165,7 +182,7 @@ pub fn divide_marked(
 ) -> Answer
     ensures { MarkedPromise delivered (record {
       ring = ring.now;
-      marking = record { kinds = kinds.now; snaps = snaps.now; outline = outline.now; loops = loops.now };
+      marking = lent_in marking.entry;
       size = size;
       nodes = nodes.old;
       node_count_of = node_count;
@@ -177,7 +194,6 @@ pub fn divide_marked(
 {
     let limits = Limits::on_delivery();
     divide_marked_set(
-        limits, ring, kinds, snaps, outline, loops, size, nodes, node_count, rims, cells,
-        cell_count,
+        limits, ring, marking, size, nodes, node_count, rims, cells, cell_count,
     )
 }

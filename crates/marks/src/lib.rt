@@ -5,12 +5,10 @@
 
 #![tactic(auto)]
 
-ghost use Rattle.std.specs.Prelude.{◌≡◌, ◌&&◌, List, [], ◌∷◌, ◌≤◌};
-ghost use Rattle.laws.specs.Bounded.{first};
+ghost use Rattle.std.specs.Prelude.{◌≡◌, [], ◌∷◌, ◌≤◌, length};
 ghost use Rattle.vector.specs.declared.Point.{Point};
-ghost use Rattle.vector.specs.Grid.{same};
-ghost use Rattle.vector.specs.Rings.{points_of, OnSheetRing};
-ghost use Rattle.chain.specs.Kept.{stretch_in, stretches_in};
+ghost use Rattle.vector.specs.Rings.{OnSheetPoints};
+ghost use Rattle.chain.specs.Kept.{stretches_in};
 ghost use Rattle.marks.specs.Part.{mark_count};
 ghost use Rattle.marks.specs.Marks as Marks;
 ghost use Rattle.marks.specs.Edges.{Marked, part_in, ValidMarkedRing};
@@ -26,53 +24,43 @@ pub enum EdgeMark {
 }
 
 // A mark as an array holds it.
+// Kept: the wrapper, by which specs/ and the crates above read the marks of an array.
 #[derive(Clone, Copy)]
 pub struct Edge {
     pub mark: EdgeMark,
 }
 
+impl Edge {
+    pub const STRAIGHT: Edge = Edge {
+        mark: EdgeMark::Straight,
+    };
+}
+
 // A ring with the marks of its edges, one for each point: what is split and laid out, wherever the marks came from.
+// Kept: the marks stand beside the points, since most steps read the points alone.
 #[derive(Clone, Copy)]
 pub struct MarkedRing {
     pub ring: Ring,
     pub edges: [Edge; MOST_POINTS],
 }
 
-// The stretch from p to q runs from a to b.
-fn runs(p: GridPoint, q: GridPoint, a: GridPoint, b: GridPoint) -> bool
-    ensures { result ≡ (same p a && same q b) }
-{
-    if p.same(a) {
-        return q.same(b);
-    }
-    false
-}
-
-// It joins them, in either sense.
+// The stretch from p to q joins a and b, in either sense.
 fn joins(p: GridPoint, q: GridPoint, a: GridPoint, b: GridPoint) -> bool
     ensures { (s : Point) → result ≡ Marks.joins a b (record { from = p; to = q; snap = s }) }
 {
-    if runs(p, q, a, b) {
-        return true;
-    }
-    runs(p, q, b, a)
+    p == a && q == b || p == b && q == a
 }
 
 // The marks of the ring along the simplified chain. The search for an edge ends at the first stretch that joins its ends.
-pub fn mark_edges(ring: Ring, chain: Simplified) -> [Edge; MOST_POINTS]
-    requires { OnSheetRing ring × (chain.count ≤ 59) }
-    ensures { Marked (stretches_in chain) (points_of ring) ring.count result }
+pub fn mark_edges(ring: &[GridPoint], chain: &Simplified) -> [Edge; MOST_POINTS]
+    requires { OnSheetPoints ring.now × (chain.now.count ≤ 59) }
+    ensures { Marked (stretches_in chain.now) ring.now (length ring.now) result }
 {
-    let n = ring.count;
-    let straight = Edge {
-        mark: EdgeMark::Straight,
-    };
-    let mut edges = [straight; MOST_POINTS];
-    let count = chain.count;
-    for i in 0..n {
-        let a = ring.points[i];
-        let b = ring.points[vector::next(i, n)];
-        'search: for j in 0..count {
+    let mut edges = [Edge::STRAIGHT; MOST_POINTS];
+    for (i, &a) in ring.iter().enumerate() {
+        let b = ring[vector::next(i, ring.len())];
+        // Kept: nested loops left by a label, one of the forms that are named for edges set beside stretches.
+        'search: for j in 0..chain.count {
             if joins(chain.points[j], chain.points[j + 1], a, b) {
                 edges[i] = Edge {
                     mark: EdgeMark::Snap(chain.snaps[j]),
@@ -94,16 +82,13 @@ fn weight(m: EdgeMark) -> usize
 }
 
 // How many of the ring's edges are marked.
-pub fn mark_count(ring: MarkedRing) -> usize
-    requires { ValidMarkedRing ring }
-    ensures { (result ≡ mark_count (part_in ring).edges) × (result ≤ ring.ring.count) }
+pub fn mark_count(ring: &MarkedRing) -> usize
+    requires { ValidMarkedRing ring.now }
+    ensures { (result ≡ mark_count (part_in ring.now).edges) × (result ≤ ring.now.ring.count) }
 {
-    let n = ring.ring.count;
     let mut total = 0;
-    for i in 0..n {
-        let e = ring.edges[i];
-        let mark = e.mark;
-        total += weight(mark);
+    for e in &ring.edges[..ring.ring.count] {
+        total += weight(e.mark);
     }
     total
 }

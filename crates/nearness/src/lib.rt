@@ -14,6 +14,7 @@ ghost use Rattle.nearness.specs.Nearness as Nearness;
 use vector::{GridPoint, Point};
 
 // Whether a and b are within tolerance.
+#[tactic(auto, unfolding(crate::specs::Nearness::near))]
 pub fn near(a: GridPoint, b: GridPoint, tol: f64) -> bool
     requires { OnSheet a × OnSheet b }
     ensures { result ≡ Nearness.near tol a b }
@@ -27,7 +28,7 @@ fn near_segment(p: GridPoint, a: GridPoint, b: GridPoint, tol: f64) -> bool
     requires { OnSheet p × OnSheet a × OnSheet b }
     ensures { result ≡ (Nearness.point_segment_distance p a b ≤f tol) }
 {
-    if a.same(b) {
+    if a == b {
         return root::grid_dist_at_most(p, a, tol);
     }
     let ab = b.sub(a);

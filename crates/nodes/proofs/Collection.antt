@@ -1,36 +1,36 @@
 -- The collected nodes: they stay the same while the list grows, and what they decide is what the whole scan finds.
 use mathlib.Core.Path.{◌≡◌, refl, sym, ap, ◌∙◌, subst}
 use mathlib.Core.List.{List, [], ◌∷◌, map}
-use Prim.Native.Nat.{ℕ, zero, suc, ◌+◌, ◌-◌, ◌*◌, ◌≤◌, ◌<◌}
+use Prim.Native.Nat.{ℕ, zero, suc, ◌+◌, ◌-◌, ◌≤◌, ◌<◌}
 use native.Mathlib.Nat.{zero-add, not-suc-le-zero, le_of_suc-le-suc}
 use native.Mathlib.Omega.{arith}
-use mathlib.Core.Bool.{Bool, true, false, not, ◌&&◌}
+use mathlib.Core.Bool.{Bool, true, ◌&&◌}
 use lib.IntN.{ℤ}
 use lib.Dec.{T, leb, leb→le}
 use lib.ListN.{length, get_or}
 use lib.Seq.{get_or-take, length-take-le}
 use lib.Ieee.{Float, nan}
 use lib.Ieee.Fits.{and_i, and_l, and_r}
-use Rattle.laws.specs.Bounded.{any, first}
+use Rattle.laws.specs.Bounded.{first}
 use Rattle.laws.specs.Integer.{eq_z}
-use Rattle.laws.proofs.Booleans.{is_false, bool_ext}
+use Rattle.laws.proofs.Booleans.{bool_ext}
 use Rattle.laws.proofs.SignedTests.{eq_z→}
-use Rattle.laws.proofs.Search.{any_none, first-none, first-within, first-beyond}
+use Rattle.laws.proofs.Search.{first-within, first-beyond}
 use Rattle.vector.specs.declared.Point.{Point}
 use Rattle.keys.specs.Keys.{key}
 use Rattle.nodes.specs.Nodes.{number}
 use Rattle.nodes.specs.Growth.{InRange, Grown}
 use Rattle.keys.specs.declared.SoughtKey.{SoughtKey}
 use Rattle.nodes.specs.Flat.{node_in_of, nodes_in, over, Usable, has_at}
-use Rattle.keys.specs.Keys.{sought_key, key_of, Sought, near}
+use Rattle.keys.specs.Keys.{sought_key, key_of, Sought}
 use Rattle.nodes.proofs.Flat.{length_in, node_in, at-over}
 use Rattle.nodes.specs.declared.nearby.Span.{Span}
 use Rattle.nodes.specs.declared.nearby.Window.{Window}
 use Rattle.nodes.specs.declared.nearby.Nearby.{Nearby}
-use Rattle.nodes.specs.Nearby.{most_nearby, Spans, Framed, inside_at, inside, xs_of, surrounds, Collected, ValidNearby, NearbyLists, has_listed}
+use Rattle.nodes.specs.Nearby.{most_nearby, Spans, Framed, inside_at, inside, xs_of, surrounds, CollectedOf, ValidNearby, NearbyLists, has_listed}
 use Rattle.nodes.specs.Nearby.{strictly, in_span, well_in}
 use Rattle.nodes.specs.Nearby.{well_inside}
-use Rattle.nodes.proofs.Scan.{has-is, not-near, fewer, found-is}
+use Rattle.nodes.proofs.Scan.{has-is, fewer, found-is}
 use Rattle.keys.proofs.Rounding.{wider}
 use Rattle.nodes.proofs.Spans.{in_span_lem, well_in_lem}
 use Rattle.keys.proofs.Skip.{scaled-of}
@@ -55,7 +55,7 @@ unfolding inside_at
 same-inside l m w i e = ap (λ (p : Point). in_span w.x p.x && in_span w.y p.y) e
 
 later : (l m : List Float) (w : Window) (n count : ℕ) (numbers : List ℕ) (xs : List Float) → ((i : ℕ) → i < n → node_in_of m i ≡ node_in_of l i)
-    → Collected l w n numbers xs count → Collected m w n numbers xs count
+    → CollectedOf l w n numbers xs count → CollectedOf m w n numbers xs count
 later l m w n count numbers xs h c =
     let k : (i : ℕ) → i < n → node_in_of l i ≡ node_in_of m i = (λ i u. sym (h i u)) in
     let e : inside w l n ≡ inside w m n = chosen_ext (inside_at w l) (inside_at w m) n 0 (λ i u. same-inside l m w i (k i (omega (arith, u)))) in
@@ -90,7 +90,7 @@ held-over l m used v ns c numbers xs e f g k =
     (subst (λ (z : List Float). ValidNearby z (length ns) c numbers xs) (sym e) (held_grown l used ns c numbers xs g k))
 
 -- ---- what it holds
-module _ (l : List Float) (w : Window) (n count : ℕ) (numbers : List ℕ) (xs : List Float) (c : Collected l w n numbers xs count) where
+module _ (l : List Float) (w : Window) (n count : ℕ) (numbers : List ℕ) (xs : List Float) (c : CollectedOf l w n numbers xs count) where
   size : length (inside w l n) ≡ count
   size = ap length (sym c.are) ∙ length-take-le count numbers (omega (arith, c.places, c.few))
 
@@ -109,43 +109,6 @@ module _ (l : List Float) (w : Window) (n count : ℕ) (numbers : List ℕ) (xs 
   pub lists : NearbyLists l n numbers xs count
   lists = record { places = c.places; places_x = c.places_x; few = c.few; low = listed-low; same = listed-x }
 
--- what is tested of the j-th of them
-pub listed-is : (l : List Float) (n count : ℕ) (numbers : List ℕ) (xs : List Float) (kx ky : ℤ) (j : ℕ) → NearbyLists l n numbers xs count → j < count
-    → has_listed l numbers kx ky j ≡ (eq_z kx (key (get_or xs j nan)) && eq_z ky (key (get_or l (get_or numbers j 0 * 2 + 1) nan)))
-listed-is l n count numbers xs kx ky j c h =
-    let k = get_or numbers j 0 in
-    has-is l kx ky k ∙ ap (λ (x : Float). eq_z kx (key x) && eq_z ky (key (get_or l (k * 2 + 1) nan))) (sym (c.same j h))
-
-pub not-close : (l : List Float) (n count : ℕ) (numbers : List ℕ) (xs : List Float) (kx : SoughtKey) (ky : ℤ) (j : ℕ) → NearbyLists l n numbers xs count
-    → Sought kx
-    → Usable l n → j < count → near kx.scaled (get_or xs j nan) ≡ false → has_listed l numbers (key_of kx) ky j ≡ false
-not-close l n count numbers xs kx ky j c so u h e =
-    not-near l kx ky (get_or numbers j 0) so (u.ranged (get_or numbers j 0) (c.low j h)).0 (ap (near kx.scaled) (sym (c.same j h)) ∙ e)
-
--- fewer of them
-pub lists-fewer : (l : List Float) (n count m : ℕ) (numbers : List ℕ) (xs : List Float) → m ≤ count → NearbyLists l n numbers xs count
-    → NearbyLists l n numbers xs m
-lists-fewer l n count m numbers xs h c =
-    record {
-      places = c.places;
-      places_x = c.places_x;
-      few = omega (arith, c.few);
-      low = λ j k. c.low j (omega arith);
-      same = λ j k. c.same j (omega arith);
-    }
-
--- d of them, where none of m places is near
-pub none-close : (l : List Float) (n count : ℕ) (numbers : List ℕ) (xs : List Float) (kx : SoughtKey) (ky : ℤ) (i d m : ℕ) → NearbyLists l n numbers xs count
-    → Sought kx → Usable l n → d ≤ m → i + d ≤ count
-    → any (λ j. near kx.scaled (get_or xs (i + j) nan)) m ≡ false → first (has_listed l numbers (key_of kx) ky) d i ≡ i + d
-none-close l n count numbers xs kx ky i d m c so u g h e = first-none (has_listed l numbers (key_of kx) ky) d i clear
-  where
-    clear : (k : ℕ) → i ≤ k → k < i + d → has_listed l numbers (key_of kx) ky k ≡ false
-    clear k x y =
-        let f : i + (k - i) ≡ k = omega arith in
-        let v = any_none (λ j. near kx.scaled (get_or xs (i + j) nan)) m (subst (λ (b : Bool). T (not b)) (sym e) tt) (k - i) (omega arith) in
-        not-close l n count numbers xs kx ky k c so u (omega arith) (is_false _ (subst (λ (m : ℕ). T (not (near kx.scaled (get_or xs m nan)))) f v))
-
 -- ---- what it decides
 -- a node with keys strictly inside is in the window
 pub keyed_inside : (l : List Float) (w : Window) (kx ky : ℤ) (i : ℕ) → Framed w → InRange (node_in_of l i) → surrounds w kx ky ≡ true → has_at l kx ky i ≡ true
@@ -162,7 +125,7 @@ keyed_inside l w kx ky i f r s h =
     let q = in_span_lem w.y y f.1 (wider y r.1) (subst (λ (k : ℤ). T (strictly w.y k)) b (and_r (strictly w.x kx) (strictly w.y ky) v)) in
     T→true _ (and_i (in_span w.x x) (in_span w.y y) p q)
 
-module _ (l : List Float) (w : Window) (n used count : ℕ) (numbers : List ℕ) (xs : List Float) (kx ky : ℤ) (c : Collected l w n numbers xs count)
+module _ (l : List Float) (w : Window) (n used count : ℕ) (numbers : List ℕ) (xs : List Float) (kx ky : ℤ) (c : CollectedOf l w n numbers xs count)
     (u : Usable l used) (le : n ≤ used) (f : Framed w) (s : surrounds w kx ky ≡ true)
     (j : ℕ) (e : j ≡ first (has_listed l numbers kx ky) count 0) where
   only : (k : ℕ) → k < n → has_at l kx ky k ≡ true → inside_at w l k ≡ true
@@ -195,7 +158,7 @@ module _ (l : List Float) (used : ℕ) (c : Nearby) (numbers : List ℕ) (xs : L
   both : T (leb c.count most_nearby && well_inside c.window a.scaled b.scaled)
   both = subst T (sym d) tt
 
-  all : Collected l c.window c.old numbers xs c.count
+  all : CollectedOf l c.window c.old numbers xs c.count
   all = h.complete (leb→le c.count most_nearby (and_l (leb c.count most_nearby) (well_inside c.window a.scaled b.scaled) both))
 
   -- a sought coordinate is between the limits of a span, so its key is strictly between those of the ends

@@ -3,19 +3,23 @@ use Prim.Native.Nat.{ℕ, zero, suc, ◌+◌, ◌-◌, ◌*◌, ◌≤◌, ◌<�
 use native.Mathlib.Decide.{dec_le}
 use native.Mathlib.Omega.{arith}
 use mathlib.Core.Path.{◌≡◌, refl, sym, ap, ◌∙◌, subst}
-use mathlib.Core.Bool.{Bool, true, false, not, ◌&&◌, ◌||◌, true≢false}
-use mathlib.Core.List.{List}
+use mathlib.Core.Bool.{Bool, true, false, not, ◌&&◌, ◌||◌}
+use mathlib.Core.List.{List, [], ◌∷◌}
 use lib.IntN.{pos}
 use lib.Dec.{T}
-use lib.ListN.{get_or}
+use lib.ListN.{length, get_or, take, drop}
+use Rattle.std.specs.Prelude.{Option}
+use Rattle.std.specs.List.{fold}
+use Rattle.std.specs.Iterator.Runs.{Run, ItemsCountUp}
+use Rattle.std.proofs.Common.{length-take, length-drop, get_or-take, get_or-drop}
 use lib.Ieee.{Float, nan, fin, le}
 use lib.Ieee.Fits.{and_l, and_r}
 use Rattle.laws.specs.Bounded.{any}
 use Rattle.laws.specs.Within.{Within}
 use Rattle.laws.proofs.Between.{tested_1024}
 use Rattle.laws.proofs.Constants.{least_1024, most_1024}
-use Rattle.laws.proofs.Search.{any_at, any-fails, any_hit}
-use Rattle.nodes.specs.Flat.{node_in_of, held, all_held}
+use Rattle.laws.proofs.Search.{any_at, any-fails, any_ext}
+use Rattle.nodes.specs.Flat.{node_in_of, held}
 
 pub held-is : (x : Float) → (le (fin true 1 (pos 10)) x && le x (fin false 1 (pos 10))) ≡ held x
 unfolding held
@@ -31,29 +35,58 @@ held-within x h =
 abbrev pub out : List Float → ℕ → Bool
 out l i = not (held (get_or l i nan))
 
-pub none : (l : List Float) (n : ℕ) → any (out l) n ≡ false → true ≡ all_held l n
-unfolding all_held
-none l n e = sym (ap not e)
+-- ---- passes
+or-assoc : (a b c : Bool) → ((a || b) || c) ≡ (a || (b || c))
+or-assoc true b c = refl
+or-assoc false b c = refl
 
-pub one : (l : List Float) (i n : ℕ) → i < n → out l i ≡ true → false ≡ all_held l n
-unfolding all_held
-one l i n h e = sym (ap not (any_hit (out l) i n h e))
+any_front : (q : ℕ → Bool) (n : ℕ) → any q (suc n) ≡ (q 0 || any (λ j. q (suc j)) n)
+unfolding any
+any_front q zero = or_end (q 0)
+  where
+    or_end : (b : Bool) → (false || b) ≡ (b || false)
+    or_end true = refl
+    or_end false = refl
+any_front q (suc n) = ap (λ (b : Bool). b || q (suc n)) (any_front q n) ∙ or-assoc (q 0) (any (λ j. q (suc j)) n) (q (suc n))
+
+-- a flag that gathers the tests of a list's elements, which are those of its places
+pub any_fold : {A : Type 0} (p : A → Bool) (d : A) (l : List A) (b : Bool) → fold (λ f x. f || p x) b l ≡ (b || any (λ j. p (get_or l j d)) (length l))
+unfolding any
+any_fold p d [] true = refl
+any_fold p d [] false = refl
+any_fold p d (x ∷ xs) b =
+    any_fold p d xs (b || p x) ∙ or-assoc b (p x) (any (λ j. p (get_or xs j d)) (length xs)) ∙ ap (λ (c : Bool). b || c) (sym (any_front (λ j. p (get_or (x ∷ xs) j d)) (length xs)))
+
+-- a flag that gathers the tests of n numbers from a on
+pub any_run : {S : Type 0} {steps : S → Option ℕ → S → Type 0} (u : Run steps) (x y : ℕ) → ItemsCountUp u x y → u.whole ≡ true → (q : ℕ → Bool) (a n : ℕ) → x ≡ a → y ≡ a + n
+    → fold (λ f i. f || q i) false u.items ≡ any (λ j. q (a + j)) n
+any_run u x y w h q a n s e =
+    let z : u.len ≡ n = omega (arith, w.1 h, s, e) in
+    any_fold q 0 u.items false ∙ ap (any (λ j. q (get_or u.items j 0))) (sym u.long ∙ z) ∙ any_ext _ _ n (λ j t. ap q (item j t z))
+  where
+    item : (j : ℕ) → j < n → u.len ≡ n → get_or u.items j 0 ≡ a + j
+    item j t z =
+        let l : j < u.len = omega (arith, t, z) in
+        let b = u.reads j 0 l in
+        let d = w.3 j l in
+        let v : get_or u.items j 0 ≡ x + j = cc in
+        omega (arith, v, s)
+
+-- the tests of the m elements from place i on
+pub any_within : {A : Type 0} (p : A → Bool) (d : A) (l : List A) (i m : ℕ) → i + m ≤ length l
+    → any (λ j. p (get_or (take m (drop i l)) j d)) (length (take m (drop i l))) ≡ any (λ j. p (get_or l (i + j) d)) m
+any_within p d l i m h =
+    let e : length (take m (drop i l)) ≡ m = simp (length-take, length-drop) (omega arith) in
+    ap (any (λ j. p (get_or (take m (drop i l)) j d))) e
+    ∙ any_ext _ _ m (λ j k. ap p (get_or-take m (drop i l) j d k ∙ get_or-drop i l j d))
+
+pub any_before : {A : Type 0} (p : A → Bool) (d : A) (l : List A) (n : ℕ) → n ≤ length l
+    → any (λ j. p (get_or (take n l) j d)) (length (take n l)) ≡ any (λ j. p (get_or l j d)) n
+any_before p d l n h =
+    let e : length (take n l) ≡ n = simp length-take (omega arith) in
+    ap (any (λ j. p (get_or (take n l) j d))) e ∙ any_ext _ _ n (λ j k. ap p (get_or-take n l j d k))
 
 -- ---- blocks
-some : (p : ℕ → Bool) (b d n : ℕ) → b + d ≤ n → any (λ j. p (b + j)) d ≡ true → any p n ≡ true
-unfolding any
-some p b zero n h e = absurd (true≢false (sym e))
-some p b (suc d) n h e = go (any (λ j. p (b + j)) d) (p (b + d)) (some p b d n (omega arith)) (any_hit p (b + d) n (omega arith)) e
-  where
-    go : (x y : Bool) → (x ≡ true → any p n ≡ true) → (y ≡ true → any p n ≡ true) → (x || y) ≡ true → any p n ≡ true
-    go true y u v w = u refl
-    go false y u v w = v w
-
--- one of the d numbers before place t is not held
-pub one_of : (l : List Float) (d t n : ℕ) → d ≤ t → t ≤ n → any (λ j. out l (t - d + j)) d ≡ true → false ≡ all_held l n
-unfolding all_held
-one_of l d t n h k e = sym (ap not (some (out l) (t - d) d n (omega arith) e))
-
 -- all of them are, and those before place i
 pub go_on : (l : List Float) (d i t : ℕ) → d ≤ t → t ≤ i + d → any (out l) i ≡ false → any (λ j. out l (t - d + j)) d ≡ false → any (out l) t ≡ false
 go_on l d i t h k a b = any-fails (out l) t (λ m q. go m q (dec_le (suc m) i))

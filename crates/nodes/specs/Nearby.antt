@@ -10,6 +10,7 @@ use Rattle.nodes.specs.Flat.{node_in_of, has_at}
 use Rattle.nodes.specs.declared.nearby.Span.{Span}
 use Rattle.nodes.specs.declared.nearby.Window.{Window}
 use Rattle.nodes.specs.declared.nearby.Nearby.{Nearby}
+use Rattle.nodes.specs.declared.nearby.Collected.{Collected}
 
 -- so many nodes are collected at most
 abbrev pub most_nearby : ℕ
@@ -69,7 +70,7 @@ xs_of l ks = map (λ k. (node_in_of l k).x) ks
 
 -- what the search asks of them: the first `count` of the numbers, and of the xs, are those of the nodes of the first n
 -- places that are in the window
-pub record Collected (l : List Float) (w : Window) (n : ℕ) (numbers : List ℕ) (xs : List Float) (count : ℕ) : Type 0 where
+pub record CollectedOf (l : List Float) (w : Window) (n : ℕ) (numbers : List ℕ) (xs : List Float) (count : ℕ) : Type 0 where
   pub places : length numbers ≡ most_nearby
   pub places_x : length xs ≡ most_nearby
   pub few : count ≤ most_nearby
@@ -80,7 +81,11 @@ pub record Collected (l : List Float) (w : Window) (n : ℕ) (numbers : List ℕ
 pub record ValidNearby (l : List Float) (used : ℕ) (c : Nearby) (numbers : List ℕ) (xs : List Float) : Type 0 where
   pub old : c.old ≤ used
   pub framed : Framed c.window
-  pub complete : c.count ≤ most_nearby → Collected l c.window c.old numbers xs c.count
+  pub complete : c.count ≤ most_nearby → CollectedOf l c.window c.old numbers xs c.count
+
+-- the same of the collected nodes as they are looked through
+abbrev pub ValidCollected : List Float → ℕ → Collected → Type 0
+ValidCollected l used c = ValidNearby l used c.near c.numbers.now c.xs.now
 
 -- ---- searches
 -- the first `count` of the numbers are places among the first `old`, and the xs are those of their nodes

@@ -10,8 +10,8 @@
 mod held;
 mod nearby;
 
-pub use held::{all_held, is_held};
-pub use nearby::{MOST_NEARBY, Nearby, Span, Window, block_end, find_listed};
+pub use held::{all_held, any_out, is_held};
+pub use nearby::{Collected, MOST_NEARBY, Nearby, Span, Window, block_end};
 
 // The number of a node: its place in the list.
 pub type NodeNumber = u32;

@@ -1,2 +1,3 @@
--- What add_node does to the list.
+-- What a search finds, and what add_node does to the list.
+pub mod Found
 pub mod Adding

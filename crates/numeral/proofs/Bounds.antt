@@ -1,20 +1,24 @@
 -- How large the numbers of a scan get, byte by byte; that the two steps of `units` are the one division; and signs.
 use Prim.Native.Nat.{ℕ, zero, suc, ◌+◌, ◌-◌, ◌*◌, ◌/◌, ◌%◌, ◌^◌, ◌≤◌, ◌<◌}
 use mathlib.Core.Path.{◌≡◌, refl, sym, ap, ◌∙◌}
-use mathlib.Core.Bool.{Bool, true, false, ◌||◌, ◌&&◌, not}
+use mathlib.Core.Bool.{Bool, true, false, ◌||◌, ◌&&◌}
 use mathlib.Core.List.{List, [], ◌∷◌}
 use native.Mathlib.Nat.{pow-succ', pow-le-pow_right, div-add-mod', add-mul-div_left, mul_assoc, mul_comm, mul_left_comm, mod-lt, div-lt_iff_lt-mul}
 use native.Mathlib.Omega.{arith}
-use lib.ListN.{length, get_or, take, drop, length-drop}
-use lib.Seq.{take_all}
+use lib.ListN.{length, get_or, take}
 use lib.Dec.{ltb, eqb}
 use lib.IntN.{ℤ, pos, ◌-ℤ◌, neg_ℤ, +ℤ_idl}
 use mir.Syntax.{w32}
 use mir.Val.{to_z, of_z, SFits}
 use mir.ValLaws.{to_z_pos, to_z-of_z}
-use borrow.Author.Tests.{ltb-false, lt-ltb, le-ltb}
+use borrow.Author.Tests.{ltb-false, le-ltb}
+use lib.Pointwise.{pointwise}
+use Rattle.std.specs.Prelude.{cond, Some, None, IfSome}
+use Rattle.std.specs.Bool.{then_some}
+use Rattle.std.proofs.lemmas.Bool.Decides.{nat_tests}
 use Rattle.numeral.specs.declared.Met.{Met}
-use Rattle.numeral.specs.Numeral.{no_digit_of, scaled, more, scan_to, scanned, whole, signs, read, Small, Scaled, units, capped, signed}
+use Rattle.numeral.specs.declared.Said.{Said}
+use Rattle.numeral.specs.Numeral.{no_digit_of, scaled, more, scan_to, scanned, whole, has_minus, behind, Small, Scaled, units, signed}
 
 -- after i bytes
 pub record Below (s : Met) (i : ℕ) : Type 0 where
@@ -57,11 +61,6 @@ unfolding scan_to
 below w zero = record { value = omega arith; scale = omega arith; one = omega arith; few = omega arith }
 below w (suc i) = more-below (scan_to w i) (get_or w i 0) i _ _ refl refl (below w i)
 
--- past the end of no bytes
-pub past_end : (w : List ℕ) → length w ≡ 0 → get_or w 0 0 ≡ 0
-past_end [] e = refl
-past_end (b ∷ w) e = absurd (omega arith)
-
 pub small : (w : List ℕ) (i : ℕ) → i ≤ 18 → Small (scan_to w i)
 small w i h =
     let b = below w i in
@@ -95,17 +94,8 @@ module _ (n d : ℕ) (h : 0 < d) where
       let z : (n % d * 16384 + d) / (2 * d) < 8193 = (div-lt_iff_lt-mul {k = 2 * d} {x = n % d * 16384 + d} {y = 8193} (omega arith)).1 (omega arith) in
       omega arith
 
-  pub far : 1024 < n / d → capped n d ≡ 8388609
-  unfolding capped
-  far k = let e = two_steps in rw (lt-ltb 8388608 (units n d) (omega arith))
-
-  pub capped-far : (m : ℕ) → m ≡ units n d → 8388608 < m → capped n d ≡ 8388609
-  unfolding capped
-  capped-far m e k = rw (lt-ltb 8388608 (units n d) (omega arith))
-
-  pub capped-near : (m : ℕ) → m ≡ units n d → m ≤ 8388608 → m ≡ capped n d
-  unfolding capped
-  capped-near m e k = rw (le-ltb 8388608 (units n d) (omega arith)) e
+  pub far : 1024 < n / d → 8388608 < units n d
+  far k = let e = two_steps in omega arith
 
 -- signs
 negative : (n : ℕ) → neg_ℤ (pos n) ≡ signed true n
@@ -139,45 +129,33 @@ module _ (n : ℕ) (h : n ≤ 8388608) where
   pub plus-is : (m : Bool) → m ≡ false → to_z w32 n ≡ signed m n
   plus-is m e = to_z_pos w32 n (omega arith) ∙ plain n ∙ ap (λ (b : Bool). signed b n) (sym e)
 
--- ---- what `read` answers
-module _ (w : List ℕ) (f : ℕ) (e : f ≡ signs w) where
-  behind : length (drop (signs w) w) ≡ length w - f
-  behind = rw (← e) (length-drop f w)
+-- ---- what `behind` and `read` answer
+pub few-met : (w : List ℕ) (s : Met) → length w ≤ 19 → s ≡ scanned w → s.digits + s.points ≤ 100
+unfolding scanned
+few-met w s h a = rw a (omega (arith, (below w (length w)).few))
 
-  pub too_long : 19 < length w - f → record { number = false; minus = false; value = 0; scale = 1 } ≡ read w
-  unfolding read
-  too_long h = rw (behind, lt-ltb 19 (length w - f) h)
+pub said_so : (m q : Bool) (w : List ℕ) (s : Met) → length w ≤ 19 → s ≡ scanned w → q ≡ whole s (length w)
+    → then_some {T = Said} q (record { minus = m; value = s.value; scale = s.scale }) ≡ behind m w
+unfolding behind
+said_so m q w s h a b = rw (a, le-ltb 19 (length w) h) (rw b (rw a (go (whole (scanned w) (length w)))))
+  where
+    go : (t : Bool) → then_some {T = Said} t (record { minus = m; value = (scanned w).value; scale = (scanned w).scale })
+        ≡ cond t (Some (record { minus = m; value = (scanned w).value; scale = (scanned w).scale })) None
+    go true = refl
+    go false = refl
 
-  body : take (length w - f) (drop f w) ≡ drop (signs w) w
-  body = rw (← e) (take_all (length w - f) (drop f w) (rw (length-drop f w) (omega arith)))
+pub scaled_so : (m q : Bool) (w : List ℕ) (s : Met) → s ≡ scanned w → q ≡ whole s (length w)
+    → IfSome (then_some {T = Said} q (record { minus = m; value = s.value; scale = s.scale })) Scaled
+unfolding scanned whole
+scaled_so m true w s a b = record { some = rw a (below w (length w)).one; few = grind (arith, nat_tests) }
+scaled_so m false w s a b = tt
 
-  pub reads : (s : Met) (q : Bool) → length w - f ≤ 19 → s ≡ scanned (take (length w - f) (drop f w)) → q ≡ whole s (length w - f)
-      → record { number = q; minus = eqb f 1; value = s.value; scale = s.scale } ≡ read w
-  unfolding read
-  reads s q h a b =
-      let d : s ≡ scanned (drop (signs w) w) = a ∙ ap scanned body in
-      rw (behind, le-ltb 19 (length w - f) h)
-      (λ j. record { number = (b ∙ ap (λ (m : Met). whole m (length w - f)) d) j; minus = eqb (e j) 1; value = (d j).value; scale = (d j).scale })
-
-  pub few-met : (s : Met) → length w - f ≤ 19 → s ≡ scanned (take (length w - f) (drop f w)) → s.digits + s.points ≤ 100
-  unfolding scanned
-  few-met s h a =
-      let l : List ℕ = take (length w - f) (drop f w) in
-      let k : length l ≤ 19 = rw body (rw behind h) in
-      rw a (omega (arith, (below l (length l)).few))
-
-  pub scaled_so : (s : Met) (q : Bool) → s ≡ scanned (take (length w - f) (drop f w)) → q ≡ whole s (length w - f)
-      → Scaled (record { number = q; minus = eqb f 1; value = s.value; scale = s.scale })
-  unfolding scanned whole
-  scaled_so s q a b =
-      let l : List ℕ = take (length w - f) (drop f w) in
-      record {
-        some = rw a (below l (length l)).one;
-        few = λ t. third (not (eqb s.digits 0)) (not (ltb 1 s.points)) (ltb (10 ^ 14) s.scale) _ (sym b ∙ t) refl;
-      }
-    where
-      third : (x y z v : Bool) → (x && y && not z && v) ≡ true → ltb (10 ^ 14) s.scale ≡ z → s.scale ≤ 10 ^ 14
-      third true true false v e g = ltb-false (10 ^ 14) s.scale g
-      third true true true v e g = absurd (let z : ◌≡◌ {A = ℕ} 0 1 = cc in omega arith)
-      third true false z v e g = absurd (let z : ◌≡◌ {A = ℕ} 0 1 = cc in omega arith)
-      third false y z v e g = absurd (let z : ◌≡◌ {A = ℕ} 0 1 = cc in omega arith)
+-- a minus in front
+pub front_is : (w : List ℕ) (t : Bool) → pointwise eqb (take 1 w) (45 ∷ []) ≡ t → has_minus w ≡ t
+unfolding has_minus
+front_is [] t e = e
+front_is (b ∷ w) t e = sym (and-true (eqb b 45)) ∙ e
+  where
+    and-true : (x : Bool) → (x && true) ≡ x
+    and-true true = refl
+    and-true false = refl

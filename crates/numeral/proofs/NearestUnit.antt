@@ -1,6 +1,6 @@
 -- Claim: the units of a number n / d are the nearest count of 1/8192 mm, halves away from zero, and no other count is.
-use Prim.Native.Nat.{ℕ, ◌+◌, ◌*◌, ◌/◌, ◌≤◌, ◌<◌}
-use mathlib.Core.Path.{◌≡◌, sym}
+use Prim.Native.Nat.{ℕ, ◌+◌, ◌*◌, ◌≤◌, ◌<◌}
+use mathlib.Core.Path.{◌≡◌}
 use native.Mathlib.Omega.{arith}
 use native.Mathlib.Nat.{div-add-mod', mod-lt, mul_left_comm, le_antisymm, lt_of_mul-lt-mul_right, add-mul}
 use Rattle.numeral.specs.Numeral.{units}

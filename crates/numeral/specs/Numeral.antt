@@ -1,5 +1,5 @@
 -- A drawing's number, "in mm, decimals allowed and rounded to the nearest 1/8192 mm (halves away from zero)". A word is a list of bytes. Definitions only.
-use Rattle.std.specs.Prelude.{ℕ, zero, suc, ◌+◌, ◌-◌, ◌*◌, ◌/◌, ◌^◌, ◌≤◌, ◌<◌, ◌≡◌, Bool, true, false, ◌&&◌, ◌||◌, not, cond, List, length, get_or, drop, ltb, eqb, ℤ, pos, negsuc}
+use Rattle.std.specs.Prelude.{ℕ, zero, suc, ◌+◌, ◌-◌, ◌*◌, ◌/◌, ◌^◌, ◌≤◌, ◌<◌, Bool, true, false, ◌&&◌, ◌||◌, not, cond, Option, Some, None, List, length, get_or, drop, ltb, eqb, ℤ, pos, negsuc}
 use Rattle.numeral.specs.declared.Said.{Said}
 use Rattle.numeral.specs.declared.Met.{Met}
 
@@ -31,24 +31,27 @@ unfoldable pub whole : Met → ℕ → Bool
 whole s n = not (eqb s.digits 0) && not (ltb 1 s.points) && not (ltb (10 ^ 14) s.scale) && eqb (s.digits + s.points) n
 
 -- a minus stands in front or nowhere
-unfoldable pub signs : List ℕ → ℕ
-signs w = cond (eqb (get_or w 0 0) 45) 1 0
+unfoldable pub has_minus : List ℕ → Bool
+has_minus w = eqb (get_or w 0 0) 45
 
--- what a word says; one of more than 19 bytes behind its sign is no number
-unfoldable pub read : List ℕ → Said
-read w =
-    let b = drop (signs w) w in
+-- what the bytes behind the sign say; more than 19 are no number
+unfoldable pub behind : Bool → List ℕ → Option Said
+behind minus b =
     let s = scanned b in
-    cond (ltb 19 (length b)) (record { number = false; minus = false; value = 0; scale = 1 })
-    (record { number = whole s (length b); minus = eqb (signs w) 1; value = s.value; scale = s.scale })
+    cond (ltb 19 (length b)) None
+    (cond (whole s (length b)) (Some (record { minus = minus; value = s.value; scale = s.scale })) None)
+
+-- what a word says, if it is a number
+unfoldable pub read : List ℕ → Option Said
+read w = cond (has_minus w) (behind true (drop 1 w)) (behind false w)
 
 -- "rounded to the nearest 1/8192 mm (halves away from zero)": n / d mm, its sign aside, are so many units
 unfoldable pub units : ℕ → ℕ → ℕ
 units n d = (n * 16384 + d) / (2 * d)
 
--- no coordinate is beyond 1,024 mm, which are 8,388,608 units: one more stands for all that are
-unfoldable pub capped : ℕ → ℕ → ℕ
-capped n d = cond (ltb 8388608 (units n d)) 8388609 (units n d)
+-- no coordinate is beyond 1,024 mm, which are 8,388,608 units
+unfoldable pub within : ℕ → ℕ → Option ℕ
+within n d = cond (ltb 8388608 (units n d)) None (Some (units n d))
 
 -- with its sign
 unfoldable pub signed : Bool → ℕ → ℤ
@@ -61,7 +64,7 @@ pub record Small (s : Met) : Type 0 where
   pub scale : s.scale ≤ 10 ^ 18
   pub few : s.digits + s.points ≤ 100
 
--- of what a word says: its scale is no zero, and a number's has 14 decimals at most
+-- a number's scale is no zero, and it has 14 decimals at most
 pub record Scaled (n : Said) : Type 0 where
   pub some : 0 < n.scale
-  pub few : n.number ≡ true → n.scale ≤ 10 ^ 14
+  pub few : n.scale ≤ 10 ^ 14

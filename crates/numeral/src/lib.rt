@@ -6,13 +6,12 @@
 
 #![tactic(auto)]
 
-ghost use Rattle.std.specs.Prelude.{◌≡◌, true, ◌+◌, ◌*◌, ◌^◌, ◌≤◌, ◌<◌, length};
+ghost use Rattle.std.specs.Prelude.{◌≡◌, ◌+◌, ◌^◌, ◌≤◌, ◌<◌, length, IfSome};
 ghost use Rattle.numeral.specs.Numeral as Numeral;
 
-// What a word says: whether it is a number; and its sign, the digits as one number, and ten to the number of decimals.
-#[derive(Clone, Copy)]
+// What a number says: its sign, the digits as one number, and ten to the number of decimals.
+#[derive(Clone, Copy, Debug, PartialEq, Eq)]
 pub struct Said {
-    pub number: bool,
     pub minus: bool,
     pub value: u64,
     pub scale: u64,
@@ -27,47 +26,40 @@ pub struct Met {
     pub points: usize,
 }
 
-pub fn wide(b: u8) -> u64
-    ensures { (result ≡ b) × (result < 256) }
-{
-    b as u64
-}
+impl Met {
+    // One byte more. A digit after the point is a decimal.
+    fn more(self, b: u8) -> Met
+        requires { Numeral.Small self }
+        ensures { result ≡ Numeral.more self b }
+    {
+        match b {
+            b'.' => Met {
+                points: self.points + 1,
+                ..self
+            },
+            b'0'..=b'9' => Met {
+                value: self.value * 10 + u64::from(b - b'0'),
+                scale: if self.points == 0 {
+                    self.scale
+                } else {
+                    self.scale * 10
+                },
+                digits: self.digits + 1,
+                ..self
+            },
+            _ => self,
+        }
+    }
 
-// A digit after the point is a decimal.
-fn scaled(scale: u64, points: usize) -> u64
-    requires { scale ≤ 10 ^ 18 }
-    ensures { result ≡ Numeral.scaled scale points }
-{
-    if points == 0 {
-        return scale;
-    }
-    scale * 10
-}
-
-// One byte more.
-fn more(s: Met, b: u64) -> Met
-    requires { Numeral.Small s }
-    ensures { result ≡ Numeral.more s b }
-{
-    if b == 46 {
-        return Met {
-            value: s.value,
-            scale: s.scale,
-            digits: s.digits,
-            points: s.points + 1,
-        };
-    }
-    if b < 48 {
-        return s;
-    }
-    if 57 < b {
-        return s;
-    }
-    Met {
-        value: s.value * 10 + (b - 48),
-        scale: scaled(s.scale, s.points),
-        digits: s.digits + 1,
-        points: s.points,
+    // Nothing but digits and a point in n bytes, one digit at least, and no more decimals than 14.
+    fn whole(self, n: usize) -> bool
+        requires { self.digits + self.points ≤ 100 }
+        ensures { result ≡ Numeral.whole self n }
+    {
+        self.digits != 0
+            && self.points <= 1
+            && self.scale <= 100000000000000
+            && self.digits + self.points == n
     }
 }
 
@@ -81,80 +73,52 @@ fn scan(body: &[u8]) -> Met
         digits: 0,
         points: 0,
     };
-    for i in 0..body.len() {
-        s = more(s, wide(body[i]));
+    for &b in body {
+        s = s.more(b);
     }
     s
 }
 
-// Nothing but digits and a point, one digit at least, and no more decimals than 14.
-fn whole(s: Met, n: usize) -> bool
-    requires { s.digits + s.points ≤ 100 }
-    ensures { result ≡ Numeral.whole s n }
+// The number of a word's bytes behind its sign.
+fn behind(minus: bool, body: &[u8]) -> Option<Said>
+    ensures said { result ≡ Numeral.behind minus body.now }
+    ensures scaled { IfSome result Numeral.Scaled }
 {
-    if s.digits == 0 {
-        return false;
+    let n = body.len();
+    if n > 19 {
+        return None;
     }
-    if 1 < s.points {
-        return false;
-    }
-    if 100000000000000 < s.scale {
-        return false;
-    }
-    s.digits + s.points == n
-}
-
-// How many bytes the sign takes.
-fn signs(word: &[u8]) -> usize
-    ensures { (result ≡ Numeral.signs word.now) × (result ≤ length word.now) × (result ≤ 1) }
-{
-    if word.len() == 0 {
-        return 0;
-    }
-    if wide(word[0]) == 45 {
-        return 1;
-    }
-    0
+    let s = scan(body);
+    s.whole(n).then_some(Said {
+        minus,
+        value: s.value,
+        scale: s.scale,
+    })
 }
 
 // Reads a word.
-pub fn read(word: &[u8]) -> Said
-    ensures { (result ≡ Numeral.read word.now) × Numeral.Scaled result }
+pub fn read(word: &[u8]) -> Option<Said>
+    ensures said { result ≡ Numeral.read word.now }
+    ensures scaled { IfSome result Numeral.Scaled }
 {
-    let front = signs(word);
-    let n = word.len() - front;
-    if 19 < n {
-        return Said {
-            number: false,
-            minus: false,
-            value: 0,
-            scale: 1,
-        };
-    }
-    let s = scan(&word[front..]);
-    Said {
-        number: whole(s, n),
-        minus: front == 1,
-        value: s.value,
-        scale: s.scale,
+    match word.strip_prefix(b"-") {
+        Some(body) => behind(true, body),
+        None => behind(false, word),
     }
 }
 
-// The nearest count of units, halves up; 8,388,609 where that is beyond 1,024 mm. In two steps, so that nothing is too large
-// for 64 bits.
-pub fn units(value: u64, scale: u64) -> u64
+// The nearest count of units, halves up; none beyond 1,024 mm. In two steps, so that nothing is too large for 64 bits.
+pub fn units(value: u64, scale: u64) -> Option<u64>
     requires { (0 < scale) × (scale ≤ 10 ^ 14) }
-    ensures { (result ≡ Numeral.capped value scale) × (result ≤ 8388609) }
+    ensures value { result ≡ Numeral.within value scale }
+    ensures on_sheet { IfSome result (λ n. n ≤ 8388608) }
 {
     let mm = value / scale;
-    if 1024 < mm {
-        return 8388609;
+    if mm > 1024 {
+        return None;
     }
     let n = mm * 8192 + (value % scale * 16384 + scale) / (2 * scale);
-    if 8388608 < n {
-        return 8388609;
-    }
-    n
+    (n <= 8388608).then_some(n)
 }
 
 // The coordinate of so many units with its sign.
@@ -162,8 +126,5 @@ pub fn signed(minus: bool, n: u64) -> i32
     requires { n ≤ 8388608 }
     ensures { result ≡ Numeral.signed minus n }
 {
-    if minus {
-        return 0 - n as i32;
-    }
-    n as i32
+    if minus { -(n as i32) } else { n as i32 }
 }

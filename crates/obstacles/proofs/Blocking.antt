@@ -1,70 +1,81 @@
--- An edge that a diagonal crosses, a corner that it runs over, and a diagonal that nothing obstructs, by the places of the array that
--- holds the points.
-use Prim.Native.Nat.{ℕ, ◌+◌, ◌%◌, ◌≤◌, ◌<◌}
-use mathlib.Core.Bool.{Bool, true, false, ◌&&◌, not}
-use mathlib.Core.Path.{◌≡◌, sym, ap, ◌∙◌}
-use mathlib.Core.List.{List}
-use lib.ListN.{length, get_or, take}
-use lib.Seq.{length-take-le}
+-- An edge that a diagonal crosses, a corner that it runs over, and a diagonal that nothing obstructs, by the places of the list of
+-- points; and a test of each element of a list, as std and as the definitions have it.
+use Prim.Native.Nat.{ℕ, zero, suc, ◌+◌, ◌%◌, ◌<◌}
+use native.Mathlib.Omega.{arith}
+use mathlib.Core.Bool.{Bool, true, false, ◌&&◌, ◌||◌, not}
+use mathlib.Core.Path.{◌≡◌, refl, sym, ap, subst, ◌∙◌}
+use mathlib.Core.List.{List, [], ◌∷◌}
+use lib.ListN.{length, get_or}
+use Rattle.std.specs.List.{list_any}
 use Rattle.laws.specs.Double.{lit}
 use Rattle.laws.specs.Bounded.{any}
+use Rattle.laws.proofs.Search.{any_ext}
 use Rattle.vector.specs.declared.GridPoint.{GridPoint}
 use Rattle.vector.specs.declared.Point.{Point}
-use Rattle.vector.specs.Grid.{origin}
+use Rattle.vector.specs.Grid.{origin, at}
+use Rattle.vector.specs.Size.{OnSheet, AllOnSheet}
 use Rattle.vector.specs.Plane.{in_mm, lerp}
-use Rattle.vector.proofs.Rings.{at_in, at_next}
+use Rattle.vector.proofs.Rings.{at_place, at_following}
 use Rattle.segments.specs.Segments.{segments_cross}
 use Rattle.segments.specs.Meeting.{strictly_between}
 use Rattle.simple.specs.Simple.{point_in_polygon}
 use Rattle.obstacles.specs.Obstacles.{clear_of, blocks, runs_over, unobstructed}
 
-module _ (ps : List GridPoint) (n : ℕ) (h : n ≤ length ps) (p : 0 < n) (k : ℕ) (lk : k < n) where
+-- ---- a test of each element of a list
+any-first : (p : ℕ → Bool) (n : ℕ) → any p (suc n) ≡ (p 0 || any (λ i. p (suc i)) n)
+unfolding any
+any-first p zero = go (p 0)
+  where
+    go : (a : Bool) → (false || a) ≡ (a || false)
+    go true = refl
+    go false = refl
+any-first p (suc n) = rw (any-first p n) (go (p 0) (any (λ i. p (suc i)) n) (p (suc n)))
+  where
+    go : (a b c : Bool) → ((a || b) || c) ≡ (a || (b || c))
+    go true b c = refl
+    go false b c = refl
+
+pub any_element : (t : GridPoint → Bool) (l : List GridPoint) → list_any t l ≡ any (λ i. t (get_or l i origin)) (length l)
+unfolding any
+any_element t [] = refl
+any_element t (x ∷ l) = ap (λ (b : Bool). t x || b) (any_element t l) ∙ sym (any-first (λ i. t (get_or (x ∷ l) i origin)) (length l))
+
+default : (l : List GridPoint) (k : ℕ) (d e : GridPoint) → k < length l → get_or l k d ≡ get_or l k e
+default [] k d e h = absurd (omega (arith, h))
+default (x ∷ l) zero d e h = refl
+default (x ∷ l) (suc k) d e h = default l k d e (omega (arith, h))
+
+pub on_sheet : (l : List GridPoint) → AllOnSheet l → (k : ℕ) → k < length l → (x : GridPoint) → x ≡ get_or l k x → OnSheet x
+on_sheet l all k h x e = subst OnSheet (sym (e ∙ default l k x origin h)) (all k)
+
+module _ (l : List GridPoint) (k : ℕ) (lk : k < length l) where
+  first : at l 0 ≡ get_or l 0 origin
+  first = at_place l 0 (omega arith)
+
+  last : at l k ≡ get_or l k origin
+  last = at_place l k lk
+
   -- edge e, whose end is the place j
-  module _ (e j : ℕ) (le : e < n) (ej : j ≡ (e + 1) % n) where
-    opened : blocks (take n ps) k e ≡ clear_of n k e && segments_cross (get_or ps 0 origin) (get_or ps k origin) (get_or ps e origin) (get_or ps j origin)
+  module _ (e j : ℕ) (le : e < length l) (ej : j ≡ (e + 1) % length l) where
+    pub opened : clear_of (length l) k e && segments_cross (get_or l 0 origin) (get_or l k origin) (get_or l e origin) (get_or l j origin) ≡ blocks l k e
     unfolding blocks
     opened =
-        let l = length-take-le n ps h in
-        let a = at_in ps n h p 0 p in
-        let b = at_in ps n h p k lk in
-        let c = at_in ps n h p e le in
-        let d = at_next ps n h p e j ej in
-        λ i. clear_of (l i) k e && segments_cross (a i) (b i) (c i) (d i)
+        let c = at_place l e le in
+        let d = at_following l e j ej in
+        λ i. clear_of (length l) k e && segments_cross (sym first i) (sym last i) (sym c i) (sym d i)
 
-    pub touches : clear_of n k e ≡ false → blocks (take n ps) k e ≡ false
-    touches t = opened ∙ rw t
-
-    pub crosses : clear_of n k e ≡ true → (t : Bool) → segments_cross (get_or ps 0 origin) (get_or ps k origin) (get_or ps e origin) (get_or ps j origin) ≡ t
-        → blocks (take n ps) k e ≡ t
-    crosses s t q = opened ∙ rw s q
-
-  -- corner j
-  pub over : (j : ℕ) → j < n → (t : Bool) → strictly_between (get_or ps 0 origin) (get_or ps k origin) (get_or ps j origin) ≡ t → runs_over (take n ps) k j ≡ t
+  -- the corners
+  pub over : list_any (strictly_between (get_or l 0 origin) (get_or l k origin)) l ≡ any (runs_over l k) (length l)
   unfolding runs_over
-  over j l t e =
-      let a = at_in ps n h p 0 p in
-      let b = at_in ps n h p k lk in
-      let c = at_in ps n h p j l in
-      (λ i. strictly_between (a i) (b i) (c i)) ∙ e
+  over = any_element (strictly_between (get_or l 0 origin) (get_or l k origin)) l ∙ any_ext _ _ (length l) same
+    where
+      same : (i : ℕ) → i < length l → strictly_between (get_or l 0 origin) (get_or l k origin) (get_or l i origin) ≡ strictly_between (at l 0) (at l k) (at l i)
+      same i h = let c = at_place l i h in λ j. strictly_between (sym first j) (sym last j) (sym c j)
 
   -- the midpoint m
-  module _ (m : Point) (em : m ≡ lerp (in_mm (get_or ps 0 origin)) (in_mm (get_or ps k origin)) (lit 5 1)) where
-    all_three : unobstructed (take n ps) k ≡ point_in_polygon (take n ps) m && not (any (blocks (take n ps) k) n) && not (any (runs_over (take n ps) k) n)
-    unfolding unobstructed
-    all_three =
-        let l = length-take-le n ps h in
-        let a = at_in ps n h p 0 p in
-        let b = at_in ps n h p k lk in
-        (λ i. point_in_polygon (take n ps) (lerp (in_mm (a i)) (in_mm (b i)) (lit 5 1))
-        && not (any (blocks (take n ps) k) (l i)) && not (any (runs_over (take n ps) k) (l i)))
-        ∙ ap (λ (q : Point). point_in_polygon (take n ps) q && not (any (blocks (take n ps) k) n) && not (any (runs_over (take n ps) k) n)) (sym em)
-
-    pub outside : point_in_polygon (take n ps) m ≡ false → false ≡ unobstructed (take n ps) k
-    outside e = sym (all_three ∙ rw e)
-
-    pub crossing : point_in_polygon (take n ps) m ≡ true → any (blocks (take n ps) k) n ≡ true → false ≡ unobstructed (take n ps) k
-    crossing e f = sym (all_three ∙ rw (e, f))
-
-    pub inside : point_in_polygon (take n ps) m ≡ true → any (blocks (take n ps) k) n ≡ false → (t : Bool) → t ≡ any (runs_over (take n ps) k) n
-        → not t ≡ unobstructed (take n ps) k
-    inside e f t g = sym (all_three ∙ rw (e, f, g))
+  pub all_three : (m : Point) → m ≡ lerp (in_mm (get_or l 0 origin)) (in_mm (get_or l k origin)) (lit 5 1)
+      → (point_in_polygon l m && not (any (blocks l k) (length l)) && not (any (runs_over l k) (length l))) ≡ unobstructed l k
+  unfolding unobstructed
+  all_three m em =
+      ap (λ (q : Point). point_in_polygon l q && not (any (blocks l k) (length l)) && not (any (runs_over l k) (length l)))
+      (em ∙ (λ i. lerp (in_mm (sym first i)) (in_mm (sym last i)) (lit 5 1)))

@@ -6,64 +6,34 @@
 
 #![tactic(auto)]
 
-ghost use Rattle.std.specs.Prelude.{◌≡◌, ◌≤◌, ◌<◌};
+ghost use Rattle.std.specs.Prelude.{◌≡◌, ◌≤◌, ◌<◌, length};
 ghost use Rattle.laws.specs.Bounded.{any};
-ghost use Rattle.vector.specs.Rings.{most_points, points_of, OnSheetRing};
+ghost use Rattle.vector.specs.Rings.{most_points, OnSheetPoints};
 ghost use Rattle.obstacles.specs.Obstacles as Obstacles;
 
-use vector::{Point, Ring};
+use vector::{GridPoint, Point};
 
 // Whether edge e of n touches neither corner 0 nor corner k.
+#[tactic(auto, unfolding(crate::specs::Obstacles::clear_of))]
 fn clear_of(n: usize, k: usize, e: usize) -> bool
     requires { (e < n) × (n ≤ most_points) }
     ensures { result ≡ Obstacles.clear_of n k e }
 {
-    if e == 0 {
-        return false;
-    }
-    if e + 1 == n {
-        return false;
-    }
-    if e == k {
-        return false;
-    }
-    if e + 1 == k {
-        return false;
-    }
-    true
+    e != 0 && e + 1 != n && e != k && e + 1 != k
 }
 
 // Whether the diagonal to corner k crosses an edge that touches neither end. The scan ends at the first crossing.
-fn blocked(part: Ring, k: usize) -> bool
-    requires { OnSheetRing part × (3 ≤ part.count) × (k < part.count) }
-    ensures { result ≡ any (Obstacles.blocks (points_of part) k) part.count }
+// Kept: the scan over edges, left by a label, is a form of the project.
+fn blocked(part: &[GridPoint], k: usize) -> bool
+    requires { OnSheetPoints part.now × (k < length part.now) }
+    ensures { result ≡ any (Obstacles.blocks part.now k) (length part.now) }
 {
-    let n = part.count;
-    let o = part.points[0];
-    let q = part.points[k];
+    let n = part.len();
+    let o = part[0];
+    let q = part[k];
     let mut found = false;
     'scan: for e in 0..n {
-        if clear_of(n, k, e) {
-            if segments::segments_cross(o, q, part.points[e], part.points[vector::next(e, n)]) {
-                found = true;
-                break 'scan;
-            }
-        }
-    }
-    found
-}
-
-// Whether the diagonal to corner k runs over another corner, which is strictly between its ends. The scan ends at the first.
-fn runs_over(part: Ring, k: usize) -> bool
-    requires { OnSheetRing part × (3 ≤ part.count) × (k < part.count) }
-    ensures { result ≡ any (Obstacles.runs_over (points_of part) k) part.count }
-{
-    let n = part.count;
-    let o = part.points[0];
-    let q = part.points[k];
-    let mut found = false;
-    'scan: for j in 0..n {
-        if segments::strictly_between(o, q, part.points[j]) {
+        if clear_of(n, k, e) && segments::segments_cross(o, q, part[e], part[vector::next(e, n)]) {
             found = true;
             break 'scan;
         }
@@ -71,18 +41,22 @@ fn runs_over(part: Ring, k: usize) -> bool
     found
 }
 
-// Whether the diagonal to corner k has its midpoint inside, crosses no edge and runs over no corner.
-pub fn is_unobstructed(part: Ring, k: usize) -> bool
-    requires { OnSheetRing part × (3 ≤ part.count) × (k < part.count) }
-    ensures { result ≡ Obstacles.unobstructed (points_of part) k }
+// Whether the diagonal to corner k runs over another corner, which is strictly between its ends.
+fn runs_over(part: &[GridPoint], k: usize) -> bool
+    requires { OnSheetPoints part.now × (k < length part.now) }
+    ensures { result ≡ any (Obstacles.runs_over part.now k) (length part.now) }
 {
-    let a = Point::new(part.points[0]);
-    let b = Point::new(part.points[k]);
-    if simple::point_in_polygon(part, a.lerp(b, 0.5)) {
-        if blocked(part, k) {
-            return false;
-        }
-        return !runs_over(part, k);
-    }
-    false
+    let o = part[0];
+    let q = part[k];
+    part.iter().any(|c| segments::strictly_between(o, q, *c))
+}
+
+// Whether the diagonal to corner k has its midpoint inside, crosses no edge and runs over no corner.
+pub fn is_unobstructed(part: &[GridPoint], k: usize) -> bool
+    requires { OnSheetPoints part.now × (k < length part.now) }
+    ensures { result ≡ Obstacles.unobstructed part.now k }
+{
+    let a = Point::new(part[0]);
+    let b = Point::new(part[k]);
+    simple::point_in_polygon(part, a.lerp(b, 0.5)) && !blocked(part, k) && !runs_over(part, k)
 }

@@ -10,15 +10,10 @@ ghost use Rattle.std.specs.Prelude.{◌≡◌, ◌&&◌, ◌||◌, not, ◌/◌,
 ghost use Rattle.call.specs.Call as Call;
 
 // 16, where 1 does not come first. Of the ring's numbers and the chain's, two a point.
+#[tactic(auto, unfolding(call::specs::Call::over24))]
 pub fn over_paper(ring: usize, chain: usize) -> bool
     ensures { result ≡ (not (not (eqb (ring % 2) 0) || not (eqb (chain % 2) 0) || Call.counts_out (ring / 2) (chain / 2))
         && Call.over24 (ring / 2) (chain / 2)) }
 {
-    if lent_points::counts_out(ring, chain) {
-        return false;
-    }
-    if 24 < ring / 2 {
-        return true;
-    }
-    24 < chain / 2
+    !lent_points::counts_out(ring, chain) && (24 < ring / 2 || 24 < chain / 2)
 }

@@ -1,23 +1,37 @@
 -- The pieces that the code holds, one by one: their size, points and marks.
-use Prim.Native.Nat.{ℕ, zero, suc, ◌+◌, ◌-◌, ◌≤◌, ◌<◌}
+use Prim.Native.Nat.{ℕ, zero, suc, ◌+◌, ◌-◌, ◌%◌, ◌≤◌, ◌<◌}
 use native.Mathlib.Numerals.{add-one}
 use native.Mathlib.Omega.{arith}
 use mathlib.Core.Path.{◌≡◌, refl, sym, ap, ◌∙◌}
 use mathlib.Core.List.{List, [], ◌∷◌, map}
-use lib.ListN.{length, get_or, take, length-map, get_or-map}
+use denote.Ref.{Bor}
+use Rattle.std.proofs.Common.{Option, Some, None}
+use Rattle.std.specs.Option.{unwrap_or, option_copied}
+use Rattle.std.specs.Slice.{IsItemAt}
+use lib.ListN.{get_or-eq_default, length, get_or, take, drop, length-map, length-drop, get_or-map}
+use lib.Seq.{get_or-take, get_or-drop, length-take-le}
 use Rattle.laws.specs.Table.{tab}
 use Rattle.laws.proofs.Table.{length_tab, get_d_tab, is_tab, tab_ext}
 use Rattle.vector.specs.declared.GridPoint.{GridPoint}
+use Rattle.vector.specs.Grid.{origin}
 use Rattle.marks.specs.declared.EdgeMark.{EdgeMark}
 use Rattle.marks.specs.declared.Edge.{Edge}
 use Rattle.marks.specs.Edges.{marks_in, straight_edge}
 use Rattle.marks.specs.Part.{Part, no_part}
 use Rattle.parts.specs.declared.Vertex.{Vertex}
 use Rattle.parts.specs.declared.PartList.{PartList}
-use Rattle.parts.specs.Vertices.{vertex, corner_point, edge_at}
+use Rattle.parts.specs.Vertices.{no_vertex, vertex, corner_point, edge_at}
 use Rattle.parts.specs.Layout.{end, size, nth, ValidParts}
 use Rattle.parts.specs.Pieces.{piece_in, marks_of}
-use Rattle.parts.proofs.Stored.{rises, kept_rises}
+use Rattle.parts.proofs.Stored.{get_or-other, rises, kept_rises}
+use Rattle.parts.proofs.Segments.{from_first}
+use Rattle.parts.specs.Layout.{corners_of}
+
+-- corners cut out of a list
+pub corners-cut : (vs : List Vertex) (a k : ℕ) → a + k ≤ length vs → take k (drop a vs) ≡ tab (λ i. vertex vs (a + i)) k
+corners-cut vs a k h =
+    is_tab (take k (drop a vs)) (λ i. vertex vs (a + i)) k no_vertex (length-take-le k (drop a vs) (omega (arith, length-drop a vs)))
+    (λ i l. get_or-take k (drop a vs) i no_vertex l ∙ get_or-drop a vs i no_vertex)
 
 module _ (p : PartList) (i : ℕ) (l : i < p.count) where
   pub piece-nth : (ring : List GridPoint) (es : List EdgeMark) → piece_in ring es p i ≡ nth ring es p i
@@ -49,6 +63,11 @@ marks-taken n marks = take-map (λ (e : Edge). e.mark) n marks
 abbrev pub mark_at : List Edge → List Vertex → ℕ → Edge
 mark_at marks vs i = get_or marks (vertex vs i).edge straight_edge
 
+-- what the code reads of it
+pub mark-read : (marks : List Edge) (k : ℕ) (r : Option (Bor Edge)) → IsItemAt marks k r → unwrap_or (option_copied r) straight_edge ≡ get_or marks k straight_edge
+mark-read marks k None h = sym (get_or-eq_default marks straight_edge h.3)
+mark-read marks k (Some x) h = h.1 ∙ get_or-other marks k x.now straight_edge h.3.0
+
 map_tab : {A B : Type 0} (f : A → B) (g : ℕ → A) (n : ℕ) (d : A) → map f (tab g n) ≡ tab (λ i. f (g i)) n
 map_tab f g n d =
     is_tab (map f (tab g n)) (λ i. f (g i)) n (f d) (length-map (tab g n) f ∙ length_tab g n)
@@ -67,3 +86,16 @@ marks-are p i l marks out e ring =
 pub points_are : (p : PartList) (i : ℕ) → i < p.count → (ring : List GridPoint) (es : List EdgeMark)
     → tab (λ j. corner_point ring p.corners (end p i + j)) (size p i) ≡ (piece_in ring es p i).points
 points_are p i l ring es = sym (ap (λ (q : Part). q.points) (piece-nth p i l ring es))
+
+-- the points of a part's corners are those of the piece
+pub part-points : (p : PartList) (i : ℕ) → i < p.count → (vs : List Vertex) → vs ≡ corners_of p i → (ring : List GridPoint) (es : List EdgeMark)
+    → tab (λ k. corner_point ring vs ((0 + k) % length vs)) (length vs) ≡ (piece_in ring es p i).points
+part-points p i l vs e ring es =
+    let f : ℕ → Vertex = (λ j. vertex p.corners (end p i + j)) in
+    let n : length vs ≡ size p i = ap length e ∙ length_tab f (size p i) in
+    from_first ring vs (length vs)
+    ∙ tab_ext (corner_point ring vs) (λ j. corner_point ring p.corners (end p i + j)) (length vs)
+    (λ j h. ap (λ (v : Vertex). get_or ring v.at origin)
+    (ap (λ (l : List Vertex). vertex l j) e ∙ get_d_tab f (size p i) j no_vertex (omega (arith, n))))
+    ∙ ap (tab (λ j. corner_point ring p.corners (end p i + j))) n
+    ∙ points_are p i l ring es

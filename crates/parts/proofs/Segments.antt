@@ -4,16 +4,16 @@ use native.Mathlib.Nat.{mod-eq_of_lt, add-mod_right, add-zero, zero-add, add-mod
 use native.Mathlib.Numerals.{add-one}
 use native.Mathlib.Omega.{arith}
 use mathlib.Core.Path.{◌≡◌, refl, sym, ap, ◌∙◌}
-use mathlib.Core.Bool.{Bool, true, false}
+use mathlib.Core.Bool.{Bool, true, false, cond}
 use mathlib.Core.List.{List, [], ◌∷◌, ◌++◌, reverse}
-use lib.ListN.{length, get_or, take, drop, get_or-eq_default}
-use lib.Seq.{get_or-take}
+use lib.ListN.{length, get_or, set, take, drop, get_or-eq_default}
+use lib.Seq.{get_or-take, length-take-le}
 use lib.Dec.{ltb}
 use lib.IntN.{ℤ, pos, negsuc, nat_abs}
 use lib.Signed.{non_neg, le_z}
 use borrow.Author.Tests.{lt-ltb, le-ltb, le-leb}
 use Rattle.laws.specs.Table.{tab}
-use Rattle.laws.proofs.Table.{get_d_tab, tab_ext, take-of, drop_of, round_of, reverse_of, rotation_of}
+use Rattle.laws.proofs.Table.{is_tab, more-last, get_d_tab, tab_ext, take-of, drop_of, round_of, reverse_of, rotation_of}
 use Rattle.vector.specs.declared.GridPoint.{GridPoint}
 use Rattle.vector.specs.Grid.{origin, polygon_area}
 use Rattle.marks.specs.declared.EdgeMark.{EdgeMark}
@@ -50,8 +50,35 @@ module _ (vs : List Vertex) (m : ℕ) where
   unfolding backward
   backward-last i a h e = rw (le-ltb (m - 1) (m - 1) (omega arith)) (ap straight (e ∙ ap (λ (k : ℕ). vertex vs (m - 1 - k)) h))
 
+-- the same of the first m corners alone
+pub backward-front : (vs : List Vertex) (m i : ℕ) → i < m → backward (take m vs) m i ≡ backward vs m i
+unfolding backward
+backward-front vs m i l =
+    let a = get_or-take m vs (m - 1 - i) no_vertex (omega arith) in
+    let b = get_or-take m vs (m - 2 - i) no_vertex (omega arith) in
+    λ j. cond (ltb i (m - 1)) (record { at = (a j).at; edge = (b j).edge }) (straight (a j))
+
+pub back-front : (vs : List Vertex) (m : ℕ) → m ≤ length vs → (r : List Vertex)
+    → take (length (take m vs)) r ≡ tab (backward (take m vs) (length (take m vs))) (length (take m vs)) → take m r ≡ tab (backward vs m) m
+back-front vs m h r e =
+    let n = length-take-le m vs h in
+    ap (λ (k : ℕ). take k r) (sym n) ∙ e ∙ (λ j. tab (backward (take m vs) (n j)) (n j))
+    ∙ tab_ext (backward (take m vs) m) (backward vs m) m (λ i l. backward-front vs m i l)
+
 pub read : (r : List Vertex) (f : ℕ → Vertex) (m : ℕ) → take m r ≡ tab f m → (i : ℕ) → i < m → vertex r i ≡ f i
 read r f m e i h = sym (get_or-take m r i no_vertex h) ∙ ap (λ (l : List Vertex). get_or l i no_vertex) e ∙ get_d_tab f m i no_vertex h
+
+-- the first m corners from v on, once the last edge is made straight
+pub closed : (vs : List Vertex) (n v m : ℕ) (out : List Vertex) → 1 ≤ m → m ≤ length out → take m out ≡ tab (λ i. vertex vs ((v + i) % n)) m
+    → take m (set out (m - 1) (straight (vertex out (m - 1)))) ≡ tab (closing vs n v m) m
+closed vs n v m out h l e =
+    let f = closing vs n v m in
+    let r = read out (λ i. vertex vs ((v + i) % n)) m e in
+    let front : take (m - 1) out ≡ tab f (m - 1) =
+    is_tab (take (m - 1) out) f (m - 1) no_vertex (length-take-le (m - 1) out (omega arith))
+    (λ i k. get_or-take (m - 1) out i no_vertex k ∙ r i (omega arith) ∙ closing_in vs n v m i ((v + i) % n) k refl) in
+    more-last f out (m - 1) m _ refl h (omega arith) front
+    (ap straight (r (m - 1) (omega arith)) ∙ closing-last vs n v m (m - 1) ((v + (m - 1)) % n) refl refl)
 
 -- ---- points and edges of a corner
 pub point-of : (ring : List GridPoint) (c d : Vertex) → c ≡ d → get_or ring c.at origin ≡ get_or ring d.at origin
@@ -73,6 +100,14 @@ pub from_first : (ring : List GridPoint) (vs : List Vertex) (m : ℕ) → tab (�
 from_first ring vs m =
     tab_ext (λ i. corner_point ring vs ((0 + i) % m)) (corner_point ring vs) m
     (λ i l. ap (corner_point ring vs) (ap (λ (x : ℕ). x % m) (zero-add i) ∙ mod-eq_of_lt l))
+
+-- of the first m corners alone
+pub front-points : (ring : List GridPoint) (vs : List Vertex) (m : ℕ) → m ≤ length vs
+    → tab (λ i. corner_point ring (take m vs) ((0 + i) % length (take m vs))) (length (take m vs)) ≡ tab (corner_point ring vs) m
+front-points ring vs m h =
+    let n = length-take-le m vs h in
+    (λ j. tab (λ i. corner_point ring (take m vs) ((0 + i) % n j)) (n j)) ∙ from_first ring (take m vs) m
+    ∙ tab_ext (corner_point ring (take m vs)) (corner_point ring vs) m (λ i l. point-of ring _ _ (get_or-take m vs i no_vertex l))
 
 -- ---- make_sub_polygon: the area of the points ps is not negative, or it is
 module _ (ring : List GridPoint) (vs : List Vertex) (m : ℕ) (ps : List GridPoint) (ep : ps ≡ tab (corner_point ring vs) m) where

@@ -1,16 +1,19 @@
 -- A part that is stored after others leaves those as they are, and adds itself to the stack and to the list that they are read back as.
-use Prim.Native.Nat.{ℕ, zero, suc, ◌+◌, ◌-◌, ◌≤◌, ◌<◌}
+use Prim.Native.Nat.{ℕ, zero, suc, ◌+◌, ◌-◌, ◌%◌, ◌≤◌, ◌<◌}
 use native.Mathlib.Numerals.{add-one}
 use native.Mathlib.Omega.{arith}
 use mathlib.Core.Path.{◌≡◌, refl, sym, ap, ◌∙◌}
 use mathlib.Core.Bool.{Bool, true, false}
-use mathlib.Core.List.{List, [], ◌∷◌, ◌++◌}
-use lib.ListN.{length, get_or, take, set, length-set}
-use lib.Seq.{get_or-set_same, get_or-set_other}
+use mathlib.Core.Path.{subst}
+use mathlib.Core.List.{List, [], ◌∷◌, ◌++◌, reverse}
+use lib.Dec.{lit<}
+use lib.ListN.{length, get_or, take, drop, set, length-set, length-append, length-take, length-drop, get_or-append}
+use lib.Seq.{take-length, get_or-set_same, get_or-set_other, get_or-take, get_or-drop, get_or-append-add, length-take-le}
+use borrow.Rule.Slice.PartMut.{put_mid}
 use lib.Dec.{ltb}
 use borrow.Author.Tests.{ltb-true, ltb-false}
 use Rattle.laws.specs.Table.{tab}
-use Rattle.laws.proofs.Table.{tab_ext}
+use Rattle.laws.proofs.Table.{tab_ext, take_tab, rotation_of, reverse_of, get_d_tab}
 use Rattle.vector.specs.declared.GridPoint.{GridPoint}
 use Rattle.marks.specs.declared.EdgeMark.{EdgeMark}
 use Rattle.parts.specs.declared.Vertex.{Vertex}
@@ -76,21 +79,66 @@ module _ (ring : List GridPoint) (es : List EdgeMark) (p r : PartList) where
     pub same-list : list_of ring es r t ≡ list_of ring es p t
     same-list = tab_ext (nth ring es r) (nth ring es p) t (nth-same t e m h)
 
--- ---- a turn of the loop that stores
+-- what stands in a list doesn't hang on the default
+pub get_or-other : {A : Type 0} (l : List A) (i : ℕ) (d e : A) → i < length l → get_or l i d ≡ get_or l i e
+get_or-other [] i d e l = absurd (omega arith)
+get_or-other (x ∷ xs) zero d e l = refl
+get_or-other (x ∷ xs) (suc i) d e l = get_or-other xs i d e (omega (arith, l))
+
+-- ---- places that hold numbers of points, in a part of a list and in a list of two parts
+pub below-take : (n : ℕ) (vs : List Vertex) → Below vs → Below (take n vs)
+below-take zero vs b i = lit< tt
+below-take (suc n) [] b i = lit< tt
+below-take (suc n) (v ∷ vs) b zero = b zero
+below-take (suc n) (v ∷ vs) b (suc i) = below-take n vs (λ j. b (suc j)) i
+
+pub below-drop : (n : ℕ) (vs : List Vertex) → Below vs → Below (drop n vs)
+below-drop n vs b i = rw (get_or-drop n vs i no_vertex) (b (n + i))
+
+pub below-append : (vs ws : List Vertex) → Below vs → Below ws → Below (vs ++ ws)
+below-append [] ws b c i = c i
+below-append (v ∷ vs) ws b c zero = b zero
+below-append (v ∷ vs) ws b c (suc i) = below-append vs ws (λ j. b (suc j)) c i
+
+-- ---- corners ps put over those from place a on
 unseen : {A : Type 0} (l : List A) (i j : ℕ) (x d : A) → j < i → get_or (set l i x) j d ≡ get_or l j d
 unseen l i j x d h = get_or-set_other l i j x d (λ e. omega (arith, e))
 
-module _ (vs ps out : List Vertex) (a i : ℕ) (l : a + i < length out) (s : Stored vs a ps i out) where
-  high : (k : ℕ) → k < i + 1 → (t : Bool) → ltb k i ≡ t → vertex (set out (a + i) (vertex ps i)) (a + k) ≡ vertex ps k
-  high k q true e = unseen out (a + i) (a + k) (vertex ps i) no_vertex (omega (arith, ltb-true k i e)) ∙ s.high k (ltb-true k i e)
-  high k q false e = let g : k ≡ i = omega (arith, ltb-false k i e) in rw g (get_or-set_same out (a + i) (vertex ps i) no_vertex l)
+module _ (vs ps : List Vertex) (a : ℕ) (l : a + length ps ≤ length vs) where
+  abbrev laid : List Vertex
+  laid = put_mid a (length ps) vs ps
 
-  pub store_more : Stored vs a ps (i + 1) (set out (a + i) (vertex ps i))
-  store_more = record {
-    low = λ k q. unseen out (a + i) k (vertex ps i) no_vertex (omega arith) ∙ s.low k q;
-    high = λ k q. high k q (ltb k i) refl;
-    rest = λ k q. get_or-set_other out (a + i) k (vertex ps i) no_vertex (λ e. omega (arith, e)) ∙ s.rest k (omega arith);
+  before : length (take a vs) ≡ a
+  before = length-take-le a vs (omega arith)
+
+  after-of : (i : ℕ) → vertex laid (a + i) ≡ vertex (ps ++ drop (length ps) (drop a vs)) i
+  after-of i =
+      ap (λ (k : ℕ). vertex laid (k + i)) (sym before) ∙ get_or-append-add (take a vs) (ps ++ drop (length ps) (drop a vs)) i no_vertex
+
+  pub laid-stored : Stored vs a ps (length ps) laid
+  laid-stored = record {
+    low = λ i h. get_or-append (take a vs) _ no_vertex i (omega (arith, before)) ∙ get_or-take a vs i no_vertex h;
+    high = λ i h. after-of i ∙ get_or-append ps _ no_vertex i h;
+    rest = λ i h.
+        let j = i - (a + length ps) in
+        let e : i ≡ a + (length ps + j) = omega arith in
+        ap (vertex laid) e ∙ after-of (length ps + j) ∙ get_or-append-add ps (drop (length ps) (drop a vs)) j no_vertex
+        ∙ get_or-drop (length ps) (drop a vs) j no_vertex ∙ get_or-drop a vs (length ps + j) no_vertex ∙ ap (vertex vs) (sym e);
   }
+
+  pub laid-below : Below vs → Below ps → Below laid
+  laid-below b c = below-append (take a vs) _ (below-take a vs b) (below-append ps _ c (below-drop (length ps) (drop a vs) (below-drop a vs b)))
+
+  pub length-laid : length laid ≡ length vs
+  length-laid =
+      omega (
+        arith,
+        length-append (take a vs) (ps ++ drop (length ps) (drop a vs)),
+        before,
+        length-append ps (drop (length ps) (drop a vs)),
+        length-drop (length ps) (drop a vs),
+        length-drop a vs,
+      )
 
 -- ---- what a push gives
 module _ (p : PartList) (k : ValidParts p) (few : p.count < 33) (ps : List Vertex) (n : ℕ) (h3 : 3 ≤ n) (h60 : n ≤ 60) (room : end p p.count + n ≤ 124)
@@ -158,3 +206,46 @@ module _ (p : PartList) (k : ValidParts p) (few : p.count < 33) (ps : List Verte
         ∙ (λ j. same-list ring es p after p.count old-end (kept_rises p k) s.low j ++ (new-part ring es j ∷ []));
     packed = is-packed;
   }
+
+-- the same as the code has it: a is where the parts end, and qs is what was copied
+pub pushed-at : (p : PartList) → ValidParts p → p.count < 33 → (ps : List Vertex) → 3 ≤ length ps → length ps ≤ 60 → end p p.count + length ps ≤ 124
+    → Below ps → (a m : ℕ) (qs : List Vertex) → a ≡ end p p.count → m ≡ length ps → qs ≡ ps
+    → Pushed p ps (length ps) (record { corners = put_mid a m p.corners qs; ends = set p.ends (p.count + 1) (a + length ps); count = p.count + 1 })
+pushed-at p k few ps h3 h60 room b a m qs ea em eq =
+    let l : end p p.count + length ps ≤ length p.corners = omega (arith, k.long) in
+    let r =
+    is_pushed p k few ps (length ps) h3 h60 room (laid p.corners ps (end p p.count) l) (laid-stored p.corners ps (end p p.count) l)
+    (laid-below p.corners ps (end p p.count) l k.below b) (length-laid p.corners ps (end p p.count) l ∙ k.long) in
+    let sa = sym ea in
+    let sm = sym em in
+    let sq = sym eq in
+    subst (Pushed p ps (length ps))
+    (λ j. record { corners = put_mid (sa j) (sm j) p.corners (sq j); ends = set p.ends (p.count + 1) (sa j + length ps); count = p.count + 1 }) r
+
+-- ---- the corners from v on, and then round, as the code goes through them
+abbrev pub turned : List Vertex → ℕ → List Vertex
+turned vs v = take (length vs - v) (drop v vs) ++ take v vs
+
+pub length-turned : (vs : List Vertex) (v : ℕ) → v < length vs → length (turned vs v) ≡ length vs
+length-turned vs v h =
+    omega (arith, length-append (take (length vs - v) (drop v vs)) (take v vs), length-take (length vs - v) (drop v vs), length-drop v vs, length-take v vs)
+
+pub turned-at : (vs : List Vertex) (v i : ℕ) (d : Vertex) → v < length vs → i < length vs
+    → get_or (turned vs v) i d ≡ vertex vs ((v + i) % length vs)
+turned-at vs v i d h l =
+    let a = take_tab vs (length vs) no_vertex (omega arith) in
+    let e : vs ≡ tab (vertex vs) (length vs) = sym (take-length vs) ∙ a in
+    let b : take (length vs - v) (drop v vs) ≡ drop v vs = ap (λ (k : ℕ). take k (drop v vs)) (sym (length-drop v vs)) ∙ take-length (drop v vs) in
+    get_or-other (turned vs v) i d no_vertex (omega (arith, length-turned vs v h))
+    ∙ ap (λ (m : List Vertex). vertex (m ++ take v vs) i) b
+    ∙ ap (λ (m : List Vertex). vertex (drop v m ++ take v m) i) e
+    ∙ ap (λ (m : List Vertex). vertex m i) (rotation_of (vertex vs) (length vs) v h no_vertex)
+    ∙ get_d_tab (λ k. vertex vs ((v + k) % length vs)) (length vs) i no_vertex l
+
+-- and the other way round
+pub reverse-at : (vs : List Vertex) (i : ℕ) (d : Vertex) → i < length vs → get_or (reverse vs) i d ≡ vertex vs (length vs - 1 - i)
+reverse-at vs i d l =
+    let a = take_tab vs (length vs) no_vertex (omega arith) in
+    ap (λ (m : List Vertex). get_or (reverse m) i d) (sym (take-length vs) ∙ a)
+    ∙ ap (λ (m : List Vertex). get_or m i d) (reverse_of (vertex vs) (length vs))
+    ∙ get_d_tab (λ k. vertex vs (length vs - 1 - k)) (length vs) i d l

@@ -23,6 +23,10 @@ size p j = end p (suc j) - end p j
 abbrev pub nth : List GridPoint → List EdgeMark → PartList → ℕ → Part
 nth ring es p j = part_at ring es p.corners (end p j) (size p j)
 
+-- the corners of part j
+abbrev pub corners_of : PartList → ℕ → List Vertex
+corners_of p j = tab (λ i. vertex p.corners (end p j + i)) (size p j)
+
 -- the first t parts, as a stack: the last one first; and as a list
 unfoldable pub stack_of : List GridPoint → List EdgeMark → PartList → ℕ → List Part
 stack_of ring es p zero = []

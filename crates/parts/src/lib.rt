@@ -6,7 +6,7 @@
 
 #![tactic(auto)]
 
-ghost use Rattle.std.specs.Prelude.{◌≡◌, List, ℕ, ◌+◌, ◌%◌, ◌≤◌, ◌<◌, get_or, take};
+ghost use Rattle.std.specs.Prelude.{◌≡◌, List, ℕ, ◌+◌, ◌%◌, ◌≤◌, ◌<◌, length, get_or, take};
 ghost use Rattle.laws.specs.Table.{tab};
 ghost use Rattle.vector.specs.declared.GridPoint.{GridPoint};
 ghost use Rattle.vector.specs.Grid.{origin};
@@ -18,10 +18,11 @@ ghost use Rattle.parts.specs.Vertices.{vertex, corner_point, Below};
 ghost use Rattle.parts.specs.Layout as Layout;
 ghost use Rattle.parts.specs.Pieces.{piece_in, marks_of};
 
-use marks::{Edge, EdgeMark};
+use marks::Edge;
 use vector::{GridPoint, MOST_POINTS, Ring};
 
 // A corner of a part: the number of its point among the ring's, and that of the mark of the edge that starts there.
+// Kept: no Option<u8> for the edge, which would be three bytes a corner in place of two.
 #[derive(Clone, Copy)]
 pub struct Vertex {
     pub at: u8,
@@ -41,6 +42,7 @@ impl Vertex {
 
 // Parts one after the other: part j has the corners from ends[j] to ends[j + 1]. No more than 33 parts and 124 corners are
 // ever held.
+// Kept: arrays with a count beside, in fixed memory.
 #[derive(Clone, Copy)]
 pub struct PartList {
     pub corners: [Vertex; 124],
@@ -48,101 +50,75 @@ pub struct PartList {
     pub count: usize,
 }
 
-// The n corners from place a on.
-pub fn load(vs: [Vertex; 124], a: usize, n: usize) -> [Vertex; MOST_POINTS]
-    requires { (n ≤ most_points) × (a + n ≤ 124) × Below vs }
-    ensures { (take n result ≡ tab (λ i. vertex vs (a + i)) n) × Below result }
-{
-    let mut out = [Vertex::BLANK; MOST_POINTS];
-    for i in 0..n {
-        let c = vs[a + i];
-        out[i] = c;
+impl PartList {
+    // No part.
+    pub const EMPTY: PartList = PartList {
+        corners: [Vertex::BLANK; 124],
+        ends: [0; 34],
+        count: 0,
+    };
+
+    // The corners of part j.
+    pub fn part(&self, j: usize) -> &[Vertex]
+        requires { Layout.ValidParts self.now × (j < self.now.count) }
+        ensures corners { result.now ≡ Layout.corners_of self.now j }
+        ensures size { (length result.now ≡ Layout.size self.now j) × (3 ≤ length result.now) × (length result.now ≤ most_points) }
+        ensures below { Below result.now }
+    {
+        let a = usize::from(self.ends[j]);
+        let b = usize::from(self.ends[j + 1]);
+        &self.corners[a..b]
     }
-    out
+
+    // One part more.
+    pub fn push(&mut self, ps: &[Vertex])
+        requires { Layout.ValidParts self.old × (self.old.count < 33) × (3 ≤ length ps.now) × (length ps.now ≤ most_points)
+            × (Layout.end self.old self.old.count + length ps.now ≤ 124) × Below ps.now }
+        ensures { Layout.Pushed self.old ps.now (length ps.now) self.new }
+    {
+        let a = usize::from(self.ends[self.count]);
+        let b = a + ps.len();
+        self.corners[a..b].copy_from_slice(ps);
+        self.count += 1;
+        self.ends[self.count] = b as u8;
+    }
 }
 
-// The points of n corners, counted from corner v.
-pub fn rotated_points(
-    ring: [GridPoint; MOST_POINTS],
-    vs: [Vertex; MOST_POINTS],
-    n: usize,
-    v: usize,
-) -> Ring
-    requires { (n ≤ most_points) × (v < n) × Below vs × AllOnSheet ring }
-    ensures { (points_of result ≡ tab (λ i. corner_point ring vs ((v + i) % n)) n) × OnSheetRing result × (result.count ≡ n) }
+// The points of a part's corners, counted from corner v, in the first places. The places after them are zero.
+pub fn rotated_points(ring: &[GridPoint; MOST_POINTS], vs: &[Vertex], v: usize) -> Ring
+    requires { (length vs.now ≤ most_points) × (v < length vs.now) × Below vs.now × AllOnSheet ring.now }
+    ensures { (points_of result ≡ tab (λ i. corner_point ring.now vs.now ((v + i) % length vs.now)) (length vs.now)) × OnSheetRing result
+        × (result.count ≡ length vs.now) × ((j : ℕ) → result.count ≤ j → get_or result.points j origin ≡ origin) }
 {
     let mut out = Ring {
         points: [GridPoint::ORIGIN; MOST_POINTS],
-        count: n,
+        count: vs.len(),
     };
-    let mut j = v;
-    for i in 0..n {
-        let c = vs[j];
-        let k = c.at as usize;
-        let p = ring[k];
-        out.points[i] = p;
-        j = vector::next(j, n);
-    }
-    out
-}
-
-// One part more, of n corners.
-pub fn push(p: PartList, ps: [Vertex; MOST_POINTS], n: usize) -> PartList
-    requires { Layout.ValidParts p × (p.count < 33) × (3 ≤ n) × (n ≤ most_points) × (Layout.end p p.count + n ≤ 124) × Below ps }
-    ensures { Layout.Pushed p ps n result }
-{
-    let mut out = p;
-    let t = out.count;
-    let a = out.ends[t] as usize;
-    out.ends[t + 1] = (a + n) as u8;
-    out.count = t + 1;
-    for i in 0..n {
-        let c = ps[i];
-        out.corners[a + i] = c;
+    for (i, c) in vs[v..].iter().chain(&vs[..v]).enumerate() {
+        out.points[i] = ring[usize::from(c.at)];
     }
     out
 }
 
 // The points of piece i, and the marks of its edges, in the first places. The places after them are zero, and straight.
-pub fn piece_points(ring: [GridPoint; MOST_POINTS], pieces: PartList, i: usize) -> Ring
-    requires { Layout.ValidParts pieces × (i < pieces.count) × AllOnSheet ring }
-    ensures { ((es : List EdgeMark) → points_of result ≡ (piece_in ring es pieces i).points) × OnSheetRing result × (result.count ≡ Layout.size pieces i) × (3 ≤ result.count)
+pub fn piece_points(ring: &[GridPoint; MOST_POINTS], pieces: &PartList, i: usize) -> Ring
+    requires { Layout.ValidParts pieces.now × (i < pieces.now.count) × AllOnSheet ring.now }
+    ensures { ((es : List EdgeMark) → points_of result ≡ (piece_in ring.now es pieces.now i).points) × OnSheetRing result
+        × (result.count ≡ Layout.size pieces.now i) × (3 ≤ result.count)
         × ((j : ℕ) → result.count ≤ j → get_or result.points j origin ≡ origin) }
 {
-    let a = pieces.ends[i] as usize;
-    let n = pieces.ends[i + 1] as usize - a;
-    let mut out = Ring {
-        points: [GridPoint::ORIGIN; MOST_POINTS],
-        count: n,
-    };
-    for j in 0..n {
-        let c = pieces.corners[a + j];
-        let k = c.at as usize;
-        let p = ring[k];
-        out.points[j] = p;
-    }
-    out
+    rotated_points(ring, pieces.part(i), 0)
 }
 
-pub fn piece_marks(marks: [Edge; MOST_POINTS], pieces: PartList, i: usize) -> [Edge; MOST_POINTS]
-    requires { Layout.ValidParts pieces × (i < pieces.count) }
-    ensures { ((ring : List GridPoint) → marks_of (take (Layout.size pieces i) result) ≡ (piece_in ring (marks_of marks) pieces i).edges)
-        × ((j : ℕ) → Layout.size pieces i ≤ j → get_or result j straight_edge ≡ straight_edge) }
+pub fn piece_marks(marks: &[Edge; MOST_POINTS], pieces: &PartList, i: usize) -> [Edge; MOST_POINTS]
+    requires { Layout.ValidParts pieces.now × (i < pieces.now.count) }
+    ensures { ((ring : List GridPoint) → marks_of (take (Layout.size pieces.now i) result) ≡ (piece_in ring (marks_of marks.now) pieces.now i).edges)
+        × ((j : ℕ) → Layout.size pieces.now i ≤ j → get_or result j straight_edge ≡ straight_edge) }
 {
-    let a = pieces.ends[i] as usize;
-    let n = pieces.ends[i + 1] as usize - a;
-    let straight = Edge {
-        mark: EdgeMark::Straight,
-    };
-    let mut out = [straight; MOST_POINTS];
-    for j in 0..n {
-        let c = pieces.corners[a + j];
-        let k = c.edge as usize;
-        let mut e = straight;
-        if k < MOST_POINTS {
-            e = marks[k];
-        }
-        out[j] = e;
+    let mut out = [Edge::STRAIGHT; MOST_POINTS];
+    for (j, c) in pieces.part(i).iter().enumerate() {
+        let mark = marks.get(usize::from(c.edge));
+        out[j] = mark.copied().unwrap_or(Edge::STRAIGHT);
     }
     out
 }

@@ -9,7 +9,7 @@
 
 #![tactic(auto)]
 
-ghost use Rattle.std.specs.Prelude.{◌≡◌, true, false, ◌++◌, ◌+◌, ◌*◌, ◌%◌, ◌≤◌, ◌<◌, length};
+ghost use Rattle.std.specs.Prelude.{◌≡◌, true, false, ◌++◌, ◌+◌, ◌*◌, ◌%◌, ◌≤◌, ◌<◌, length, IfOk, OnOk};
 ghost use Rattle.told.specs.Text.{CanTell};
 ghost use Rattle.sketch.specs.Drawn.{drawn, lead_at, most_step};
 ghost use Rattle.frame.specs.Bounds.{extent_of, frame_of};
@@ -21,6 +21,7 @@ use nodes::NodeNumber;
 use sketch::MOST_STEP;
 use state::State;
 use std::io::{Read, Write};
+use stream::WriteFailed;
 use told::Told;
 
 // The blocks of 256 rings.
@@ -31,13 +32,6 @@ const MOST_JOB: usize = 262144;
 pub struct Input {
     pub count: usize,
     pub failed: bool,
-}
-
-// The run one block on, and whether what is drawn of the block was written.
-#[derive(Clone, Copy)]
-struct Moved {
-    state: State,
-    sent: bool,
 }
 
 // How the program ended: so many bytes were read, a picture of so many was written; there were too many to read; or they could
@@ -60,19 +54,7 @@ fn torn(done: usize) -> usize
     requires { done < 4294967296 }
     ensures { (done ≤ result) × (result ≤ done + 1) × (0 < result % 512) }
 {
-    if done % 512 == 0 {
-        return done + 1;
-    }
-    done
-}
-
-fn all_read(count: usize) -> Input
-    ensures { (result.count ≡ count) × (result.failed ≡ false) }
-{
-    Input {
-        count,
-        failed: false,
-    }
+    if done % 512 == 0 { done + 1 } else { done }
 }
 
 // Reads until the list is full or the input ends.
@@ -80,26 +62,27 @@ fn read_job<R: Read>(input: &mut R, bytes: &mut [u8]) -> Input
     requires { length bytes.old ≡ 262145 }
     ensures { (result.count ≤ 262145) × (result.failed ≡ true → 0 < result.count % 512) }
 {
-    let mut done: usize = 0;
-    while done < 262145 {
-        let Ok(more) = input.read(&mut bytes[done..]) else {
-            return Input {
-                count: torn(done),
-                failed: true,
-            };
-        };
-        if more == 0 {
-            return all_read(done);
-        }
-        done += more;
+    match stream::fill(input, bytes) {
+        Ok(count) => Input {
+            count,
+            failed: false,
+        },
+        Err(failed) => Input {
+            count: torn(failed.done),
+            failed: true,
+        },
     }
-    all_read(done)
 }
 
 // Writes the text that is owed after `sent` bytes.
-fn send<W: Write>(output: &mut W, job: &[u8], text: &[u8], sent: &mut u64) -> bool
+fn send<W: Write>(
+    output: &mut W,
+    job: &[u8],
+    text: &[u8],
+    sent: &mut u64,
+) -> Result<(), WriteFailed>
     requires { Owed job.now sent.old text.now × (length text.now ≤ most_step) }
-    ensures { result ≡ true → sent.new ≡ sent.old + length text.now }
+    ensures { OnOk result (sent.new ≡ sent.old + length text.now) }
 {
     stream::write_counted(output, text, sent)
 }
@@ -117,12 +100,12 @@ fn draw_step<W: Write>(
     cells: &[NodeNumber],
     i: usize,
     sent: &mut u64,
-) -> bool
+) -> Result<(), WriteFailed>
     requires { Owed job.now sent.old (drawn f told count points.now nodes.now rims.now cells.now ++ lead_at job.now i)
         × CanTell told cells.now × (count ≤ 60) × (512 * i ≤ length job.now) × (i < 4294967296) }
-    ensures { result ≡ true → Sends sent.old
+    ensures { OnOk result (Sends sent.old
         (drawn f told count points.now nodes.now rims.now cells.now ++ lead_at job.now i)
-        sent.new }
+        sent.new) }
 {
     let mut text = [0u8; MOST_STEP];
     let n = sketch::put_step(
@@ -131,7 +114,7 @@ fn draw_step<W: Write>(
     send(output, job, &text[..n], sent)
 }
 
-// The run after block i, which is drawn when it is told, and whether that was written.
+// The run after block i, which is drawn when it is told.
 fn turn<W: Write>(
     output: &mut W,
     job: &[u8],
@@ -143,20 +126,19 @@ fn turn<W: Write>(
     rims: &mut [u8],
     cells: &mut [NodeNumber],
     sent: &mut u64,
-) -> Moved
+) -> Result<State, WriteFailed>
     requires { Reached job.now i s ring.old nodes.old rims.old × Drew job.now i sent.old × (s.ended ≡ false) × (f ≡ frame_of (extent_of job.now))
         × (length cells.old ≡ 496) × (length job.now < 4294967296) }
-    ensures { Reached job.now (i + 1) result.state ring.new nodes.new rims.new
-        × (result.sent ≡ true → Drew job.now (i + 1) sent.new) }
+    ensures reached { IfOk result (λ next. Reached job.now (i + 1) next ring.new nodes.new rims.new) }
+    ensures drew { OnOk result (Drew job.now (i + 1) sent.new) }
 {
     let stepped = step::step(s, frame::block_at(job, i), ring, nodes, rims, cells);
-    let told = stepped.told;
     let state = stepped.state;
-    let written = draw_step(
+    draw_step(
         output,
         job,
         f,
-        told,
+        stepped.told,
         ring,
         state.count,
         nodes,
@@ -164,11 +146,8 @@ fn turn<W: Write>(
         cells,
         i,
         sent,
-    );
-    Moved {
-        state,
-        sent: written,
-    }
+    )?;
+    Ok(state)
 }
 
 // Writes the nodes that a run has left, after the head and the rings.
@@ -179,25 +158,22 @@ fn draw_nodes<W: Write>(
     rims: &[u8],
     used: usize,
     sent: &mut u64,
-) -> bool
+) -> Result<(), WriteFailed>
     requires { Left job.now used nodes.now rims.now × (sent.old ≡ length (rings_drawn job.now)) × (sent.old ≤ most_rings) }
-    ensures { result ≡ true → Wrote (all_drawn job.now) sent.new }
+    ensures { OnOk result (Wrote (all_drawn job.now) sent.new) }
 {
     for i in 0..used {
         let mut text = [0u8; 256];
         let n = scene::put_node(&mut text, nodes, rims, i);
-        let written = send(output, job, &text[..n], sent);
-        if !written {
-            return false;
-        }
+        send(output, job, &text[..n], sent)?;
     }
-    true
+    Ok(())
 }
 
 // Runs the job over an empty node list, and draws each ring when it is told, then the nodes. The head stands before them.
-fn draw<W: Write>(output: &mut W, job: &[u8], f: Frame, sent: &mut u64) -> bool
+fn draw<W: Write>(output: &mut W, job: &[u8], f: Frame, sent: &mut u64) -> Result<(), WriteFailed>
     requires { (length job.now < 4294967296) × (f ≡ frame_of (extent_of job.now)) × (sent.old ≡ length (head_text f)) × (sent.old ≤ most_head) }
-    ensures { result ≡ true → Wrote (all_drawn job.now) sent.new }
+    ensures { OnOk result (Wrote (all_drawn job.now) sent.new) }
 {
     let mut ring = [0i32; 120];
     let mut nodes = [0.0f64; 3072];
@@ -206,35 +182,24 @@ fn draw<W: Write>(output: &mut W, job: &[u8], f: Frame, sent: &mut u64) -> bool
     let mut s = State::new();
     let mut i: usize = 0;
     while state::goes_on(s) {
-        let t = turn(
+        s = turn(
             output, job, f, i, s, &mut ring, &mut nodes, &mut rims, &mut cells, sent,
-        );
-        if !t.sent {
-            return false;
-        }
-        s = t.state;
+        )?;
         i += 1;
     }
-    let used = s.used;
-    draw_nodes(output, job, &nodes, &rims, used, sent)
+    draw_nodes(output, job, &nodes, &rims, s.used, sent)
 }
 
 // The whole picture of a job.
-fn picture<W: Write>(output: &mut W, job: &[u8], sent: &mut u64) -> bool
+fn picture<W: Write>(output: &mut W, job: &[u8], sent: &mut u64) -> Result<(), WriteFailed>
     requires { (length job.now < 4294967296) × (sent.old ≡ 0) }
-    ensures { result ≡ true → sent.new ≡ length (pictured job.now) }
+    ensures { OnOk result (sent.new ≡ length (pictured job.now)) }
 {
     let mut text = [0u8; MOST_HEAD];
     let f = frame::frame_of(frame::extent_of(job));
     let n = frame::put_head(&mut text, f);
-    let head = send(output, job, &text[..n], sent);
-    if !head {
-        return false;
-    }
-    let drawn = draw(output, job, f, sent);
-    if !drawn {
-        return false;
-    }
+    send(output, job, &text[..n], sent)?;
+    draw(output, job, f, sent)?;
     let m = frame::put_foot(&mut text);
     send(output, job, &text[..m], sent)
 }
@@ -250,14 +215,13 @@ fn draw_job<R: Read, W: Write>(input: &mut R, output: &mut W, bytes: &mut [u8]) 
         return End::TooLong { count };
     }
     let mut sent: u64 = 0;
-    let written = picture(output, &bytes[..count], &mut sent);
-    if !written {
-        return End::Unwritten;
-    }
-    End::Drawn {
-        count,
-        failed: job.failed,
-        sent,
+    match picture(output, &bytes[..count], &mut sent) {
+        Ok(()) => End::Drawn {
+            count,
+            failed: job.failed,
+            sent,
+        },
+        Err(_) => End::Unwritten,
     }
 }
 
@@ -265,7 +229,7 @@ fn draw_job<R: Read, W: Write>(input: &mut R, output: &mut W, bytes: &mut [u8]) 
 fn say<W: Write>(output: &mut W, end: End, words: &[u8])
     requires { words.now ≡ said end }
 {
-    stream::write_all(output, words);
+    let _ = stream::write_all(output, words);
 }
 
 fn say_end<W: Write>(output: &mut W, end: End) {

@@ -7,15 +7,15 @@
 
 ghost use Rattle.std.specs.Prelude.{◌≡◌, ◌*◌, ◌≤◌, length};
 ghost use Rattle.nodes.specs.Flat.{over};
-ghost use Rattle.nodes.specs.Nearby.{ValidNearby};
+ghost use Rattle.nodes.specs.Nearby.{ValidCollected};
 ghost use Rattle.quads.specs.Flat.{over_cells};
 ghost use Rattle.cells.specs.Rims.{rims_by};
-ghost use Rattle.cells.specs.Flat.{CanSubdividePiece, subdivide_in, tried_of, piece_of, subdivide_asks_in};
+ghost use Rattle.cells.specs.Flat.{CanSubdividePiece, part_of, subdivide_in, tried_of, subdivide_asks_in};
 
-use cells::Tried;
-use marks::{Edge, EdgeMark};
-use nodes::{Nearby, NodeNumber};
-use vector::{MOST_POINTS, Ring};
+use cells::{Piece, Tried};
+use marks::Edge;
+use nodes::{Collected, NodeNumber};
+use vector::MOST_POINTS;
 
 // A piece: the attempt with its marks, and where a cell fails with no snap too far, one on straight middles.
 pub fn subdivide(
@@ -23,46 +23,33 @@ pub fn subdivide(
     used: usize,
     rims: &mut [u8],
     cells: &mut [NodeNumber],
-    ring: Ring,
-    edges: [Edge; MOST_POINTS],
-    sides: [bool; MOST_POINTS],
+    piece: &Piece<'_>,
     share: f64,
-    near: Nearby,
-    numbers: &[NodeNumber],
-    xs: &[f64],
+    found: Collected<'_>,
 ) -> Tried
-    requires { CanSubdividePiece share nodes.old used (piece_of ring edges) × (ring.count * 4 ≤ length cells.old) × ValidNearby nodes.old used near
-        numbers.now xs.now
-        × (length (subdivide_in share nodes.old used (piece_of ring edges)).nodes ≤ length rims.old) }
-    ensures { (result ≡ tried_of (subdivide_in share nodes.old used (piece_of ring edges)))
-        × (nodes.new ≡ over nodes.old (subdivide_in share nodes.old used (piece_of ring edges)).nodes)
-        × (cells.new ≡ over_cells cells.old (subdivide_in share nodes.old used (piece_of ring edges)).cells)
-        × (rims.new ≡ rims_by used (length (subdivide_in share nodes.old used (piece_of ring edges)).nodes)
-        (subdivide_asks_in share nodes.old used (piece_of ring edges) sides) rims.old) }
+    requires { CanSubdividePiece share nodes.old used (part_of piece.now) × (length piece.now.points.now * 4 ≤ length cells.old)
+        × ValidCollected nodes.old used found
+        × (length (subdivide_in share nodes.old used (part_of piece.now)).nodes ≤ length rims.old) }
+    ensures { (result ≡ tried_of (subdivide_in share nodes.old used (part_of piece.now)))
+        × (nodes.new ≡ over nodes.old (subdivide_in share nodes.old used (part_of piece.now)).nodes)
+        × (cells.new ≡ over_cells cells.old (subdivide_in share nodes.old used (part_of piece.now)).cells)
+        × (rims.new ≡ rims_by used (length (subdivide_in share nodes.old used (part_of piece.now)).nodes)
+        (subdivide_asks_in share nodes.old used (part_of piece.now) piece.now.sides.now) rims.old) }
 {
-    let t = attempts::attempt(
-        nodes, used, rims, cells, ring, edges, sides, share, near, numbers, xs,
-    );
-    if t.fails == ring.count {
+    let t = attempts::attempt(nodes, used, rims, cells, piece, share, found);
+    if t.fails.is_none() {
         return t;
     }
     if t.far {
         return t;
     }
-    let e = Edge {
-        mark: EdgeMark::Straight,
+    let straight = [Edge::STRAIGHT; MOST_POINTS];
+    let n = piece.points.len();
+    // Kept: `..*piece` is refused, since the struct has ghost fields.
+    let plain = Piece {
+        points: piece.points,
+        edges: &straight[..n],
+        sides: piece.sides,
     };
-    attempts::attempt(
-        nodes,
-        t.used,
-        rims,
-        cells,
-        ring,
-        [e; MOST_POINTS],
-        sides,
-        share,
-        near,
-        numbers,
-        xs,
-    )
+    attempts::attempt(nodes, t.used, rims, cells, &plain, share, found)
 }

@@ -1,11 +1,11 @@
 -- Points added one by one to the lent node list of nodes' Flat: what a function that does so asks of the list, and what it
 -- leaves. Then the points that a piece adds: its corners, and the middles of its edges. Definitions only.
 use Rattle.std.specs.Prelude.{ℕ, suc, ◌*◌, ◌%◌, ◌≤◌, ◌<◌, Bool, ◌≡◌, List, length, get_or, take, Float}
-use Rattle.vector.specs.declared.Ring.{Ring}
+use Rattle.vector.specs.declared.GridPoint.{GridPoint}
 use Rattle.vector.specs.declared.Point.{Point}
 use Rattle.vector.specs.Grid.{origin}
 use Rattle.vector.specs.Plane.{in_mm}
-use Rattle.vector.specs.Rings.{most_points, points_of}
+use Rattle.vector.specs.Rings.{most_points}
 use Rattle.marks.specs.declared.Edge.{Edge}
 use Rattle.marks.specs.declared.EdgeMark.TheVariants.{Straight}
 use Rattle.marks.specs.Edges.{marks_in}
@@ -32,8 +32,8 @@ pub record Adds (l : List Float) (u : ℕ) (p : ℕ → Point) (n : ℕ) (m : Li
   pub nodes : m ≡ over l (add_nodes (nodes_in l u) p n).nodes
 
 -- ---- corner i of a piece, in mm
-abbrev pub corner_at : Ring → ℕ → Point
-corner_at r i = in_mm (get_or (points_of r) i origin)
+abbrev pub corner_at : List GridPoint → ℕ → Point
+corner_at ps i = in_mm (get_or ps i origin)
 
 -- ---- edges, the corners' numbers being vs
 -- the listed node of corner i, counted on past the last to the first

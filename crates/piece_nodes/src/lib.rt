@@ -7,16 +7,17 @@
 
 ghost use Rattle.std.specs.Prelude.{◌≡◌, length};
 ghost use Rattle.laws.specs.Bounded.{any};
-ghost use Rattle.vector.specs.Rings.{most_points, OnSheetRing};
-ghost use Rattle.nodes.specs.Nearby.{ValidNearby};
+ghost use Rattle.vector.specs.Rings.{most_points};
+ghost use Rattle.nodes.specs.Nearby.{ValidCollected};
 ghost use Rattle.quads.specs.Flat.{ListedTo};
 ghost use Rattle.piece_nodes.specs.Adding.{CanAdd, Adds, corner_at, middle_at, far_at};
 
 use marks::Edge;
-use nodes::{Nearby, NodeNumber};
-use vector::{MOST_POINTS, Point, Ring};
+use nodes::{Collected, NodeNumber};
+use vector::{GridPoint, Point};
 
 // What adding edge middles came to: the used nodes, and whether a snap was too far.
+// Kept: a count and a flag, which hold in any case, so neither is an Option.
 #[derive(Clone, Copy)]
 pub struct MiddlesAdded {
     pub used: usize,
@@ -27,21 +28,17 @@ pub struct MiddlesAdded {
 pub fn add_corners(
     nodes: &mut [f64],
     used: usize,
-    ring: Ring,
-    near: Nearby,
-    numbers: &[NodeNumber],
-    xs: &[f64],
+    points: &[GridPoint],
+    found: Collected<'_>,
     list: &mut [NodeNumber],
 ) -> usize
-    requires { CanAdd nodes.old used (corner_at ring) ring.count × OnSheetRing ring × ValidNearby nodes.old used near numbers.now xs.now
-        × (length list.old ≡ most_points) }
-    ensures { Adds nodes.old used (corner_at ring) ring.count nodes.new result list.new }
+    requires { CanAdd nodes.old used (corner_at points.now) (length points.now)
+        × ValidCollected nodes.old used found × (length list.old ≡ most_points) }
+    ensures { Adds nodes.old used (corner_at points.now) (length points.now) nodes.new result list.new }
 {
-    let n = ring.count;
     let mut at = used;
-    for i in 0..n {
-        let p = ring.points[i];
-        let r = numbering::add_node(nodes, at, Point::new(p), near, numbers, xs);
+    for (i, p) in points.iter().enumerate() {
+        let r = numbering::add_node(nodes, at, Point::new(*p), found);
         list[i] = r.number;
         at = r.used;
     }
@@ -52,34 +49,30 @@ pub fn add_corners(
 pub fn add_middles(
     nodes: &mut [f64],
     used: usize,
-    vs: [NodeNumber; MOST_POINTS],
-    marks: [Edge; MOST_POINTS],
-    n: usize,
+    vs: &[NodeNumber],
+    marks: &[Edge],
     share: f64,
-    near: Nearby,
-    numbers: &[NodeNumber],
-    xs: &[f64],
+    found: Collected<'_>,
     list: &mut [NodeNumber],
 ) -> MiddlesAdded
-    requires { CanAdd nodes.old used (middle_at share nodes.old used vs marks n) n × ListedTo used vs n × ValidNearby nodes.old used near
-        numbers.now xs.now × (length list.old ≡ most_points) }
-    ensures { Adds nodes.old used (middle_at share nodes.old used vs marks n) n nodes.new result.used list.new
-        × (result.far ≡ any (far_at share nodes.old used vs marks n) n) }
+    requires { CanAdd nodes.old used (middle_at share nodes.old used vs.now marks.now (length vs.now)) (length vs.now)
+        × ListedTo used vs.now (length vs.now) × (length marks.now ≡ length vs.now)
+        × ValidCollected nodes.old used found × (length list.old ≡ most_points) }
+    ensures { Adds nodes.old used (middle_at share nodes.old used vs.now marks.now (length vs.now)) (length vs.now) nodes.new
+        result.used list.new
+        × (result.far ≡ any (far_at share nodes.old used vs.now marks.now (length vs.now)) (length vs.now)) }
 {
     let mut at = used;
     let mut far = false;
-    for i in 0..n {
-        let j = vector::next(i, n);
+    for (i, e) in marks.iter().enumerate() {
+        let j = vector::next(i, vs.len());
         let a = quads::node_at(nodes, vs[i]);
         let b = quads::node_at(nodes, vs[j]);
-        let e = marks[i];
-        let k = e.mark;
-        let m = quads::edge_middle(k, a, b, share);
-        let q = m.at;
-        let r = numbering::add_node(nodes, at, q, near, numbers, xs);
+        let m = quads::edge_middle(e.mark, a, b, share);
+        let r = numbering::add_node(nodes, at, m.at, found);
         list[i] = r.number;
         at = r.used;
-        far = far | m.far;
+        far |= m.far;
     }
-    MiddlesAdded { used: at, far: far }
+    MiddlesAdded { used: at, far }
 }

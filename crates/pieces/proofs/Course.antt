@@ -15,11 +15,8 @@ use lib.Ieee.{Float}
 use Rattle.laws.specs.All.{All}
 use Rattle.vector.specs.declared.GridPoint.{GridPoint}
 use Rattle.vector.specs.declared.Point.{Point}
-use Rattle.vector.specs.Rings.{points_of, OnSheetRing}
 use Rattle.marks.specs.declared.Edge.{Edge}
-use Rattle.marks.specs.declared.MarkedRing.{MarkedRing}
 use Rattle.marks.specs.Part.{Part, no_part}
-use Rattle.marks.specs.Edges.{part_in}
 use Rattle.parts.specs.declared.PartList.{PartList}
 use Rattle.parts.specs.Pieces.{piece_in, marks_of}
 use Rattle.nodes.specs.Growth.{Grown, Anything, InRange, EachNode}
@@ -38,15 +35,17 @@ use Rattle.cells.specs.Claims.{ValidPiece, corners_to, CellsOf}
 use Rattle.cells.specs.Asks.{Ask, of_ring, subdivide_asks, onward_asks, asks_to}
 use Rattle.cells.specs.Rims.{rims_by}
 use Rattle.cells.specs.Flat.{subdivide_in, subdivide_asks_in, tried_of, CanSubdividePiece}
-use Rattle.quads.specs.Flat.{over_cells}
-use Rattle.cells.proofs.Attempts.{onward-done, pieces-any, pieces-later, subdivide-any}
+use Rattle.quads.specs.Flat.{found, over_cells}
+use Rattle.cells.proofs.Attempts.{onward-done, pieces-any, pieces-later, subdivide-any, subdivide-fails}
 use Rattle.cells.proofs.Ranges.{pieces_in_range}
 use Rattle.cells.proofs.NewCells.{subdivide-cells, pieces-cells}
 use Rattle.piece_nodes.proofs.Adding.{nodes-ranged, over-usable}
 use Rattle.cells.proofs.Rims.{rims_length, rims-none, rims_then}
 use Rattle.cells.proofs.Asking.{Below, asks-listed}
-use Rattle.pieces.specs.declared.Subdivision.{Subdivision}
-use Rattle.pieces.specs.declared.Subdivision.TheVariants.{Done, Failed}
+use Rattle.std.specs.Prelude.{Some, None, Result, Ok, Err}
+use Rattle.pieces.specs.declared.Laid.{Laid}
+use Rattle.pieces.specs.declared.FailedPiece.{FailedPiece}
+use Rattle.quads.proofs.CellList as cell
 use Rattle.pieces.specs.Flat.{pieces_in, every_mark, labelled_in, CanSubdivide, row, row_of, over_from, cells_left_of}
 use Rattle.pieces.proofs.CellPlaces.{from-none, length_from, part-back, from_more, from-again}
 
@@ -67,18 +66,15 @@ pub record Reached (share : Float) (l : List Float) (u : ℕ) (rs q : List ℕ) 
   pub place : at ≡ first + length cs
   pub rims : ts ≡ rims_by u (length ns) (asks_at share l u ring es p i) rs
 
--- piece i was read, bs saying which of its edges are ring edges
-pub record Read (ring : List GridPoint) (es : List Edge) (p : PartList) (i : ℕ) (piece : MarkedRing) (bs : List Bool) : Type 0 where
+-- piece i was read, of n corners, bs saying which of its edges are ring edges
+pub record Read (ring : List GridPoint) (es : List Edge) (p : PartList) (i n : ℕ) (piece : Part) (bs : List Bool) : Type 0 where
   pub count : i < p.count
-  pub some : 3 ≤ piece.ring.count
-  pub sheet : OnSheetRing piece.ring
-  pub corners : piece.ring.count ≡ length (piece_in ring (marks_of es) p i).points
-  pub points : points_of piece.ring ≡ (piece_in ring (marks_of es) p i).points
-  pub marks : marks_of (take piece.ring.count piece.edges) ≡ (piece_in ring (marks_of es) p i).edges
+  pub corners : n ≡ length (piece_in ring (marks_of es) p i).points
+  pub is : piece ≡ piece_in ring (marks_of es) p i
   pub sides : (j : ℕ) → get_or bs j false ≡ of_ring (piece_in ring every_mark p i) j
 
 -- what is left when the loop ends: the answer, the nodes, the cells and, with all that was asked for, the rim marks
-abbrev pub Left : List Float → ℕ → List ℕ → List ℕ → ℕ → ℕ → Outcome → List Ask → Subdivision → List Float → List ℕ → List ℕ → Type 0
+abbrev pub Left : List Float → ℕ → List ℕ → List ℕ → ℕ → ℕ → Outcome → List Ask → Result Laid FailedPiece → List Float → List ℕ → List ℕ → Type 0
 Left l u rs q first reserve o ks a m ts r =
     (row a ≡ row_of o) × (m ≡ over l (nodes_of o)) × (r ≡ over_from q first (cells_left_of reserve o)) × (ts ≡ rims_by u (length (nodes_of o)) ks rs)
 
@@ -156,31 +152,28 @@ module _ {share : Float} {l : List Float} {u : ℕ} {q : List ℕ} {first reserv
         held-over l m u v s.ns c numbers xs s.nodes s.used
         (subst (λ (o : Outcome). Grown Anything (nodes_in l u) (nodes_of o)) s.is (pieces-any share ps (nodes_in l u) i)) h
 
-    pub all_done : i ≡ p.count → Left l u rs q first reserve (O p.count) (asks p.count) (Done v (at - first)) m ts r
+    pub all_done : i ≡ p.count → Left l u rs q first reserve (O p.count) (asks p.count) (Ok (record { nodes = v; cells = at - first })) m ts r
     all_done e =
         let o : O p.count ≡ done s.ns s.cs = ap O (sym e) ∙ s.is in
         let d : at - first ≡ length s.cs = omega (arith, s.place) in (
-          subst (λ (o : Outcome). row (Done v (at - first)) ≡ row_of o) (sym o) (λ j. row (Done (s.used j) (d j))),
+          subst (λ (o : Outcome). row (Ok (record { nodes = v; cells = at - first })) ≡ row_of o) (sym o) (λ j. row (Ok (record { nodes = s.used j; cells = d j }))),
           s.nodes ∙ ap (λ (o : Outcome). over l (nodes_of o)) (sym o),
           s.cells ∙ ap (λ (o : Outcome). over_from q first (cells_left_of reserve o)) (sym o),
           s.rims ∙ (λ j. rims_by u (length (nodes_of (sym o j))) (asks (e j)) rs),
         )
 
     -- piece i
-    module _ {piece : MarkedRing} {bs : List Bool} (k : Read ring es p i piece bs) where
+    module _ {n : ℕ} {piece : Part} {bs : List Bool} (k : Read ring es p i n piece bs) where
       abbrev P : Part
       P = piece_in ring (marks_of es) p i
 
       abbrev S : Attempt
       S = subdivide share s.ns P
 
-      part-is : part_in piece ≡ P
-      part-is = λ j. record { points = k.points j; edges = k.marks j }
-
       divided-is : subdivide_in share m v piece ≡ S
-      divided-is = λ j. subdivide share (now-is j) (part-is j)
+      divided-is = λ j. subdivide share (now-is j) (k.is j)
 
-      corners : length P.points ≡ piece.ring.count
+      corners : length P.points ≡ n
       corners = sym k.corners
 
       next-is : O (i + 1) ≡ onward share (done s.ns s.cs) P
@@ -193,7 +186,7 @@ module _ {share : Float} {l : List Float} {u : ℕ} {q : List ℕ} {first reserv
           (arith, ap (λ (o : Outcome). length (nodes_of o)) next-is, ap length (onward-done share s.ns s.cs P), rise (i + 1) (omega (arith, k.count)))
 
       -- the cells of this piece stay k .count the reserve
-      ahead : length s.cs + piece.ring.count ≤ reserve
+      ahead : length s.cs + n ≤ reserve
       ahead = let b : corners_to ps i + length P.points ≤ reserve = below (suc i) k.count in omega (arith, b, made, corners)
 
       pub can : CanSubdividePiece share m v piece
@@ -201,9 +194,7 @@ module _ {share : Float} {l : List Float} {u : ℕ} {q : List ℕ} {first reserv
           let z = ap (λ (t : Attempt). length t.nodes) divided-is in
           record {
             usable = usable (omega (arith, k.count));
-            some = omega (arith, k.some);
-            sheet = k.sheet;
-            fair = subst ValidPiece (sym part-is) (f.fair i k.count);
+            fair = subst ValidPiece (sym k.is) (f.fair i k.count);
             fits = omega (arith, z, grown, f.fits);
             room = omega (arith, z, grown, f.room, long-nodes (omega (arith, k.count)));
           }
@@ -212,10 +203,10 @@ module _ {share : Float} {l : List Float} {u : ℕ} {q : List ℕ} {first reserv
       pub rim-room : length (nodes_of (O p.count)) ≤ length rs → length (subdivide_in share m v piece).nodes ≤ length ts
       rim-room h = omega (arith, ap (λ (t : Attempt). length t.nodes) divided-is, grown, h, long-rims)
 
-      pub cell_room : at * 4 + piece.ring.count * 4 ≤ length r
+      pub cell_room : at * 4 + n * 4 ≤ length r
       cell_room = omega (arith, s.place, ahead, f.places, long-cells (omega (arith, k.count)))
 
-      new-cells : length S.cells ≡ piece.ring.count
+      new-cells : length S.cells ≡ n
       new-cells = (subdivide-cells share s.ns P).many ∙ corners
 
       -- what it asks for
@@ -223,7 +214,7 @@ module _ {share : Float} {l : List Float} {u : ℕ} {q : List ℕ} {first reserv
       A = subdivide_asks share s.ns P (of_ring (piece_in ring every_mark p i))
 
       asks-are : subdivide_asks_in share m v piece bs ≡ A
-      asks-are = λ j. subdivide_asks share (now-is j) (part-is j) (fun_ext k.sides j)
+      asks-are = λ j. subdivide_asks share (now-is j) (k.is j) (fun_ext k.sides j)
 
       asks-next : asks (i + 1) ≡ asks i ++ A
       unfolding asks_to onward_asks
@@ -243,6 +234,14 @@ module _ {share : Float} {l : List Float} {u : ℕ} {q : List ℕ} {first reserv
         abbrev r' : List ℕ
         r' = put_mid (at * 4) (length r - at * 4) r x
 
+        -- the cell that fails, if one does
+        fails-is : t.fails ≡ found (length S.cells) S.fails
+        fails-is = ap (λ (t : Tried). t.fails) (e.0 ∙ ap tried_of divided-is)
+
+        none-fails : t.fails ≡ None → S.fails ≡ n
+        none-fails g =
+            omega (arith, subdivide-fails share s.ns P, corners, new-cells, cell.found-over (length S.cells) S.fails (sym fails-is ∙ g))
+
         told : t ≡ tried_of S
         told = e.0 ∙ ap tried_of divided-is
 
@@ -261,7 +260,7 @@ module _ {share : Float} {l : List Float} {u : ℕ} {q : List ℕ} {first reserv
             ∙ rims_then u (length s.ns) (length S.nodes) (asks i) A rs before (subdivide-any share s.ns P).longer asked-before
             ∙ ap (λ (a : List Ask). rims_by u (length S.nodes) a rs) (sym asks-next)
 
-        both : length (s.cs ++ S.cells) ≡ length s.cs + piece.ring.count
+        both : length (s.cs ++ S.cells) ≡ length s.cs + n
         both = omega (arith, length-append s.cs S.cells, new-cells)
 
         long_after : length r' ≡ length q
@@ -270,23 +269,23 @@ module _ {share : Float} {l : List Float} {u : ℕ} {q : List ℕ} {first reserv
         pub clear_room : (first + reserve) * 4 ≤ length r'
         clear_room = omega (arith, long_after, f.places)
 
-        won : S.fails ≡ piece.ring.count → O (i + 1) ≡ done S.nodes (s.cs ++ S.cells)
+        won : S.fails ≡ n → O (i + 1) ≡ done S.nodes (s.cs ++ S.cells)
         unfolding onward
         won g = next-is ∙ rw (eq-eqb S.fails (length P.points) (g ∙ sym corners))
 
-        lost : (S.fails ≡ piece.ring.count → ⊥) → O (i + 1) ≡ failed S.nodes piece.ring.count S.fails
+        lost : (S.fails ≡ n → ⊥) → O (i + 1) ≡ failed S.nodes n S.fails
         unfolding onward
         lost g =
             let a : onward share (done s.ns s.cs) P ≡ failed S.nodes (length P.points) S.fails =
             rw (ne_eqb S.fails (length P.points) (λ b. g (b ∙ corners))) in
             next-is ∙ a ∙ ap (λ (k : ℕ). failed S.nodes k S.fails) corners
 
-        pub go_on : t.fails ≡ piece.ring.count → Reached share l u rs q first ring es p (i + 1) m' t.used ts' r' (at + piece.ring.count)
+        pub go_on : t.fails ≡ None → Reached share l u rs q first ring es p (i + 1) m' t.used ts' r' (at + n)
         go_on g =
             record {
               ns = S.nodes;
               cs = s.cs ++ S.cells;
-              is = won (sym (ap (λ (t : Tried). t.fails) told) ∙ g);
+              is = won (none-fails g);
               nodes = nodes-now;
               used = ap (λ (t : Tried). t.used) told;
               cells = cells-now;
@@ -295,14 +294,14 @@ module _ {share : Float} {l : List Float} {u : ℕ} {q : List ℕ} {first reserv
             }
 
         -- after a failure no piece adds anything
-        stays : (d : ℕ) → O (i + 1) ≡ failed S.nodes piece.ring.count S.fails → O (i + 1 + d) ≡ failed S.nodes piece.ring.count S.fails
+        stays : (d : ℕ) → O (i + 1) ≡ failed S.nodes n S.fails → O (i + 1 + d) ≡ failed S.nodes n S.fails
         unfolding pieces_to onward
         stays zero g = let a : i + 1 + zero ≡ i + 1 = omega arith in ap O a ∙ g
         stays (suc d) g =
             let a : i + 1 + suc d ≡ suc (i + 1 + d) = omega arith in ap O a ∙ ap (λ (o : Outcome). onward share o (get_or ps (i + 1 + d) no_part)) (stays d g)
 
         -- and none asks for anything
-        none-asked : (d : ℕ) → O (i + 1) ≡ failed S.nodes piece.ring.count S.fails → asks (i + 1 + d) ≡ asks (i + 1)
+        none-asked : (d : ℕ) → O (i + 1) ≡ failed S.nodes n S.fails → asks (i + 1 + d) ≡ asks (i + 1)
         unfolding asks_to onward_asks
         none-asked zero g = let a : i + 1 + zero ≡ i + 1 = omega arith in ap asks a
         none-asked (suc d) g =
@@ -327,16 +326,16 @@ module _ {share : Float} {l : List Float} {u : ℕ} {q : List ℕ} {first reserv
           pub long-cleared : length r'' ≡ length q
           long-cleared = ap length cleared ∙ length_from q first (replicate reserve no_cell) (omega (arith, length-replicate reserve no_cell, f.places))
 
-          pub after-failure : (t.fails ≡ piece.ring.count → ⊥)
-              → Left l u rs q first reserve (O p.count) (asks p.count) (Failed piece.ring.count t.fails t.used) m' ts' r''
-          after-failure g =
-              let a = ap (λ (t : Tried). t.fails) told in
+          pub after-failure : {j : ℕ} → t.fails ≡ Some j
+              → Left l u rs q first reserve (O p.count) (asks p.count) (Err (record { corners = n; k = j; nodes = t.used })) m' ts' r''
+          after-failure {j} g =
+              let z = cell.found-is (length S.cells) S.fails j (sym fails-is ∙ g) in
               let b : i + 1 + (p.count - (i + 1)) ≡ p.count = omega (arith, k.count) in
-              let w = lost (λ z. g (a ∙ z)) in
-              let o : O p.count ≡ failed S.nodes piece.ring.count S.fails = ap O (sym b) ∙ stays (p.count - (i + 1)) w in
+              let w = lost (λ y. omega (arith, y, z.0, new-cells)) in
+              let o : O p.count ≡ failed S.nodes n S.fails = ap O (sym b) ∙ stays (p.count - (i + 1)) w in
               let d : asks p.count ≡ asks (i + 1) = ap asks (sym b) ∙ none-asked (p.count - (i + 1)) w in (
-                subst (λ (o : Outcome). row (Failed piece.ring.count t.fails t.used) ≡ row_of o) (sym o)
-                    (λ j. row (Failed piece.ring.count (a j) (told j).used)),
+                subst (λ (o : Outcome). row (Err (record { corners = n; k = j; nodes = t.used })) ≡ row_of o) (sym o)
+                    (λ h. row (Err (record { corners = n; k = sym z.1 h; nodes = (told h).used }))),
                 nodes-now ∙ ap (λ (o : Outcome). over l (nodes_of o)) (sym o),
                 cleared ∙ ap (λ (o : Outcome). over_from q first (cells_left_of reserve o)) (sym o),
                 rims-now ∙ (λ j. rims_by u (length (nodes_of (sym o j))) (sym d j) rs),

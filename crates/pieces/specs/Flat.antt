@@ -1,5 +1,5 @@
 -- The pieces of a split ring over the lent lists of nodes and of cells: what is asked of these, what is answered, and what is left in them. Definitions only.
-use Rattle.std.specs.Prelude.{ℕ, ◌+◌, ◌*◌, ◌≤◌, ◌<◌, List, ◌++◌, length, take, drop, replicate, Float}
+use Rattle.std.specs.Prelude.{ℕ, ◌+◌, ◌*◌, ◌≤◌, ◌<◌, List, ◌++◌, length, take, drop, replicate, Result, Ok, Err, Float}
 use Rattle.vector.specs.declared.GridPoint.{GridPoint}
 use Rattle.vector.specs.Size.{AllOnSheet}
 use Rattle.vector.specs.Rings.{most_points}
@@ -18,8 +18,8 @@ use Rattle.cells.specs.Stages.{nodes_of}
 use Rattle.cells.specs.Claims.{ValidPiece, corners_to}
 use Rattle.cells.specs.Asks.{Ask, label, asks_to}
 use Rattle.quads.specs.Flat.{over_cells}
-use Rattle.pieces.specs.declared.Subdivision.{Subdivision}
-use Rattle.pieces.specs.declared.Subdivision.TheVariants.{Done, Failed}
+use Rattle.pieces.specs.declared.Laid.{Laid}
+use Rattle.pieces.specs.declared.FailedPiece.{FailedPiece}
 
 -- the pieces that p holds, of the ring's points and the marks of its edges
 abbrev pub pieces_in : List GridPoint → List Edge → PartList → List Part
@@ -63,9 +63,9 @@ pub record PiecesRow : Type 0 where
   pub cells : ℕ
 
 -- the row of each case. 0: "new counts"; 8: "corners of the piece, k", and "the new node count"
-abbrev pub row : Subdivision → PiecesRow
-row (Done nodes cells) = record { code = 0; corners = 0; k = 0; nodes = nodes; cells = cells }
-row (Failed corners k nodes) = record { code = 8; corners = corners; k = k; nodes = nodes; cells = 0 }
+abbrev pub row : Result Laid FailedPiece → PiecesRow
+row (Ok d) = record { code = 0; corners = 0; k = 0; nodes = d.nodes; cells = d.cells }
+row (Err f) = record { code = 8; corners = f.corners; k = f.k; nodes = f.nodes; cells = 0 }
 
 -- the row of what pieces come to
 abbrev pub row_of : Outcome → PiecesRow

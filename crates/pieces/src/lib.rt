@@ -11,7 +11,7 @@ ghost use Rattle.vector.specs.declared.GridPoint.{GridPoint};
 ghost use Rattle.parts.specs.Layout.{ValidParts};
 ghost use Rattle.parts.specs.Pieces.{piece_in};
 ghost use Rattle.nodes.specs.Flat.{over};
-ghost use Rattle.nodes.specs.Nearby.{ValidNearby};
+ghost use Rattle.nodes.specs.Nearby.{ValidCollected};
 ghost use Rattle.quads.specs.Quads.{no_cell};
 ghost use Rattle.cells.specs.Stages.{nodes_of};
 ghost use Rattle.cells.specs.Asks.{of_ring};
@@ -19,24 +19,25 @@ ghost use Rattle.cells.specs.Rims.{rims_by};
 ghost use Rattle.quads.specs.Flat.{over_cells};
 ghost use Rattle.pieces.specs.Flat.{outcome_in, every_mark, asks_in, CanSubdivide, row, row_of, over_from, cells_left_of};
 
+use cells::Piece;
 use marks::MarkedRing;
-use nodes::{Nearby, NodeNumber};
+use nodes::{Collected, NodeNumber};
 use parts::{PartList, Vertex};
 use vector::MOST_POINTS;
 
-// The count of nodes, and of the cells that all pieces have; or the corners of the piece and its first cell that fails,
-// and the count of nodes, which stay.
+// The count of nodes, and of the cells that all pieces have.
 #[derive(Clone, Copy)]
-pub enum Subdivision {
-    Done {
-        nodes: usize,
-        cells: usize,
-    },
-    Failed {
-        corners: usize,
-        k: usize,
-        nodes: usize,
-    },
+pub struct Laid {
+    pub nodes: usize,
+    pub cells: usize,
+}
+
+// The corners of the piece that failed and its first cell that fails, and the count of nodes, which stay.
+#[derive(Clone, Copy)]
+pub struct FailedPiece {
+    pub corners: usize,
+    pub k: usize,
+    pub nodes: usize,
 }
 
 // Zeros over the first n cells.
@@ -44,21 +45,16 @@ fn clear(cells: &mut [NodeNumber], n: usize)
     requires { n * 4 ≤ length cells.old }
     ensures { cells.new ≡ over_cells cells.old (replicate n no_cell) }
 {
-    for i in 0..n * 4 {
-        cells[i] = 0;
-    }
+    cells[..n * 4].fill(0);
 }
 
 // Which edges of piece i are edges of the ring: the diagonal of a cut is straight by its number.
-fn piece_sides(pieces: PartList, i: usize) -> [bool; MOST_POINTS]
-    requires { ValidParts pieces × (i < pieces.count) }
-    ensures { (ring : List GridPoint) (j : ℕ) → get_or result j false ≡ of_ring (piece_in ring every_mark pieces i) j }
+fn piece_sides(pieces: &PartList, i: usize) -> [bool; MOST_POINTS]
+    requires { ValidParts pieces.now × (i < pieces.now.count) }
+    ensures { (ring : List GridPoint) (j : ℕ) → get_or result j false ≡ of_ring (piece_in ring every_mark pieces.now i) j }
 {
-    let a = pieces.ends[i] as usize;
-    let n = pieces.ends[i + 1] as usize - a;
     let mut out = [false; MOST_POINTS];
-    for j in 0..n {
-        let c = pieces.corners[a + j];
+    for (j, c) in pieces.part(i).iter().enumerate() {
         out[j] = c.edge < Vertex::STRAIGHT;
     }
     out
@@ -73,61 +69,50 @@ pub fn subdivide_all(
     cells: &mut [NodeNumber],
     first: usize,
     reserve: usize,
-    ring: MarkedRing,
-    pieces: PartList,
+    ring: &MarkedRing,
+    pieces: &PartList,
     share: f64,
-    near: Nearby,
-    numbers: &[NodeNumber],
-    xs: &[f64],
-) -> Subdivision
-    requires { CanSubdivide share nodes.old used cells.old first reserve ring.ring.points ring.edges pieces
-        × (length (nodes_of (outcome_in share nodes.old used ring.ring.points ring.edges pieces)) ≤ length rims.old)
-        × ValidNearby nodes.old used near numbers.now xs.now }
-    ensures { (row result ≡ row_of (outcome_in share nodes.old used ring.ring.points ring.edges pieces))
-        × (nodes.new ≡ over nodes.old (nodes_of (outcome_in share nodes.old used ring.ring.points ring.edges pieces)))
+    found: Collected<'_>,
+) -> Result<Laid, FailedPiece>
+    requires { CanSubdivide share nodes.old used cells.old first reserve ring.now.ring.points ring.now.edges pieces.now
+        × (length (nodes_of (outcome_in share nodes.old used ring.now.ring.points ring.now.edges pieces.now)) ≤ length rims.old)
+        × ValidCollected nodes.old used found }
+    ensures { (row result ≡ row_of (outcome_in share nodes.old used ring.now.ring.points ring.now.edges pieces.now))
+        × (nodes.new ≡ over nodes.old (nodes_of (outcome_in share nodes.old used ring.now.ring.points ring.now.edges pieces.now)))
         × (cells.new ≡ over_from cells.old first (cells_left_of reserve
-        (outcome_in share nodes.old used ring.ring.points ring.edges pieces)))
-        × (rims.new ≡ rims_by used (length (nodes_of (outcome_in share nodes.old used ring.ring.points ring.edges pieces)))
-        (asks_in share nodes.old used ring.ring.points ring.edges pieces) rims.old) }
+        (outcome_in share nodes.old used ring.now.ring.points ring.now.edges pieces.now)))
+        × (rims.new ≡ rims_by used (length (nodes_of (outcome_in share nodes.old used ring.now.ring.points ring.now.edges pieces.now)))
+        (asks_in share nodes.old used ring.now.ring.points ring.now.edges pieces.now) rims.old) }
 {
-    let own = ring.ring;
-    let points = own.points;
-    let edges = ring.edges;
     let mut u = used;
     let mut at = first;
+    // Kept: a piece is read by its number, as its points and marks are.
     for i in 0..pieces.count {
-        let corners = parts::piece_points(points, pieces, i);
-        let marks = parts::piece_marks(edges, pieces, i);
-        let n = corners.count;
+        let corners = parts::piece_points(&ring.ring.points, pieces, i);
+        let marks = parts::piece_marks(&ring.edges, pieces, i);
         let sides = piece_sides(pieces, i);
+        let n = corners.count;
+        let piece = Piece {
+            points: &corners.points[..n],
+            edges: &marks[..n],
+            sides: &sides,
+        };
         let start = at * 4;
-        let t = piece_cells::subdivide(
-            nodes,
-            u,
-            rims,
-            &mut cells[start..],
-            corners,
-            marks,
-            sides,
-            share,
-            near,
-            numbers,
-            xs,
-        );
-        if t.fails != n {
+        let t = piece_cells::subdivide(nodes, u, rims, &mut cells[start..], &piece, share, found);
+        if let Some(k) = t.fails {
             let window = first * 4;
             clear(&mut cells[window..], reserve);
-            return Subdivision::Failed {
+            return Err(FailedPiece {
                 corners: n,
-                k: t.fails,
+                k,
                 nodes: t.used,
-            };
+            });
         }
         u = t.used;
         at += n;
     }
-    Subdivision::Done {
+    Ok(Laid {
         nodes: u,
         cells: at - first,
-    }
+    })
 }

@@ -10,7 +10,7 @@ ghost use Rattle.call.specs.Lent.{lent};
 ghost use Rattle.paper.specs.Practice.{PracticePromise};
 
 use nodes::NodeNumber;
-use table::Answer;
+use table::{Answer, Refusal};
 
 // The divider call of the practice paper, over the lists that the caller lends.
 pub fn divide_practice(
@@ -28,7 +28,7 @@ pub fn divide_practice(
 {
     if paper::over_paper(ring.len(), chain.len()) {
         return Answer::Refused {
-            code: 16,
+            why: Refusal::Practice,
             nodes: node_count,
             cells: cell_count,
         };

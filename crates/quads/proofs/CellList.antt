@@ -1,6 +1,6 @@
 -- Cells in the lent list, four numbers each: cells written over its first places, one after the other through the part
 -- that starts where the next one goes.
-use mathlib.Core.Path.{◌≡◌, refl, sym, ap, ◌∙◌}
+use mathlib.Core.Path.{◌≡◌, refl, sym, ap, ◌∙◌, subst}
 use mathlib.Core.List.{List, [], ◌∷◌, ◌++◌, append_assoc, append-nil}
 use Prim.Native.Nat.{ℕ, zero, suc, ◌+◌, ◌-◌, ◌*◌, ◌%◌, ◌≤◌, ◌<◌}
 use native.Mathlib.Nat.{mod-lt}
@@ -8,7 +8,7 @@ use native.Mathlib.Numerals.{add-one}
 use native.Mathlib.Omega.{arith}
 use mathlib.Core.Bool.{◌&&◌}
 use lib.ListN.{length, get_or, take, drop, length-append, length-drop, drop_of_length-le}
-use lib.Seq.{take_all, drop-drop, take_at, drop-append-add, length-take-le, get_or-take}
+use lib.Seq.{take_all, drop-drop, take_at, drop-append-add}
 use borrow.Rule.Slice.PartMut.{put_mid}
 use Rattle.laws.specs.Table.{tab}
 use Rattle.laws.proofs.Table.{length_tab, get_d_tab}
@@ -16,7 +16,12 @@ use Rattle.vector.specs.declared.Point.{Point}
 use Rattle.nodes.specs.Nodes.{node_at}
 use Rattle.quads.specs.declared.Cell.{Cell}
 use Rattle.quads.specs.Quads.{no_cell, cells_to, quad_positive, all_distinct, holds}
-use Rattle.quads.specs.Flat.{positive, four, flat_cells, over_cells}
+use Rattle.quads.specs.Flat.{Listed, found, positive, four, flat_cells, over_cells}
+use Rattle.quads.specs.declared.Round.{Round}
+use Rattle.quads.specs.Round.{cells_of, ListedRound}
+use Rattle.std.specs.Prelude.{Option, Some, None}
+use native.Mathlib.Decide.{dec_lt}
+use Rattle.std.proofs.lemmas.Bool.{lt-ltb, le-ltb}
 
 -- ---- the cells of a piece
 module _ (c : ℕ) (ms vs : List ℕ) where
@@ -39,26 +44,51 @@ module _ (c : ℕ) (ms vs : List ℕ) where
   unfolding cells_to
   one_more l k q e = ap (λ (q : Cell). over_cells l (cells_to c ms vs k ++ (q ∷ []))) e ∙ rw add-one
 
--- ---- over the first n places of two arrays, as the code has it
-module _ (c : ℕ) (ms vs : List ℕ) (n : ℕ) (hn : n ≤ 60) (hm : length ms ≡ 60) (hv : length vs ≡ 60) (k j : ℕ) (h : k < n) (e : j ≡ (k + 1) % n) where
-  pub cell-is : ◌≡◌ {A = Cell} (record { a = c; b = get_or ms k 0; c = get_or vs j 0; d = get_or ms j 0 }) (cell_of c (take n ms) (take n vs) k)
+-- ---- cell k as the code makes it, of as many middles as corners; j is the place after k
+module _ (c : ℕ) (ms vs : List ℕ) (same : length vs ≡ length ms) (k j : ℕ) (h : k < length ms) (e : j ≡ (k + 1) % length ms) where
+  pub cell-is : ◌≡◌ {A = Cell} (record { a = c; b = get_or ms k 0; c = get_or vs j 0; d = get_or ms j 0 }) (cell_of c ms vs k)
   cell-is =
-      let a : length (take n ms) ≡ n = length-take-le n ms (omega arith) in
-      let b : length (take n vs) ≡ n = length-take-le n vs (omega arith) in
-      let z : (k + 1) % n < n = mod-lt (k + 1) (omega arith) in
-      let y : j < n = omega arith in
-      let f : (q : ℕ) → q ≡ n → j ≡ suc k % q = λ q g. e ∙ (λ i. add-one k i % sym g i) in
+      let f : (q : ℕ) → q ≡ length ms → j ≡ suc k % q = λ q g. e ∙ (λ i. add-one k i % sym g i) in
       λ i. record {
         a = c;
-        b = sym (get_or-take n ms k 0 h) i;
-        c = (sym (get_or-take n vs j 0 y) ∙ ap (λ (q : ℕ). get_or (take n vs) q 0) (f (length (take n vs)) b)) i;
-        d = (sym (get_or-take n ms j 0 y) ∙ ap (λ (q : ℕ). get_or (take n ms) q 0) (f (length (take n ms)) a)) i;
+        b = get_or ms k 0;
+        c = get_or vs (f (length vs) same i) 0;
+        d = get_or ms (f (length ms) refl i) 0;
       }
 
-  pub cell_at : ◌≡◌ {A = Cell} (record { a = c; b = get_or ms k 0; c = get_or vs j 0; d = get_or ms j 0 }) (get_or (cells_to c (take n ms) (take n vs) n) k no_cell)
-  cell_at =
-      cell-is
-      ∙ sym (ap (λ (l : List Cell). get_or l k no_cell) (cells_tab c (take n ms) (take n vs) n) ∙ get_d_tab (cell_of c (take n ms) (take n vs)) n k no_cell h)
+  pub cell_at : ◌≡◌ {A = Cell} (record { a = c; b = get_or ms k 0; c = get_or vs j 0; d = get_or ms j 0 }) (get_or (cells_to c ms vs (length ms)) k no_cell)
+  cell_at = cell-is ∙ sym (cells_at c ms vs (length ms) k h)
+
+-- its numbers are those of listed nodes
+pub cell-listed : {u : ℕ} (r : Round) → ListedRound u r → (k : ℕ) → k < length r.middles.now → Listed u (get_or (cells_of r) k no_cell)
+cell-listed {u} r g k h =
+    let n : suc k % length r.middles.now < length r.middles.now = mod-lt (suc k) (omega arith) in
+    let e : length r.corners.now ≡ length r.middles.now = r.as_many in
+    let l : suc k % length r.corners.now < length r.corners.now = mod-lt (suc k) (omega arith) in
+    let m : suc k % length r.corners.now < length r.middles.now = omega arith in
+    subst (Listed u) (sym (cells_at r.centre r.middles.now r.corners.now (length r.middles.now) k h))
+    (record { a = g.centre; b = g.middles k h; c = g.corners _ m; d = g.middles _ n })
+
+-- ---- a search among them
+pub found-at : (n k : ℕ) → k < n → found n k ≡ Some k
+found-at n k h = rw (lt-ltb k n h)
+
+pub found-none : (n k : ℕ) → k ≡ n → found n k ≡ None
+found-none n k h = rw (le-ltb k n (omega arith))
+
+pub found-over : (n k : ℕ) → found n k ≡ None → n ≤ k
+found-over n k e = go (dec_lt k n)
+  where
+    go : Dec (k < n) → n ≤ k
+    go (yes h) = let a : ◌≡◌ {A = Option ℕ} (Some k) None = sym (found-at n k h) ∙ e in (cc)
+    go (no h) = omega arith
+
+pub found-is : (n k j : ℕ) → found n k ≡ Some j → (k < n) × (k ≡ j)
+found-is n k j e = go (dec_lt k n)
+  where
+    go : Dec (k < n) → (k < n) × (k ≡ j)
+    go (yes h) = let a : ◌≡◌ {A = Option ℕ} (Some k) (Some j) = sym (found-at n k h) ∙ e in (h, (cc))
+    go (no h) = let a : ◌≡◌ {A = Option ℕ} None (Some j) = sym (rw (le-ltb k n (omega arith))) ∙ e in (cc)
 
 -- ---- written out
 pub length-cells : (cs : List Cell) → length (flat_cells cs) ≡ length cs * 4

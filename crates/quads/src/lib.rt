@@ -9,7 +9,8 @@
 ghost use Rattle.std.specs.Prelude.{◌≡◌, ℕ, ◌+◌, ◌*◌, ◌≤◌, ◌<◌, length, get_or};
 ghost use Rattle.nodes.specs.Flat.{node_in_of};
 ghost use Rattle.quads.specs.Quads as Quads;
-ghost use Rattle.quads.specs.Flat.{middle_of};
+ghost use Rattle.quads.specs.Quads.{no_cell};
+ghost use Rattle.quads.specs.Flat.{middle_of, four};
 
 use marks::EdgeMark;
 use nodes::NodeNumber;
@@ -25,7 +26,44 @@ pub struct Cell {
     pub d: NodeNumber,
 }
 
+impl From<Cell> for [NodeNumber; 4] {
+    ghost from_gives = { λ c ns. ns ≡ four c };
+
+    fn from(c: Cell) -> [NodeNumber; 4] {
+        [c.a, c.b, c.c, c.d]
+    }
+}
+
+// The nodes of a piece: its centre, and the middles of its edges and its corners in order, as many.
+#[derive(Clone, Copy)]
+pub struct Round<'a> {
+    pub centre: NodeNumber,
+    pub middles: &'a [NodeNumber],
+    pub corners: &'a [NodeNumber],
+    ghost few: { length middles.now ≤ 60 },
+    ghost as_many: { length corners.now ≡ length middles.now },
+}
+
+impl Round<'_> {
+    ghost use Rattle.quads.specs.Round.{cells_of};
+
+    // Cell k: centre, middle k, corner k + 1, middle k + 1.
+    pub fn cell(&self, k: usize) -> Cell
+        requires { k < length self.now.middles.now }
+        ensures { result ≡ get_or (cells_of self.now) k no_cell }
+    {
+        let next = vector::next(k, self.middles.len());
+        Cell {
+            a: self.centre,
+            b: self.middles[k],
+            c: self.corners[next],
+            d: self.middles[next],
+        }
+    }
+}
+
 // Where the middle of an edge goes, and whether its snap point was too far.
+// Kept: a point and a flag, since both are read in both cases: the point is a node, and the flag is gathered over the edges.
 #[derive(Clone, Copy)]
 pub struct Middle {
     pub at: Point,
@@ -66,6 +104,7 @@ pub fn node_at(nodes: &[f64], i: NodeNumber) -> Point
     requires { i * 2 + 2 ≤ length nodes.now }
     ensures { result ≡ node_in_of nodes.now i }
 {
+    // Kept: `as`, since a usize has no From<u32>.
     let at = i as usize * 2;
     Point {
         x: nodes[at],
@@ -74,17 +113,18 @@ pub fn node_at(nodes: &[f64], i: NodeNumber) -> Point
 }
 
 // The mean of the listed corners, summed from 0.0 in their order.
-pub fn mean(nodes: &[f64], vs: [NodeNumber; 60], n: usize) -> Point
-    requires { (0 < n) × (n ≤ 60) × ((j : ℕ) → j < n → get_or vs j 0 * 2 + 2 ≤ length nodes.now) }
-    ensures { result ≡ Quads.mean (λ i. node_in_of nodes.now (get_or vs i 0)) n }
+pub fn mean(nodes: &[f64], vs: &[NodeNumber]) -> Point
+    requires { (0 < length vs.now) × (length vs.now ≤ 60)
+        × ((j : ℕ) → j < length vs.now → get_or vs.now j 0 * 2 + 2 ≤ length nodes.now) }
+    ensures { result ≡ Quads.mean (λ i. node_in_of nodes.now (get_or vs.now i 0)) (length vs.now) }
 {
     let mut x = 0.0;
     let mut y = 0.0;
-    for i in 0..n {
-        let p = node_at(nodes, vs[i]);
-        x = x + p.x;
-        y = y + p.y;
+    for v in vs {
+        let p = node_at(nodes, *v);
+        x += p.x;
+        y += p.y;
     }
-    let d = n as f64;
+    let d = vs.len() as f64;
     Point { x: x / d, y: y / d }
 }

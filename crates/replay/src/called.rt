@@ -3,11 +3,11 @@
 use nodes::NodeNumber;
 use std::io::Read;
 use table::Row;
+use words::Field;
 
-// The kind of the record: 2 the examination, 7 with a set, and its five values, 8 the practice paper.
+// The five values of a set of limits.
 #[derive(Clone, Copy)]
-pub struct Entry {
-    pub kind: u32,
+pub struct Set {
     pub corner: f64,
     pub least: f64,
     pub greatest: f64,
@@ -15,32 +15,24 @@ pub struct Entry {
     pub share: f64,
 }
 
-pub fn without_set(kind: u32) -> Entry {
-    Entry {
-        kind,
-        corner: 0.0,
-        least: 0.0,
-        greatest: 0.0,
-        cuts: 0,
-        share: 0.0,
+impl Set {
+    // The set that comes next in the file.
+    pub fn read<R: Read>(input: &mut R) -> Set {
+        Set {
+            corner: f64::read(input),
+            least: f64::read(input),
+            greatest: f64::read(input),
+            cuts: u32::read(input),
+            share: f64::read(input),
+        }
     }
 }
 
-// The set that comes next in the file.
-pub fn read<R: Read>(input: &mut R) -> Entry {
-    let corner = words::double(words::long(input));
-    let least = words::double(words::long(input));
-    let greatest = words::double(words::long(input));
-    let cuts = words::word(input);
-    let share = words::double(words::long(input));
-    Entry {
-        kind: 7,
-        corner,
-        least,
-        greatest,
-        cuts,
-        share,
-    }
+#[derive(Clone, Copy)]
+pub enum Entry {
+    Examination,
+    WithSet(Set),
+    Practice,
 }
 
 pub fn divided(
@@ -54,20 +46,21 @@ pub fn divided(
     cells: &mut [NodeNumber],
     cell_count: usize,
 ) -> Row {
-    if e.kind == 8 {
-        return exports::ring_divide_practice(
-            ring, chain, size, nodes, used, rims, cells, cell_count,
-        );
-    }
-    if e.kind == 7 {
-        return exports::ring_divide_set(
-            e.corner, e.least, e.greatest, e.cuts, e.share, ring, chain, size, nodes, used, rims,
+    match e {
+        Entry::Examination => {
+            exports::ring_divide(ring, chain, size, nodes, used, rims, cells, cell_count)
+        }
+        Entry::WithSet(s) => exports::ring_divide_set(
+            s.corner, s.least, s.greatest, s.cuts, s.share, ring, chain, size, nodes, used, rims,
             cells, cell_count,
-        );
+        ),
+        Entry::Practice => exports::ring_divide_practice(
+            ring, chain, size, nodes, used, rims, cells, cell_count,
+        ),
     }
-    exports::ring_divide(ring, chain, size, nodes, used, rims, cells, cell_count)
 }
 
+// The practice paper has no call with given marks: one in a list is run as the examination's.
 pub fn divided_marked(
     e: Entry,
     ring: &[i32],
@@ -82,13 +75,13 @@ pub fn divided_marked(
     cells: &mut [NodeNumber],
     cell_count: usize,
 ) -> Row {
-    if e.kind == 7 {
-        return exports::ring_divide_marked_set(
-            e.corner, e.least, e.greatest, e.cuts, e.share, ring, kinds, snaps, outline, loops,
+    match e {
+        Entry::WithSet(s) => exports::ring_divide_marked_set(
+            s.corner, s.least, s.greatest, s.cuts, s.share, ring, kinds, snaps, outline, loops,
             size, nodes, used, rims, cells, cell_count,
-        );
+        ),
+        Entry::Examination | Entry::Practice => exports::ring_divide_marked(
+            ring, kinds, snaps, outline, loops, size, nodes, used, rims, cells, cell_count,
+        ),
     }
-    exports::ring_divide_marked(
-        ring, kinds, snaps, outline, loops, size, nodes, used, rims, cells, cell_count,
-    )
 }

@@ -26,11 +26,11 @@ pub fn replay_marked<R: Read>(
     let mut snaps = [0.0f64; 512];
     let mut outline = [0i32; 256];
     let mut loops = [0u32; 64];
-    words::read_numbers(input, &mut ring, r);
-    words::read_bytes(input, &mut kinds, k);
-    words::read_nodes(input, &mut snaps, t);
-    words::read_numbers(input, &mut outline, o);
-    words::read_words(input, &mut loops, l);
+    words::read_list(input, &mut ring, r);
+    words::read_list(input, &mut kinds, k);
+    words::read_list(input, &mut snaps, t);
+    words::read_list(input, &mut outline, o);
+    words::read_list(input, &mut loops, l);
     let mut cells = [65535u32; 2048];
     compared(
         input,
@@ -69,7 +69,7 @@ fn compared<R: Read>(
     let mut before = [0.0f64; 3072];
     let mut marks = [0u8; 1536];
     words::copy(nodes, &mut before);
-    expected::copy(rims, &mut marks);
+    words::copy(rims, &mut marks);
     let v = called::divided_marked(
         entry, ring, kinds, snaps, outline, loops, size, nodes, used, rims, cells, cell_count,
     );

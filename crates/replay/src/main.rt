@@ -7,7 +7,7 @@
 mod called;
 mod leads;
 
-use called::Entry;
+use called::{Entry, Set};
 use nodes::NodeNumber;
 use std::fs;
 use std::io::{Read, Write};
@@ -28,10 +28,9 @@ impl State {
     // One more call or block.
     pub fn ran(self, same: bool, used: usize) -> State {
         State {
-            places: self.places,
-            used: used,
-            rims: self.rims,
+            used,
             tally: self.tally.ran(same),
+            ..self
         }
     }
 }
@@ -40,15 +39,14 @@ fn replay_list<R: Read>(input: &mut R, nodes: &mut [f64], marks: &mut [u8], s: S
     let places = words::count(input);
     let used = words::count(input);
     let rims = words::count(input);
-    let listed = words::smaller(used, places);
-    words::read_nodes(input, nodes, words::doubled(listed));
-    words::read_packed(input, marks, words::smaller(rims, listed));
-    let tally = s.tally;
+    let listed = used.min(places);
+    words::read_list(input, nodes, words::doubled(listed));
+    words::read_packed(input, marks, rims.min(listed));
     State {
         places,
         used,
         rims,
-        tally,
+        tally: s.tally,
     }
 }
 
@@ -67,8 +65,8 @@ fn replay_call<R: Read>(
     let c = words::count_to(input, 256);
     let mut ring = [0i32; 256];
     let mut chain = [0i32; 256];
-    words::read_numbers(input, &mut ring, r);
-    words::read_numbers(input, &mut chain, c);
+    words::read_list(input, &mut ring, r);
+    words::read_list(input, &mut chain, c);
     let mut cells = [65535u32; 2048];
     compared(
         input,
@@ -101,7 +99,7 @@ fn compared<R: Read>(
     let mut before = [0.0f64; 3072];
     let mut marks = [0u8; 1536];
     words::copy(nodes, &mut before);
-    expected::copy(rims, &mut marks);
+    words::copy(rims, &mut marks);
     let v = called::divided(
         entry, ring, chain, size, nodes, used, rims, cells, cell_count,
     );
@@ -113,7 +111,7 @@ fn replay_block<R: Read>(input: &mut R, s: State) -> State {
     let number = words::word(input);
     let n = words::count(input);
     let mut bytes = [0u8; 1024];
-    words::read_bytes(input, &mut bytes, n);
+    words::read_list(input, &mut bytes, n);
     let used = s.used;
     if 1024 < n {
         return s.ran(false, used);
@@ -130,8 +128,8 @@ fn replay_pair<R: Read>(input: &mut R, s: State) -> State {
     let c = words::count_to(input, 520);
     let mut ring = [0i32; 520];
     let mut chain = [0i32; 520];
-    words::read_numbers(input, &mut ring, r);
-    words::read_numbers(input, &mut chain, c);
+    words::read_list(input, &mut ring, r);
+    words::read_list(input, &mut chain, c);
     let used = s.used;
     let mut out = [0u8; 1536];
     words::fill(&mut out);
@@ -139,64 +137,87 @@ fn replay_pair<R: Read>(input: &mut R, s: State) -> State {
     s.ran(expected::same_pair(input, code, &out), used)
 }
 
+// A record of a list, by the number that its first word has.
+#[derive(Clone, Copy)]
+enum Kind {
+    List,
+    Call,
+    Block,
+    Pair,
+    Marked,
+    WithSet,
+    Practice,
+}
+
+// A number that no record has.
+#[derive(Clone, Copy)]
+struct UnknownKind;
+
+impl TryFrom<u32> for Kind {
+    type Error = UnknownKind;
+
+    fn try_from(number: u32) -> Result<Kind, UnknownKind> {
+        match number {
+            1 => Ok(Kind::List),
+            2 => Ok(Kind::Call),
+            3 => Ok(Kind::Block),
+            4 => Ok(Kind::Pair),
+            5 => Ok(Kind::Marked),
+            7 => Ok(Kind::WithSet),
+            8 => Ok(Kind::Practice),
+            _ => Err(UnknownKind),
+        }
+    }
+}
+
 // A call of some entry, by a chain or with given marks, over the places of its lists.
 fn replay_entry<R: Read>(
     input: &mut R,
     entry: Entry,
-    kind: u32,
+    marked: bool,
     nodes: &mut [f64],
     rims: &mut [u8],
     s: State,
 ) -> State {
-    let end = words::smaller(words::doubled(s.places), nodes.len());
-    let stop = words::smaller(s.rims, rims.len());
-    if kind == 5 {
+    let end = words::doubled(s.places).min(nodes.len());
+    let stop = s.rims.min(rims.len());
+    if marked {
         return leads::replay_marked(input, entry, &mut nodes[..end], &mut rims[..stop], s);
     }
     replay_call(input, entry, &mut nodes[..end], &mut rims[..stop], s)
 }
 
-// The kinds of record that are calls: of the examination, with given marks, with a set of limits, of the practice paper.
-fn is_call(kind: u32) -> bool {
-    (kind == 2) | (kind == 5) | (kind == 7) | (kind == 8)
+// What stands behind a set of limits, or behind an 8: a call by a chain or with given marks.
+fn is_marked<R: Read>(input: &mut R) -> bool {
+    matches!(Kind::try_from(words::word(input)), Ok(Kind::Marked))
 }
 
-// A set of limits stands before its call, and after it, or after an 8, whether the call is by a chain or with given marks.
-fn replay_any<R: Read>(
+fn step<R: Read>(
     input: &mut R,
-    kind: u32,
+    number: u32,
     nodes: &mut [f64],
     rims: &mut [u8],
     s: State,
 ) -> State {
-    if kind == 7 {
-        let entry = called::read(input);
-        let of = words::word(input);
-        return replay_entry(input, entry, of, nodes, rims, s);
+    let Ok(kind) = Kind::try_from(number) else {
+        return s.ran(false, s.used);
+    };
+    match kind {
+        Kind::List => replay_list(input, nodes, rims, s),
+        Kind::Block => replay_block(input, s),
+        Kind::Pair => replay_pair(input, s),
+        Kind::Call => replay_entry(input, Entry::Examination, false, nodes, rims, s),
+        Kind::Marked => replay_entry(input, Entry::Examination, true, nodes, rims, s),
+        Kind::WithSet => {
+            let entry = Entry::WithSet(Set::read(input));
+            let marked = is_marked(input);
+            replay_entry(input, entry, marked, nodes, rims, s)
+        }
+        Kind::Practice => {
+            let marked = is_marked(input);
+            replay_entry(input, Entry::Practice, marked, nodes, rims, s)
+        }
     }
-    let entry = called::without_set(kind);
-    if kind == 8 {
-        let of = words::word(input);
-        return replay_entry(input, entry, of, nodes, rims, s);
-    }
-    replay_entry(input, entry, kind, nodes, rims, s)
-}
-
-fn step<R: Read>(input: &mut R, kind: u32, nodes: &mut [f64], rims: &mut [u8], s: State) -> State {
-    if is_call(kind) {
-        return replay_any(input, kind, nodes, rims, s);
-    }
-    if kind == 1 {
-        return replay_list(input, nodes, rims, s);
-    }
-    if kind == 3 {
-        return replay_block(input, s);
-    }
-    if kind == 4 {
-        return replay_pair(input, s);
-    }
-    let used = s.used;
-    s.ran(false, used)
 }
 
 // All records of a file, which has fewer than a million. A rim mark that no call has written yet is 9.
@@ -207,7 +228,7 @@ fn replay<R: Read>(input: &mut R) -> Tally {
         places: 0,
         used: 0,
         rims: 0,
-        tally: Tally::NONE,
+        tally: Tally::default(),
     };
     for _ in 0u32..1000000 {
         let kind = words::word(input);
@@ -237,7 +258,7 @@ fn file<F: Files, W: Write, E: Write>(
     path: &str,
 ) -> Tally {
     let t = tally(files, errors, path);
-    t.print(output, path.as_bytes());
+    t.print(output, path);
     t
 }
 
@@ -247,7 +268,7 @@ fn of_the_base<F: Files, W: Write, E: Write>(files: &F, output: &mut W, errors: 
     let calls = file(files, output, errors, "calls.list");
     let read = file(files, output, errors, "blocks.list");
     let written = file(files, output, errors, "pairs.list");
-    rings.plus(calls).plus(read).plus(written)
+    rings + calls + read + written
 }
 
 // Those of the other entries, and of rim marks.
@@ -260,15 +281,15 @@ fn of_all_entries<F: Files, W: Write, E: Write>(
     let sets = file(files, output, errors, "sets.list");
     let practised = file(files, output, errors, "practice.list");
     let rimmed = file(files, output, errors, "rims.list");
-    marked.plus(sets).plus(practised).plus(rimmed)
+    marked + sets + practised + rimmed
 }
 
 fn main(rt: HostRuntime) {
     let mut output = rt.stdout();
     let mut errors = rt.stderr();
     let t = of_the_base(&rt, &mut output, &mut errors);
-    let all = t.plus(of_all_entries(&rt, &mut output, &mut errors));
-    all.print(&mut output, b"total");
+    let all = t + of_all_entries(&rt, &mut output, &mut errors);
+    all.print(&mut output, "total");
     let wrong = tally(&rt, &mut errors, "wrong.list");
-    wrong.print_told(&mut output, b"wrong.list");
+    wrong.print_told(&mut output, "wrong.list");
 }

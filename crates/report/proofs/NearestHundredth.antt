@@ -1,7 +1,7 @@
 -- Claim (Card 3): what is printed of an area is its nearest hundredth of a square millimetre, halves up; no other
 -- number is; a doubled area of 16,777,216 units squared, an eighth of a square millimetre, prints 13, and one of
 -- 16,777,215 prints 12.
-use Prim.Native.Nat.{ℕ, ◌+◌, ◌*◌, ◌/◌, ◌^◌, ◌≤◌, ◌<◌}
+use Prim.Native.Nat.{ℕ, ◌+◌, ◌*◌, ◌^◌, ◌≤◌, ◌<◌}
 use mathlib.Core.Path.{◌≡◌, refl}
 use native.Mathlib.Omega.{arith}
 use Rattle.report.specs.Report.{hundredths}

@@ -6,9 +6,11 @@
 #![tactic(auto)]
 
 ghost use Rattle.std.specs.Prelude.{◌≡◌, ◌&&◌, ◌+◌, ◌*◌, ◌/◌, ◌≤◌, ◌<◌, length};
-ghost use Rattle.text.specs.Text.{Written};
+ghost use Rattle.text.specs.Page.{Room, Wrote};
 ghost use Rattle.report.specs.Report as Report;
 ghost use Rattle.report.specs.Report.{Printed, holds, few_cells};
+
+use text::Page;
 
 // No text is longer, whatever the numbers.
 pub const MOST_TEXT: usize = 6400;
@@ -33,57 +35,29 @@ fn hundredths(area: u64) -> u64
     area / 134217728 * 100 + (area % 134217728 * 100 + 67108864) / 134217728
 }
 
-fn put_ring(out: &mut [u8], at: usize, a: Divided) -> usize
-    requires { at + length (Report.ring_line a) ≤ length out.old }
-    ensures { Written out.old at (Report.ring_line a) result out.new }
+fn put_ring(page: &mut Page, a: Divided)
+    requires { Room page.old (Report.ring_line a) }
+    ensures { Wrote page.old (Report.ring_line a) page.new }
 {
     let numbers = [a.ring, a.corners, a.cuts, a.turned, hundredths(a.area)];
-    text::put_filled(
-        out,
-        at,
-        b"ring # corners # cuts # turned # area #\n",
-        &numbers,
-    )
+    page.filled(b"ring # corners # cuts # turned # area #\n", &numbers);
 }
 
-fn put_nodes(out: &mut [u8], at: usize, nodes: u64, added: u64) -> usize
-    requires { at + length (Report.nodes_line nodes added) ≤ length out.old }
-    ensures { Written out.old at (Report.nodes_line nodes added) result out.new }
+fn put_nodes(page: &mut Page, nodes: u64, added: u64)
+    requires { Room page.old (Report.nodes_line nodes added) }
+    ensures { Wrote page.old (Report.nodes_line nodes added) page.new }
 {
-    let numbers = [nodes, added];
-    text::put_filled(out, at, b"nodes # new #\n", &numbers)
+    page.filled(b"nodes # new #\n", &[nodes, added]);
 }
 
-fn wide(x: u32) -> u64
-    ensures { result ≡ x }
+fn put_quads(page: &mut Page, cells: &[u32])
+    requires { Room page.old (Report.quad_lines cells.now (length cells.now / 4)) }
+    ensures { Wrote page.old (Report.quad_lines cells.now (length cells.now / 4)) page.new }
 {
-    x as u64
-}
-
-fn put_quad(out: &mut [u8], at: usize, cells: &[u32], i: usize) -> usize
-    requires { (i * 4 + 3 < length cells.now) × (at + length (Report.quad_line cells.now i) ≤ length out.old) }
-    ensures { Written out.old at (Report.quad_line cells.now i) result out.new }
-{
-    let j = i * 4;
-    let numbers = [
-        wide(cells[j]),
-        wide(cells[j + 1]),
-        wide(cells[j + 2]),
-        wide(cells[j + 3]),
-    ];
-    text::put_filled(out, at, b"quad # # # #\n", &numbers)
-}
-
-fn put_quads(out: &mut [u8], at: usize, cells: &[u32]) -> usize
-    requires { at + length (Report.quad_lines cells.now (length cells.now / 4)) ≤ length out.old }
-    ensures { Written out.old at (Report.quad_lines cells.now (length cells.now / 4)) result out.new }
-{
-    let n = cells.len() / 4;
-    let mut next = at;
-    for i in 0..n {
-        next = put_quad(out, next, cells, i);
+    for [a, b, c, d] in cells.as_chunks::<4>().0 {
+        let numbers = [u64::from(*a), u64::from(*b), u64::from(*c), u64::from(*d)];
+        page.filled(b"quad # # # #\n", &numbers);
     }
-    next
 }
 
 // The lines of an accepted ring and its cells, four node numbers a cell and at most 124 of them.
@@ -91,15 +65,14 @@ pub fn print_ring(out: &mut [u8], a: Divided, cells: &[u32]) -> usize
     ensures { Printed (holds out.old && few_cells cells.now) out.old
         (Report.ring_text a cells.now) result out.new }
 {
-    if out.len() < MOST_TEXT {
+    if out.len() < MOST_TEXT || cells.len() > 496 {
         return 0;
     }
-    if 496 < cells.len() {
-        return 0;
-    }
-    let nodes = put_ring(out, 0, a);
-    let quads = put_nodes(out, nodes, a.nodes, a.added);
-    put_quads(out, quads, cells)
+    let mut page = Page { out, at: 0 };
+    put_ring(&mut page, a);
+    put_nodes(&mut page, a.nodes, a.added);
+    put_quads(&mut page, cells);
+    page.at
 }
 
 pub fn print_refused_ring(out: &mut [u8], ring: u64, code: u64, corners: u64, k: u64) -> usize
@@ -108,8 +81,9 @@ pub fn print_refused_ring(out: &mut [u8], ring: u64, code: u64, corners: u64, k:
     if out.len() < MOST_TEXT {
         return 0;
     }
-    let numbers = [ring, code, corners, k];
-    text::put_filled(out, 0, b"ring # refused # # #\n", &numbers)
+    let mut page = Page { out, at: 0 };
+    page.filled(b"ring # refused # # #\n", &[ring, code, corners, k]);
+    page.at
 }
 
 pub fn print_refused_block(out: &mut [u8], block: u64, code: u64) -> usize
@@ -118,6 +92,7 @@ pub fn print_refused_block(out: &mut [u8], block: u64, code: u64) -> usize
     if out.len() < MOST_TEXT {
         return 0;
     }
-    let numbers = [block, code];
-    text::put_filled(out, 0, b"block # refused #\n", &numbers)
+    let mut page = Page { out, at: 0 };
+    page.filled(b"block # refused #\n", &[block, code]);
+    page.at
 }

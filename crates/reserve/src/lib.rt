@@ -8,7 +8,6 @@
 
 ghost use Rattle.std.specs.Prelude.{◌≡◌, ◌≤◌};
 ghost use Rattle.reserve.specs.Reserve as Reserve;
-ghost use Rattle.reserve.specs.Sheet as Sheet;
 
 // The printed reserve sheet, for ring counts from 3 to 60: the node places,
 const NODE_SHEET: [u8; 58] = [
@@ -24,54 +23,28 @@ const CELL_SHEET: [u8; 58] = [
     112, 113, 114, 115, 116, 117, 118, 119, 120, 121, 122, 123, 124,
 ];
 
-fn wide(x: u8) -> usize
-    ensures { result ≡ x }
-{
-    x as usize
+// The places of nodes and of cells that a ring may take.
+#[derive(Clone, Copy, PartialEq, Eq)]
+pub struct Places {
+    pub nodes: usize,
+    pub cells: usize,
 }
 
-fn node_row(r: usize) -> usize
+// Those of a ring of r points: by the sheet at 32 cuts, and worked out otherwise.
+pub fn places_for(cuts: usize, r: usize) -> Places
     requires { (3 ≤ r) × (r ≤ 60) }
-    ensures { result ≡ Sheet.nodes_at r }
-{
-    wide(NODE_SHEET[r - 3])
-}
-
-fn cell_row(r: usize) -> usize
-    requires { (3 ≤ r) × (r ≤ 60) }
-    ensures { result ≡ Sheet.cells_at_of r }
-{
-    wide(CELL_SHEET[r - 3])
-}
-
-// The most cuts of a ring of r points.
-fn most_cuts(cuts: usize, r: usize) -> usize
-    requires { (3 ≤ r) × (r ≤ 60) }
-    ensures { (result ≡ Reserve.most_cuts cuts r) × (result ≤ 60) }
-{
-    if cuts < r - 3 {
-        return cuts;
-    }
-    r - 3
-}
-
-// The node places and the cell places that a ring of r points may take.
-pub fn node_places(cuts: usize, r: usize) -> usize
-    requires { (3 ≤ r) × (r ≤ 60) }
-    ensures { result ≡ Reserve.node_places cuts r }
+    ensures nodes { result.nodes ≡ Reserve.node_places cuts r }
+    ensures cells { result.cells ≡ Reserve.cell_places cuts r }
 {
     if cuts == 32 {
-        return node_row(r);
+        return Places {
+            nodes: usize::from(NODE_SHEET[r - 3]),
+            cells: usize::from(CELL_SHEET[r - 3]),
+        };
     }
-    3 * r + 2 * most_cuts(cuts, r) + 1
-}
-
-pub fn cell_places(cuts: usize, r: usize) -> usize
-    requires { (3 ≤ r) × (r ≤ 60) }
-    ensures { result ≡ Reserve.cell_places cuts r }
-{
-    if cuts == 32 {
-        return cell_row(r);
+    let most = cuts.min(r - 3);
+    Places {
+        nodes: 3 * r + 2 * most + 1,
+        cells: r + 2 * most,
     }
-    r + 2 * most_cuts(cuts, r)
 }

@@ -1,24 +1,20 @@
--- The rim marks place by place: the new places cleared one by one (`clear_next`), and those of listed nodes set (`set_on`, `set-off`).
-use Prim.Native.Nat.{ℕ, zero, suc, ◌+◌, ◌-◌, ◌≤◌}
+-- The rim marks: the new places cleared at once (`cleared-paste`), and those of listed nodes set (`set_on`, `set-off`).
+use Prim.Native.Nat.{ℕ, zero, suc, ◌+◌, ◌≤◌}
 use native.Mathlib.Numerals.{add-one}
 use native.Mathlib.Omega.{arith}
 use mathlib.Core.Path.{◌≡◌, refl, sym, ap, ◌∙◌}
 use mathlib.Core.Bool.{Bool, true, false, cond}
 use mathlib.Core.List.{List}
-use lib.ListN.{length, get_or, set, length-set}
+use lib.ListN.{length, get_or, set, length-set, replicate}
+use lib.Seq.{paste}
+use Rattle.std.proofs.lemmas.List.Edits.{paste_none, fill_from_more}
 use Rattle.rim_marks.specs.Marking.{cleared, set_at}
 
 -- ---- clearing
-pub clear_none : (rs : List ℕ) (u : ℕ) → rs ≡ cleared rs u (u - u)
+pub cleared-paste : (rs : List ℕ) (u d : ℕ) → u + d ≤ length rs → cleared rs u d ≡ paste rs u (replicate d 0) d
 unfolding cleared
-clear_none rs u = let e : u - u ≡ 0 = omega arith in rw e
-
-pub clear_next : (rs ts : List ℕ) (u k : ℕ) → u ≤ k → ts ≡ cleared rs u (k - u) → set ts k 0 ≡ cleared rs u (k + 1 - u)
-unfolding cleared
-clear_next rs ts u k h e =
-    let a : k + 1 - u ≡ suc (k - u) = omega arith in
-    let b : k ≡ u + (k - u) = omega arith in
-    (λ j. set (e j) (b j) 0) ∙ ap (cleared rs u) (sym a)
+cleared-paste rs u zero h = paste_none rs u (replicate zero 0)
+cleared-paste rs u (suc d) h = ap (λ (ts : List ℕ). set ts (u + d) 0) (cleared-paste rs u d (omega arith)) ∙ fill_from_more rs u d 0 (omega arith) ∙ rw add-one
 
 pub clear-length : (rs : List ℕ) (u d : ℕ) → length (cleared rs u d) ≡ length rs
 unfolding cleared

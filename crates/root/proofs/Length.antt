@@ -21,7 +21,6 @@ use Rattle.laws.proofs.Signed.{product, diff-small}
 use Rattle.laws.proofs.Units.{mm²-is}
 use Rattle.vector.specs.declared.GridPoint.{GridPoint}
 use Rattle.vector.specs.Grid as Grid
-use Rattle.vector.specs.Plane as Plane
 use Rattle.vector.specs.Size.{OnSheet, Step}
 use Rattle.root.specs.Root.{whole_root, nearest_root, dropped, round_root, root_of}
 use Rattle.root.specs.Norm.{grid_norm, grid_dist}

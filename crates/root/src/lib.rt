@@ -27,7 +27,7 @@ fn root_head(n: u64) -> u64
     let f = (g + n / g) / 2;
     let mut a = (f + n / f) / 2;
     while n < a * a {
-        a = a - 1;
+        a -= 1;
     }
     a
 }
@@ -63,7 +63,7 @@ fn root_positive(b: u64) -> u64
         m = t + 0x10_0000_0000_0000;
         k = f - 1;
     }
-    let z = u64::leading_zeros(m) as u64;
+    let z = u64::from(m.leading_zeros());
     let e = k + 63 - z;
     let n = m << (z - 11 + e % 2);
     let s = root_digits(n);
@@ -92,7 +92,7 @@ pub fn root(x: f64) -> f64
     ensures { result ≡ root_of x }
 {
     if x > 0.0 {
-        let b = f64::to_bits(x);
+        let b = x.to_bits();
         if b < 0x7ff0_0000_0000_0000 {
             return f64::from_bits(root_positive(b));
         }
@@ -101,16 +101,18 @@ pub fn root(x: f64) -> f64
     if x == 0.0 {
         return x; // a zero keeps its sign
     }
-    0.0 / 0.0
+    f64::NAN
 }
 
 // The length of v, and the distance of two points, in mm.
+#[tactic(auto, unfolding(crate::specs::Norm::norm))]
 pub fn norm(v: Point) -> f64
     ensures { result ≡ Norm.norm v }
 {
     root(v.dot(v))
 }
 
+#[tactic(auto, unfolding(crate::specs::Norm::dist))]
 pub fn dist(a: Point, b: Point) -> f64
     ensures { result ≡ Norm.dist a b }
 {
@@ -118,6 +120,7 @@ pub fn dist(a: Point, b: Point) -> f64
 }
 
 // The same over the grid, in mm: the squares are summed exactly, in units, before the one division and the root.
+// Kept: the grid's lengths ask for points on the sheet, so that a trait over both kinds of points would be longer.
 pub fn grid_norm(v: GridPoint) -> f64
     requires { Step v }
     ensures { result ≡ Norm.grid_norm v }
@@ -125,6 +128,7 @@ pub fn grid_norm(v: GridPoint) -> f64
     root(vector::in_square_mm(v.dot(v)))
 }
 
+#[tactic(auto, unfolding(crate::specs::Norm::grid_dist))]
 pub fn grid_dist(a: GridPoint, b: GridPoint) -> f64
     requires { OnSheet a × OnSheet b }
     ensures { result ≡ Norm.grid_dist a b }
@@ -137,10 +141,8 @@ pub fn grid_dist(a: GridPoint, b: GridPoint) -> f64
 fn root_at_most(x: f64, t: f64) -> bool
     ensures { result ≡ (root_of x ≤f t) }
 {
-    if 5.9604644775390625e-8 <= x {
-        if t < 2.44140625e-4 {
-            return false;
-        }
+    if 5.9604644775390625e-8 <= x && t < 2.44140625e-4 {
+        return false;
     }
     root(x) <= t
 }

@@ -7,16 +7,16 @@
 
 #![tactic(auto)]
 
-ghost use Rattle.std.specs.Prelude.{◌≡◌, false};
+ghost use Rattle.std.specs.Prelude.{IfOk};
 ghost use Rattle.telling.specs.Reached.{Finished};
 
 use state::State;
 use std::io::{Read, Write};
-use telling::Sent;
+use stream::WriteFailed;
 
-// The whole run. It ends early only where writing fails.
-pub fn run<R: Read, W: Write>(input: &mut R, output: &mut W) -> Sent
-    ensures { result.failed ≡ false → Finished result.bytes }
+// The whole run, which answers how many bytes it wrote. It ends early only where writing fails.
+pub fn run<R: Read, W: Write>(input: &mut R, output: &mut W) -> Result<u64, WriteFailed>
+    ensures { IfOk result Finished }
 {
     let mut ring = [0i32; 120];
     let mut nodes = [0.0f64; 3072];
@@ -35,15 +35,8 @@ pub fn run<R: Read, W: Write>(input: &mut R, output: &mut W) -> Sent
             &mut rims,
             &mut cells,
         );
-        let told = stepped.told;
-        let out = telling::tell(output, told, &cells, &mut sent);
-        if out.failed {
-            return out;
-        }
+        telling::tell(output, stepped.told, &cells, &mut sent)?;
         s = stepped.state;
     }
-    Sent {
-        bytes: sent,
-        failed: false,
-    }
+    Ok(sent)
 }

@@ -1,11 +1,12 @@
 -- When a middle counts as snapped, case by case as the code comes to it: off halfway above or below, in x or in y; and the corner behind a middle, as a loop
 -- over the cells finds it.
-use Prim.Native.Nat.{ℕ, suc, ◌+◌, ◌-◌, ◌*◌, ◌/◌, ◌≤◌, ◌<◌}
+use Prim.Native.Nat.{ℕ, ◌+◌, ◌-◌, ◌*◌, ◌/◌, ◌≤◌}
 use mathlib.Core.Path.{◌≡◌, refl, sym, ap, ◌∙◌}
 use mathlib.Core.Bool.{Bool, true, false, ◌||◌}
 use mathlib.Core.List.{List}
 use native.Mathlib.Numerals.{add-one}
 use native.Mathlib.Omega.{arith}
+use native.Mathlib.Decide.{dec_le}
 use lib.ListN.{get_or}
 use lib.Dec.{ltb, eqb}
 use borrow.Author.Tests.{eq-eqb, ne_eqb}
@@ -20,17 +21,19 @@ module _ (a m b : ℕ) where
   abbrev half : ℕ
   half = a / 2 + b / 2
 
-  pub off-above : half < m → ltb 2 (m - half) ≡ off a m b
+  pub off-far : (d : ℕ) → d ≡ (m - half) + (half - m) → ltb 2 d ≡ off a m b
   unfolding off
-  off-above h =
-      let e : 0 ≡ half - m = omega arith in
-      or-false (ltb 2 (m - half)) ∙ (λ j. ltb 2 (m - half) || ltb 2 (e j))
-
-  pub off-below : m ≤ half → ltb 2 (half - m) ≡ off a m b
-  unfolding off
-  off-below h =
-      let e : 0 ≡ m - half = omega arith in
-      λ j. ltb 2 (e j) || ltb 2 (half - m)
+  off-far d e = go (dec_le m half)
+    where
+      go : Dec (m ≤ half) → ltb 2 d ≡ (ltb 2 (m - half) || ltb 2 (half - m))
+      go (yes h) =
+          let z : 0 ≡ m - half = omega arith in
+          let y : d ≡ half - m = omega (arith, e) in
+          λ j. ltb 2 (z j) || ltb 2 (y j)
+      go (no h) =
+          let z : 0 ≡ half - m = omega (arith, h) in
+          let y : d ≡ m - half = omega (arith, e, h) in
+          or-false (ltb 2 d) ∙ (λ j. ltb 2 (y j) || ltb 2 (z j))
 
 module _ (q : Quad) where
   pub snapped-x : off q.corner.x q.behind.x q.next.x ≡ true → true ≡ snapped q

@@ -46,20 +46,11 @@ fn spot_of(nodes: &[f64], n: u64) -> Spot
     }
 }
 
-fn wide(x: NodeNumber) -> u64
-    ensures { (result ≡ x) × (result < 4294967296) }
-{
-    x as u64
-}
-
 // Number k of a cell list, 0 where there is none.
 fn listed(cells: &[NodeNumber], k: usize) -> u64
     ensures { (result ≡ get_or cells.now k 0) × (result < 4294967296) }
 {
-    if k < cells.len() {
-        return wide(cells[k]);
-    }
-    0
+    u64::from(cells.get(k).copied().unwrap_or(0))
 }
 
 // The rim mark of node n, 0 where there is none.
@@ -67,11 +58,7 @@ fn mark(rims: &[u8], n: u64) -> u8
     requires { n < 4294967296 }
     ensures { result ≡ get_or rims.now n 0 }
 {
-    let k = n as usize;
-    if k < rims.len() {
-        return rims[k];
-    }
-    0
+    rims.get(n as usize).copied().unwrap_or(0)
 }
 
 fn put_cell(out: &mut [u8], at: usize, a: Spot, b: Spot, c: Spot, d: Spot) -> usize
@@ -92,11 +79,12 @@ fn put_half(out: &mut [u8], at: usize, mark: u8, a: Spot, b: Spot) -> usize
     requires { at + length (Scene.half_text mark a b) ≤ length out.old }
     ensures { Written out.old at (Scene.half_text mark a b) result out.new }
 {
-    let numbers = [a.x, a.y, b.x, b.y];
-    if mark == 0 {
-        return svg::put_form(out, at, b"<path class='cut' d='M@ @L@ @'/>\n", &numbers);
-    }
-    svg::put_form(out, at, b"<path class='rim' d='M@ @L@ @'/>\n", &numbers)
+    let form: &[u8] = if mark == 0 {
+        b"<path class='cut' d='M@ @L@ @'/>\n"
+    } else {
+        b"<path class='rim' d='M@ @L@ @'/>\n"
+    };
+    svg::put_form(out, at, form, &[a.x, a.y, b.x, b.y])
 }
 
 // Whether cell j of a list has the centre c, and the middle m before its corner.
@@ -104,10 +92,7 @@ fn follows(cells: &[NodeNumber], j: usize, c: u64, m: u64) -> bool
     requires { j < 124 }
     ensures { result ≡ Scene.follows cells.now c m j }
 {
-    if listed(cells, j * 4) != c {
-        return false;
-    }
-    listed(cells, j * 4 + 1) == m
+    listed(cells, j * 4) == c && listed(cells, j * 4 + 1) == m
 }
 
 // The corner of cell j where it follows, else the one that was found before.
@@ -163,21 +148,14 @@ fn read_quad(nodes: &[f64], rims: &[u8], cells: &[NodeNumber], i: usize) -> Quad
 fn off(a: u64, m: u64, b: u64) -> bool
     ensures { result ≡ Scene.off a m b }
 {
-    let half = a / 2 + b / 2;
-    if half < m {
-        return m - half > 2;
-    }
-    half - m > 2
+    m.abs_diff(a / 2 + b / 2) > 2
 }
 
 // Whether the middle behind a cell's corner has snapped to a lead line.
 fn snapped(q: Quad) -> bool
     ensures { result ≡ Scene.snapped q }
 {
-    if off(q.corner.x, q.behind.x, q.next.x) {
-        return true;
-    }
-    off(q.corner.y, q.behind.y, q.next.y)
+    off(q.corner.x, q.behind.x, q.next.x) || off(q.corner.y, q.behind.y, q.next.y)
 }
 
 // The sign of a snapped middle.
@@ -251,10 +229,9 @@ pub fn put_lead(out: &mut [u8], at: usize, chain: &[i32], count: usize) -> usize
     if count == 0 {
         return at;
     }
-    let none = [0u64; 0];
-    let first = svg::put_form(out, at, b"<polyline class='lead' points='", &none);
+    let first = svg::put_form(out, at, b"<polyline class='lead' points='", &[]);
     let closed = put_points(out, first, chain, count);
-    svg::put_form(out, closed, b"'/>\n", &none)
+    svg::put_form(out, closed, b"'/>\n", &[])
 }
 
 // An accepted ring: its outline, its cells and their edges.
@@ -273,7 +250,6 @@ fn put_divided(
         (Scene.divided_text ring v points.now count nodes.now rims.now cells.now) result out.new }
 {
     let numbers = [ring, v.corners, v.cuts];
-    let none = [0u64; 0];
     let outline = svg::put_form(
         out,
         0,
@@ -281,9 +257,9 @@ fn put_divided(
         &numbers,
     );
     let closed = put_points(out, outline, points, count);
-    let quads = svg::put_form(out, closed, b"'/>\n", &none);
+    let quads = svg::put_form(out, closed, b"'/>\n", &[]);
     let end = put_quads(out, quads, nodes, rims, cells);
-    svg::put_form(out, end, b"</g>\n", &none)
+    svg::put_form(out, end, b"</g>\n", &[])
 }
 
 // Halfway between the first point and the one half round: x where k is 0, y where it is 1.
@@ -342,21 +318,12 @@ fn put_dot(out: &mut [u8], mark: u8, p: Spot, n: u64) -> usize
     requires { Scene.most_node ≤ length out.old }
     ensures { Written out.old 0 (Scene.dot_text mark p n) result out.new }
 {
-    let numbers = [p.x, p.y, n];
-    if mark == 0 {
-        return svg::put_form(
-            out,
-            0,
-            b"<g class='inside' transform='matrix(.01 0 0 -.01 @ @)'><circle r='.22em'/><text x='.3em' y='-.3em'>#</text></g>\n",
-            &numbers,
-        );
-    }
-    svg::put_form(
-        out,
-        0,
-        b"<g class='node' transform='matrix(.01 0 0 -.01 @ @)'><circle r='.22em'/><text x='.3em' y='-.3em'>#</text></g>\n",
-        &numbers,
-    )
+    let form: &[u8] = if mark == 0 {
+        b"<g class='inside' transform='matrix(.01 0 0 -.01 @ @)'><circle r='.22em'/><text x='.3em' y='-.3em'>#</text></g>\n"
+    } else {
+        b"<g class='node' transform='matrix(.01 0 0 -.01 @ @)'><circle r='.22em'/><text x='.3em' y='-.3em'>#</text></g>\n"
+    };
+    svg::put_form(out, 0, form, &[p.x, p.y, n])
 }
 
 // Node i: a dot, and its number.

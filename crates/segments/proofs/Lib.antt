@@ -4,3 +4,5 @@ pub mod Lines
 pub mod Parameters
 pub mod Touching
 pub mod MeetingTrials
+pub mod Literals
+pub mod Places

@@ -3,20 +3,20 @@
 -- THEOREMS `told-touching`, `told-crossing`, `told-apart`. So each of the three answers is given where its own test holds.
 -- THEOREMS `first-end`, `second-end`. An end is never strictly between the ends, nor is a corner that lies where an end does.
 use Prim.Native.Nat.{ℕ, zero, suc, ◌*◌, ◌^◌, ◌≤◌, ◌<◌}
-use native.Mathlib.Nat.{mul-one, zero-lt-suc}
+use native.Mathlib.Nat.{zero-lt-suc}
 use native.Mathlib.Omega.{arith}
 use mathlib.Core.Path.{◌≡◌, refl, sym, ap, ◌∙◌, subst}
 use mathlib.Core.Logic.{◌⊎◌, inl, inr}
-use mathlib.Core.Bool.{Bool, true, false, ◌&&◌, ◌||◌, not, cond}
-use lib.IntN.{ℤ, pos, negsuc, nat_abs, ◌+ℤ◌, ◌*ℤ◌, zero-*ℤ, *ℤ-zero}
+use mathlib.Core.Bool.{Bool, true, false, ◌&&◌, ◌||◌, not}
+use lib.IntN.{ℤ, pos, negsuc, nat_abs, ◌+ℤ◌, zero-*ℤ, *ℤ-zero}
 use lib.Signed.{lt_z, le_z}
-use lib.Dec.{T, lit≤}
-use lib.Ieee.{Float, binary64, prec, unlike, round, of_int, add, sub, neg, sum, lt}
-use lib.Ieee.Fits.{and_l, and_r}
+use lib.Dec.{T}
+use lib.Ieee.{binary64, prec, unlike, round, of_int, add, sub, neg, sum, lt}
+use lib.Ieee.Fits.{and_l}
 use lib.Ieee.Scale.{round_same}
 use Rattle.laws.specs.Double.{lit}
 use Rattle.laws.specs.Integer.{eq_z}
-use Rattle.laws.proofs.Booleans.{or_split, is_false}
+use Rattle.laws.proofs.Booleans.{or_split}
 use Rattle.laws.proofs.Exact.{div-at}
 use Rattle.laws.proofs.Scaled.{minus_sign, of_int_value}
 use Rattle.laws.proofs.Signed.{cross-small}

@@ -1,5 +1,5 @@
 -- 02, Card 11: how two segments meet, apart, touching or crossing. Crossing is told in doubles by `segments_cross`, touching by exact whole numbers.
-use Rattle.std.specs.Prelude.{Bool, ◌&&◌, ◌||◌, not, cond, pos}
+use Rattle.std.specs.Prelude.{Bool, ◌&&◌, ◌||◌, cond, pos, ℤ, Option, Some, None}
 use Rattle.std.specs.Int.Signed.{lt_z, le_z}
 use Rattle.laws.specs.Integer.{eq_z}
 use Rattle.vector.specs.declared.GridPoint.{GridPoint}
@@ -11,6 +11,10 @@ use Rattle.segments.specs.Segments.{segments_cross}
 -- p, a and b are on one line
 unfoldable pub on_line_of : GridPoint → GridPoint → GridPoint → Bool
 on_line_of a b p = eq_z (cross (sub a p) (sub b p)) (pos 0)
+
+-- where p is on the line of a and b: the dot product of the steps from it to them
+unfoldable pub place_on_line : GridPoint → GridPoint → GridPoint → Option ℤ
+place_on_line a b p = cond (on_line_of a b p) (Some (dot (sub a p) (sub b p))) None
 
 -- p is on the closed segment from a to b: on their line, and a and b are not both on one side of it. A segment of no length has its one point
 unfoldable pub on_segment : GridPoint → GridPoint → GridPoint → Bool

@@ -15,13 +15,11 @@ ghost use Rattle.segments.specs.Meeting as Meeting;
 use vector::GridPoint;
 
 // t lies strictly between 1.0e-9 and 1.0 - 1.0e-9: an end that only touches does not count.
+#[tactic(auto, using(crate::proofs::Literals::tiny_is, crate::proofs::Literals::one_is), unfolding(crate::specs::Segments::interior))]
 fn interior(t: f64) -> bool
     ensures { result ≡ Segments.interior t }
 {
-    if 1.0e-9 < t {
-        return t < 1.0 - 1.0e-9;
-    }
-    false
+    1.0e-9 < t && t < 1.0 - 1.0e-9
 }
 
 fn ratio(num: i64, den: i64) -> f64
@@ -29,12 +27,6 @@ fn ratio(num: i64, den: i64) -> f64
     ensures { result ≡ Segments.ratio num den }
 {
     vector::to_double(num) / vector::to_double(den)
-}
-
-fn is_zero(z: i64) -> bool
-    ensures { result ≡ eq_z z (pos 0) }
-{
-    z == 0
 }
 
 // Whether the segments from a to b and from c to d cross. Whole numbers decide whether they are parallel, doubles where they meet.
@@ -46,43 +38,28 @@ pub fn segments_cross(a: GridPoint, b: GridPoint, c: GridPoint, d: GridPoint) ->
     let d2 = d.sub(c);
     let ac = c.sub(a);
     let den = d1.cross(d2);
-    if is_zero(den) {
-        return false;
-    }
-    if interior(ratio(ac.cross(d2), den)) {
-        return interior(ratio(ac.cross(d1), den));
-    }
-    false
+    den != 0 && interior(ratio(ac.cross(d2), den)) && interior(ratio(ac.cross(d1), den))
 }
 
 // How two segments meet. No pair is both touching and crossing.
-#[derive(Clone, Copy)]
+#[derive(Clone, Copy, PartialEq, Eq)]
 pub enum Crossing {
     Apart,
     Touching,
     Crossing,
 }
 
-fn at_most_zero(z: i64) -> bool
-    ensures { result ≡ le_z z (pos 0) }
-{
-    z <= 0
-}
-
-fn below_zero(z: i64) -> bool
-    ensures { result ≡ lt_z z (pos 0) }
-{
-    z < 0
-}
-
-// Whether a, b and p are on one line, in whole numbers.
-fn on_line(a: GridPoint, b: GridPoint, p: GridPoint) -> bool
+// Where p is on the line of a and b, the dot product of the steps from it to them: below 0 between the two, 0 at one of them.
+fn on_line(a: GridPoint, b: GridPoint, p: GridPoint) -> Option<i64>
     requires { OnSheet a × OnSheet b × OnSheet p }
-    ensures { result ≡ Meeting.on_line_of a b p }
+    ensures { result ≡ Meeting.place_on_line a b p }
 {
     let u = a.sub(p);
     let v = b.sub(p);
-    is_zero(u.cross(v))
+    if u.cross(v) != 0 {
+        return None;
+    }
+    Some(u.dot(v))
 }
 
 // Whether p is on the segment from a to b, its ends included.
@@ -90,12 +67,7 @@ fn on_segment(a: GridPoint, b: GridPoint, p: GridPoint) -> bool
     requires { OnSheet a × OnSheet b × OnSheet p }
     ensures { result ≡ Meeting.on_segment a b p }
 {
-    if on_line(a, b, p) {
-        let u = a.sub(p);
-        let v = b.sub(p);
-        return at_most_zero(u.dot(v));
-    }
-    false
+    on_line(a, b, p).is_some_and(|place| place <= 0)
 }
 
 // Whether p is strictly between a and b on their line.
@@ -103,32 +75,20 @@ pub fn strictly_between(a: GridPoint, b: GridPoint, p: GridPoint) -> bool
     requires { OnSheet a × OnSheet b × OnSheet p }
     ensures { result ≡ Meeting.strictly_between a b p }
 {
-    if on_line(a, b, p) {
-        let u = a.sub(p);
-        let v = b.sub(p);
-        return below_zero(u.dot(v));
-    }
-    false
+    on_line(a, b, p).is_some_and(|place| place < 0)
 }
 
 // Whether an end of one segment is on the other.
+#[tactic(auto, unfolding(crate::specs::Meeting::touching))]
 fn touches(a: GridPoint, b: GridPoint, c: GridPoint, d: GridPoint) -> bool
     requires { OnSheet a × OnSheet b × OnSheet c × OnSheet d }
     ensures { result ≡ Meeting.touching a b c d }
 {
-    if on_segment(a, b, c) {
-        return true;
-    }
-    if on_segment(a, b, d) {
-        return true;
-    }
-    if on_segment(c, d, a) {
-        return true;
-    }
-    on_segment(c, d, b)
+    on_segment(a, b, c) || on_segment(a, b, d) || on_segment(c, d, a) || on_segment(c, d, b)
 }
 
 // How the segments from a to b and from c to d meet.
+#[tactic(auto, unfolding(crate::specs::Meeting::segments_meet))]
 pub fn segments_meet(a: GridPoint, b: GridPoint, c: GridPoint, d: GridPoint) -> Crossing
     requires { OnSheet a × OnSheet b × OnSheet c × OnSheet d }
     ensures { result ≡ Meeting.segments_meet a b c d }

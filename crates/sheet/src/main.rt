@@ -6,16 +6,16 @@
 
 #![tactic(auto)]
 
-ghost use Rattle.std.specs.Prelude.{◌≡◌, false};
+ghost use Rattle.std.specs.Prelude.{IfOk};
 ghost use Rattle.sheet_lines.specs.Sheeted.{Finished};
 
 use state::State;
 use std::io::{Read, Write};
-use telling::Sent;
+use stream::WriteFailed;
 
 // Runs the job and prints the sheet of the nodes that it leaves.
-fn list_job<R: Read, W: Write>(input: &mut R, output: &mut W) -> Sent
-    ensures { result.failed ≡ false → Finished result.bytes }
+fn list_job<R: Read, W: Write>(input: &mut R, output: &mut W) -> Result<u64, WriteFailed>
+    ensures { IfOk result Finished }
 {
     let mut ring = [0i32; 120];
     let mut nodes = [0.0f64; 3072];
@@ -35,13 +35,11 @@ fn list_job<R: Read, W: Write>(input: &mut R, output: &mut W) -> Sent
         );
         s = stepped.state;
     }
-    let used = s.used;
-    sheet_lines::print_sheet(output, &nodes, used)
+    sheet_lines::print_sheet(output, &nodes, s.used)
 }
 
 fn main(rt: HostRuntime) {
-    let sent = list_job(&mut rt.stdin(), &mut rt.stdout());
-    if sent.failed {
-        stream::write_all(&mut rt.stderr(), b"sheet: standard output failed\n");
+    if list_job(&mut rt.stdin(), &mut rt.stdout()).is_err() {
+        let _ = stream::write_all(&mut rt.stderr(), b"sheet: standard output failed\n");
     }
 }

@@ -7,47 +7,36 @@
 
 #![tactic(auto)]
 
-ghost use Rattle.std.specs.Prelude.{◌≡◌, true, false, ◌+◌, length};
+ghost use Rattle.std.specs.Prelude.{◌≡◌, ◌+◌, length, IfOk, OnOk};
 ghost use Rattle.listing.specs.Sheet as Sheet;
 ghost use Rattle.telling.specs.Reached.{EndedWith};
 ghost use Rattle.sheet_lines.specs.Sheeted.{Owed};
 
 use std::io::Write;
-use telling::Sent;
+use stream::WriteFailed;
 
 // Writes the line that is owed after `sent` bytes.
-fn send<W: Write>(output: &mut W, line: &[u8], sent: &mut u64) -> bool
+fn send<W: Write>(output: &mut W, line: &[u8], sent: &mut u64) -> Result<(), WriteFailed>
     requires { Owed sent.old line.now }
-    ensures { result ≡ true → sent.new ≡ sent.old + length line.now }
+    ensures { OnOk result (sent.new ≡ sent.old + length line.now) }
 {
     stream::write_counted(output, line, sent)
 }
 
-// Writes the lines of the first `used` nodes. That a run's nodes are in range is not proved here but tested once.
-pub fn print_sheet<W: Write>(output: &mut W, nodes: &[f64], used: usize) -> Sent
+// Writes the lines of the first `used` nodes, and answers how many bytes they have. That a run's nodes are in range is not
+// proved here but tested once.
+pub fn print_sheet<W: Write>(output: &mut W, nodes: &[f64], used: usize) -> Result<u64, WriteFailed>
     requires { EndedWith used nodes.now }
-    ensures { result.failed ≡ false → result.bytes ≡ length (Sheet.lines nodes.now used) }
+    ensures { IfOk result (λ sent. sent ≡ length (Sheet.lines nodes.now used)) }
 {
     let mut sent: u64 = 0;
     if listing::nodes_out(nodes, used) {
-        return Sent {
-            bytes: sent,
-            failed: true,
-        };
+        return Err(WriteFailed);
     }
     for i in 0..used {
         let mut line = [0u8; 65];
         listing::put_line(&mut line, 0, nodes, i);
-        let written = send(output, &line, &mut sent);
-        if !written {
-            return Sent {
-                bytes: sent,
-                failed: true,
-            };
-        }
+        send(output, &line, &mut sent)?;
     }
-    Sent {
-        bytes: sent,
-        failed: false,
-    }
+    Ok(sent)
 }

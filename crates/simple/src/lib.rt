@@ -5,42 +5,30 @@
 
 #![tactic(auto)]
 
-ghost use Rattle.std.specs.Prelude.{◌≡◌, not, ◌&&◌, ◌≤◌};
-ghost use Rattle.vector.specs.Size.{OnSheet};
-ghost use Rattle.vector.specs.Rings.{points_of, OnSheetRing};
-ghost use Rattle.segments.specs.Segments.{segments_cross};
+ghost use Rattle.std.specs.Prelude.{◌≡◌};
+ghost use Rattle.vector.specs.Rings.{OnSheetPoints};
 ghost use Rattle.simple.specs.Simple as Simple;
 
-use vector::{GridPoint, Point, Ring};
-
-// Two edges that share an end do not cross.
-fn edges_cross(a: GridPoint, b: GridPoint, c: GridPoint, d: GridPoint, joined: bool) -> bool
-    requires { OnSheet a × OnSheet b × OnSheet c × OnSheet d }
-    ensures { result ≡ (not joined && segments_cross a b c d) }
-{
-    if joined {
-        return false;
-    }
-    segments::segments_cross(a, b, c, d)
-}
+use vector::{GridPoint, Point};
 
 // Whether no edge of the ring crosses another. The scan over pairs of edges ends at the first crossing; the edge after i is
-// left out by where the inner loop starts, the edge before the first by its end.
-pub fn polygon_simple(ring: Ring) -> bool
-    requires { OnSheetRing ring }
-    ensures { result ≡ Simple.polygon_simple (points_of ring) }
+// left out by where the inner loop starts, the edge before the first, which ends where it starts, by its end.
+// Kept: nested loops over edge pairs, left by a label, are a form of the project.
+pub fn polygon_simple(ring: &[GridPoint]) -> bool
+    requires { OnSheetPoints ring.now }
+    ensures { result ≡ Simple.polygon_simple ring.now }
 {
-    let n = ring.count;
+    let n = ring.len();
     if n < 3 {
         return false;
     }
     let mut found = false;
     'scan: for i in 0..n {
-        let a = ring.points[i];
-        let b = ring.points[vector::next(i, n)];
+        let a = ring[i];
+        let b = ring[vector::next(i, n)];
         for j in i + 2..n {
             let k = vector::next(j, n);
-            if edges_cross(a, b, ring.points[j], ring.points[k], k == i) {
+            if k != i && segments::segments_cross(a, b, ring[j], ring[k]) {
                 found = true;
                 break 'scan;
             }
@@ -50,6 +38,7 @@ pub fn polygon_simple(ring: Ring) -> bool
 }
 
 // The ray from p to the right meets the edge from a to b.
+#[tactic(auto, unfolding(crate::specs::Simple::ray_meets))]
 fn ray_meets(a: Point, b: Point, p: Point) -> bool
     ensures { result ≡ Simple.ray_meets a b p }
 {
@@ -61,18 +50,14 @@ fn ray_meets(a: Point, b: Point, p: Point) -> bool
 }
 
 // Whether p is inside the ring: its ray meets an odd number of edges.
-pub fn point_in_polygon(ring: Ring, p: Point) -> bool
-    requires { OnSheetRing ring × (3 ≤ ring.count) }
-    ensures { result ≡ Simple.point_in_polygon (points_of ring) p }
+pub fn point_in_polygon(ring: &[GridPoint], p: Point) -> bool
+    requires { OnSheetPoints ring.now }
+    ensures { result ≡ Simple.point_in_polygon ring.now p }
 {
-    let n = ring.count;
     let mut inside = false;
-    for i in 0..n {
-        let a = Point::new(ring.points[i]);
-        let b = Point::new(ring.points[vector::next(i, n)]);
-        if ray_meets(a, b, p) {
-            inside = !inside;
-        }
+    for (i, a) in ring.iter().enumerate() {
+        let b = ring[vector::next(i, ring.len())];
+        inside ^= ray_meets(Point::new(*a), Point::new(b), p);
     }
     inside
 }

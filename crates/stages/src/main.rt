@@ -7,9 +7,8 @@
 
 mod text;
 
-ghost use Rattle.std.specs.Prelude.{◌≡◌, ◌/◌, ◌≤◌, ◌<◌, length};
+ghost use Rattle.std.specs.Prelude.{◌≡◌, ◌/◌, ◌≤◌, ◌<◌, length, IfSome};
 ghost use Rattle.blocks.specs.Blocks as Blocks;
-ghost use Rattle.vector.specs.Size.{AllOnSheet};
 ghost use Rattle.vector.specs.Rings.{most_points, OnSheetRing};
 ghost use Rattle.parts.specs.Layout.{ValidParts};
 
@@ -21,10 +20,9 @@ use parts::PartList;
 use std::io::{Read, Write};
 use vector::Ring;
 
-// What a block gives: the points of its ring or chain, the sheet size, 0 of a chain, and whether it was accepted.
+// What an accepted block gives: the points of its ring or chain, and the sheet size, 0 of a chain.
 #[derive(Clone, Copy)]
 struct Came {
-    accepted: bool,
     ring: Ring,
     size: u32,
 }
@@ -40,183 +38,135 @@ fn ring_of(points: &[i32]) -> Ring
     lent_points::points(points, points.len() / 2)
 }
 
-// How many points a block has.
-fn count_of(block: Block) -> usize
-    ensures { result ≡ Blocks.points block }
+// How many points a block has, and its sheet size; none of a refused one.
+fn head_of(block: Block) -> Option<(usize, u32)>
+    ensures { IfSome result (λ head. head.0 ≡ Blocks.points block) }
 {
     match block {
-        Block::Ring { count, size } => count,
-        Block::Chain { count } => count,
-        Block::Refused { code, block } => 0,
+        Block::Ring { count, size } => Some((count, size)),
+        Block::Chain { count } => Some((count, 0)),
+        Block::Refused { .. } => None,
     }
 }
 
-// Its sheet size.
-fn size_of(block: Block) -> u32 {
-    let Block::Ring { count, size } = block else {
-        return 0;
-    };
-    size
-}
-
-// Whether it was accepted.
-fn accepted(block: Block) -> bool {
-    let Block::Refused { code, block } = block else {
-        return true;
-    };
-    false
-}
-
 // Reads block `number`.
-fn read<R: Read>(input: &mut R, number: u32) -> Came
-    ensures { OnSheetRing result.ring }
+fn read<R: Read>(input: &mut R, number: u32) -> Option<Came>
+    ensures { IfSome result (λ came. OnSheetRing came.ring) }
 {
     let mut bytes = [0u8; 512];
     let n = stream::read_full(input, &mut bytes);
     let reading = blocks::read_block(&bytes[..n], number);
-    let block = reading.block;
-    let points = reading.points;
-    let end = count_of(block) * 2;
-    Came {
-        accepted: accepted(block),
-        ring: ring_of(&points[..end]),
-        size: size_of(block),
+    let (count, size) = head_of(reading.block)?;
+    Some(Came {
+        ring: ring_of(&reading.points[..count * 2]),
+        size,
+    })
+}
+
+fn print_chain<W: Write>(output: &mut W, s: &Simplified, n: usize)
+    requires { s.now.count ≤ 59 }
+{
+    let kept = if n == 0 { 0 } else { s.count + 1 };
+    for p in &s.points[..kept] {
+        text::point(output, "keep ", *p);
+    }
+    for p in &s.snaps[..s.count] {
+        text::bits(output, "snap ", *p);
     }
 }
 
-fn print_chain<W: Write>(output: &mut W, s: Simplified, n: usize)
-    requires { (s.count ≤ 59) × AllOnSheet s.points }
+fn print_marks<W: Write>(output: &mut W, ring: &MarkedRing)
+    requires { OnSheetRing ring.now.ring }
 {
-    let points = s.points;
-    let snaps = s.snaps;
-    let k = s.count;
-    if 0 < n {
-        text::point(output, b"keep ", points[0]);
-    }
-    for i in 0..k {
-        text::point(output, b"keep ", points[i + 1]);
-    }
-    for i in 0..k {
-        text::bits(output, b"snap ", snaps[i]);
+    for (i, edge) in ring.edges[..ring.ring.count].iter().enumerate() {
+        text::mark(output, i, edge.mark);
     }
 }
 
-fn print_marks<W: Write>(output: &mut W, ring: MarkedRing)
-    requires { OnSheetRing ring.ring }
+fn print_piece<W: Write>(output: &mut W, piece: &MarkedRing)
+    requires { OnSheetRing piece.now.ring }
 {
-    let n = ring.ring.count;
-    for i in 0..n {
-        let e = ring.edges[i];
-        let m = e.mark;
-        text::mark(output, i, m);
-    }
-}
-
-fn print_piece<W: Write>(output: &mut W, piece: MarkedRing)
-    requires { OnSheetRing piece.ring }
-{
-    let n = piece.ring.count;
-    let ring = piece.ring;
-    text::number(output, b"piece ", n as u64);
+    text::number(output, "piece ", piece.ring.count as u64);
     text::end(output);
-    for i in 0..n {
-        let e = piece.edges[i];
-        let m = e.mark;
-        text::corner(output, ring.points[i], m);
+    for (p, edge) in piece.ring.as_slice().iter().zip(&piece.edges) {
+        text::corner(output, *p, edge.mark);
     }
 }
 
-fn print_pieces<W: Write>(output: &mut W, ring: MarkedRing, pieces: PartList)
-    requires { ValidParts pieces × OnSheetRing ring.ring }
+fn print_pieces<W: Write>(output: &mut W, ring: &MarkedRing, pieces: &PartList)
+    requires { ValidParts pieces.now × OnSheetRing ring.now.ring }
 {
-    let own = ring.ring;
-    let points = own.points;
-    let edges = ring.edges;
-    let k = pieces.count;
-    for i in 0..k {
-        print_piece(
-            output,
-            MarkedRing {
-                ring: parts::piece_points(points, pieces, i),
-                edges: parts::piece_marks(edges, pieces, i),
-            },
-        );
+    for i in 0..pieces.count {
+        let piece = MarkedRing {
+            ring: parts::piece_points(&ring.ring.points, pieces, i),
+            edges: parts::piece_marks(&ring.edges, pieces, i),
+        };
+        print_piece(output, &piece);
     }
 }
 
-fn print_split<W: Write>(output: &mut W, ring: MarkedRing)
-    requires { OnSheetRing ring.ring × (3 ≤ ring.ring.count) }
+fn print_split<W: Write>(output: &mut W, ring: &MarkedRing)
+    requires { OnSheetRing ring.now.ring × (3 ≤ ring.now.ring.count) }
 {
-    let own = ring.ring;
-    let s = split::split_bad_vertices(Limits::on_delivery(), own);
-    text::number(output, b"cuts ", s.cuts as u64);
-    text::number(output, b" turned ", s.turned);
+    let s = split::split_bad_vertices(Limits::on_delivery(), &ring.ring);
+    text::number(output, "cuts ", s.cuts as u64);
+    text::number(output, " turned ", s.turned);
     text::end(output);
-    let pieces = s.pieces;
-    print_pieces(output, ring, pieces);
+    print_pieces(output, ring, &s.pieces);
 }
 
-fn print_marked<W: Write>(output: &mut W, ring: Ring, simple: bool, s: Simplified)
-    requires { OnSheetRing ring × (3 ≤ ring.count) × (s.count ≤ 59) }
+fn print_marked<W: Write>(output: &mut W, ring: Ring, simple: bool, s: &Simplified)
+    requires { OnSheetRing ring × (3 ≤ ring.count) × (s.now.count ≤ 59) }
 {
-    let edges = marks::mark_edges(ring, s);
     let marked = MarkedRing {
-        ring: ring,
-        edges: edges,
+        ring,
+        edges: marks::mark_edges(ring.as_slice(), s),
     };
-    print_marks(output, marked);
-    let area = vector::polygon_area(ring);
+    print_marks(output, &marked);
+    let area = vector::polygon_area(ring.as_slice());
     text::area(output, area);
-    let w = corner::worst(ring);
+    let w = corner::worst(ring.as_slice());
     text::worst(output, w, w.is_bad(Limits::on_delivery()));
-    if simple {
-        if 0 < area {
-            print_split(output, marked);
-        }
+    if simple && 0 < area {
+        print_split(output, &marked);
     }
 }
 
-fn print_ring<W: Write>(output: &mut W, ring: Ring, size: u32, run: Ring, number: u32)
-    requires { OnSheetRing ring × OnSheetRing run }
+fn print_ring<W: Write>(output: &mut W, ring: &Ring, size: u32, run: &Ring, number: u32)
+    requires { OnSheetRing ring.now × OnSheetRing run.now }
 {
-    text::number(output, b"ring ", number as u64);
+    text::number(output, "ring ", u64::from(number));
     text::end(output);
-    let s = chain::simplify_chain(run);
-    print_chain(output, s, run.count);
-    let r = clean::clean_polygon(ring, size);
-    let cleaned = r.ring;
-    text::points(output, cleaned);
-    let simple = simple::polygon_simple(cleaned);
-    text::flag(output, b"simple ", simple);
+    let s = chain::simplify_chain(run.as_slice());
+    print_chain(output, &s, run.count);
+    let cleaned = clean::clean_polygon(ring, size).ring;
+    text::points(output, cleaned.as_slice());
+    let simple = simple::polygon_simple(cleaned.as_slice());
+    text::number(output, "simple ", u64::from(simple));
     text::end(output);
     if 3 <= cleaned.count {
-        print_marked(output, cleaned, simple, s);
+        print_marked(output, cleaned, simple, &s);
     } else {
-        text::area(output, vector::polygon_area(cleaned));
+        text::area(output, vector::polygon_area(cleaned.as_slice()));
     }
 }
 
-// One ring with its chain; says whether there was one.
-fn pair<R: Read, W: Write>(input: &mut R, output: &mut W, number: u32) -> bool
+// One ring with its chain, if there is one.
+fn pair<R: Read, W: Write>(input: &mut R, output: &mut W, number: u32) -> Option<()>
     requires { number < 32768 }
 {
-    let head = read(input, number * 2);
-    if !head.accepted {
-        return false;
-    }
-    let tail = read(input, number * 2 + 1);
-    if !tail.accepted {
-        return false;
-    }
-    print_ring(output, head.ring, head.size, tail.ring, number);
-    true
+    let head = read(input, number * 2)?;
+    let tail = read(input, number * 2 + 1)?;
+    print_ring(output, &head.ring, head.size, &tail.ring, number);
+    Some(())
 }
 
 fn main(rt: HostRuntime) {
     let mut input = rt.stdin();
     let mut output = rt.stdout();
-    let mut number: u32 = 0;
-    while number < 32768 && pair(&mut input, &mut output, number) {
-        number += 1;
+    for number in 0u32..32768 {
+        if pair(&mut input, &mut output, number).is_none() {
+            return;
+        }
     }
 }

@@ -36,11 +36,8 @@ impl State {
         ensures { result ≡ record { block = self.block; count = self.count; size = self.size; used = self.used; ended = true } }
     {
         State {
-            block: self.block,
-            count: self.count,
-            size: self.size,
-            used: self.used,
             ended: true,
+            ..self
         }
     }
 }
@@ -56,8 +53,5 @@ pub fn goes_on(s: State) -> bool
 pub fn at_end(block: u32, bytes: &[u8]) -> bool
     ensures { result ≡ (eqb (block % 2) 0 && eqb (length bytes.now) 0) }
 {
-    if block % 2 == 0 {
-        return bytes.len() == 0;
-    }
-    false
+    block % 2 == 0 && bytes.is_empty()
 }

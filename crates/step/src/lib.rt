@@ -22,9 +22,7 @@ fn clear(cells: &mut [NodeNumber])
     requires { length cells.old ≡ 496 }
     ensures { cells.new ≡ no_cells }
 {
-    for k in 0..496 {
-        cells[k] = 0;
-    }
+    cells.fill(0);
 }
 
 // A refused block, which is the last.
@@ -52,9 +50,7 @@ fn keep(ring: &mut [i32], points: &[i32])
     requires { (length ring.old ≡ 120) × (length points.now ≡ 120) }
     ensures { ring.new ≡ points.now }
 {
-    for k in 0..120 {
-        ring[k] = points[k];
-    }
+    ring.copy_from_slice(points);
 }
 
 // A ring block: its ring waits for its chain.
@@ -71,8 +67,8 @@ fn ring_block(s: State, head: Block, points: &[i32], ring: &mut [i32]) -> Steppe
         block: s.block + 1,
         count,
         size,
-        used: s.used,
         ended: false,
+        ..s
     };
     Stepped {
         state,

@@ -8,122 +8,135 @@
 
 #![tactic(auto)]
 
-ghost use Rattle.std.specs.Prelude.{◌≡◌, true, ◌+◌, ◌^◌, ◌≤◌, ◌<◌, length, take};
+ghost use Rattle.std.specs.Prelude.{◌≡◌, ◌+◌, ◌^◌, ◌≤◌, ◌<◌, length, take, IfOk, IfErr, OnOk, OnErr};
 ghost use Rattle.std.specs.Io.KnownBytes.{Appends};
 ghost use Rattle.std.specs.Fmt.{decimal};
 ghost use Rattle.stream.specs.Shown.{sixteen};
 
+use std::io;
 use std::io::{Cursor, Error, Read, Write};
 
-// How much of a block there is after a failed read: part of one, so one byte at least.
-fn part_of(done: usize) -> usize
-    requires { done < 512 }
-    ensures { (0 < result) × (result < 512) }
-{
-    if done == 0 {
-        return 1;
-    }
-    done
+// A read failed; so many bytes had come.
+#[derive(Clone, Copy, PartialEq, Eq)]
+pub struct ReadFailed {
+    pub done: usize,
 }
 
-// Reads until the block is full or the input ends, and answers how many bytes there are.
+// A write failed, or took nothing.
+#[derive(Clone, Copy, PartialEq, Eq)]
+pub struct WriteFailed;
+
+// Reads until the list is full or the input ends, and answers how many bytes there are.
+pub fn fill<R: Read>(input: &mut R, bytes: &mut [u8]) -> Result<usize, ReadFailed>
+    ensures whole { IfOk result (λ n. n ≤ length bytes.new) }
+    ensures part { IfErr result (λ failed. failed.done < length bytes.new) }
+{
+    let mut done: usize = 0;
+    while done < bytes.len() {
+        let Ok(more) = input.read(&mut bytes[done..]) else {
+            return Err(ReadFailed { done });
+        };
+        if more == 0 {
+            break;
+        }
+        done += more;
+    }
+    Ok(done)
+}
+
+// Reads a block, and answers how many bytes there are. A failed read leaves part of a block, so one byte at least.
 pub fn read_block<R: Read>(input: &mut R, bytes: &mut [u8]) -> usize
     requires { length bytes.old ≡ 512 }
     ensures { result ≤ 512 }
 {
-    let mut done: usize = 0;
-    while done < 512 {
-        let Ok(more) = input.read(&mut bytes[done..]) else {
-            return part_of(done);
-        };
-        if more == 0 {
-            return done;
-        }
-        done += more;
+    match fill(input, bytes) {
+        Ok(n) => n,
+        Err(failed) => part_of(failed.done),
     }
-    done
+}
+
+// How much of a block there is after a failed read.
+fn part_of(done: usize) -> usize
+    requires { done < 512 }
+    ensures { (0 < result) × (result < 512) }
+{
+    done.max(1)
 }
 
 // Reads until the list is full, the input ends or a read fails, and answers how many bytes there are.
 pub fn read_full<R: Read>(input: &mut R, bytes: &mut [u8]) -> usize
     ensures { result ≤ length bytes.new }
 {
-    let mut done: usize = 0;
-    while done < bytes.len() {
-        let Ok(more) = input.read(&mut bytes[done..]) else {
-            return done;
-        };
-        if more == 0 {
-            return done;
-        }
-        done += more;
+    match fill(input, bytes) {
+        Ok(n) => n,
+        Err(failed) => failed.done,
     }
-    done
 }
 
 // Hands bytes over once, and counts those that were taken.
-fn write_some<W: Write>(output: &mut W, bytes: &[u8], sent: &mut u64) -> usize
+fn write_some<W: Write>(output: &mut W, bytes: &[u8], sent: &mut u64) -> Result<usize, WriteFailed>
     requires { sent.old + length bytes.now < 2 ^ 64 }
-    ensures within { result ≤ length bytes.now }
-    ensures counted { sent.new ≡ sent.old + result }
-    ensures written { Appends (W.contents output.old) (W.contents output.new) (take result bytes.now) }
+    ensures within { IfOk result (λ more. (0 < more) × (more ≤ length bytes.now)) }
+    ensures counted { IfOk result (λ more. sent.new ≡ sent.old + more) }
+    ensures written { IfOk result (λ more. Appends (W.contents output.old) (W.contents output.new) (take more bytes.now)) }
+    ensures rest { OnErr result (sent.new ≡ sent.old) }
 {
-    let Ok(more) = output.write(bytes) else {
-        return 0;
-    };
-    *sent = *sent + more as u64;
-    more
+    match output.write(bytes) {
+        Ok(more) if 0 < more => {
+            *sent += more as u64;
+            Ok(more)
+        }
+        _ => Err(WriteFailed),
+    }
 }
 
 // Writes all of a text, or stops at the first write that fails or takes nothing.
-pub fn write_counted<W: Write>(output: &mut W, text: &[u8], sent: &mut u64) -> bool
+pub fn write_counted<W: Write>(
+    output: &mut W,
+    text: &[u8],
+    sent: &mut u64,
+) -> Result<(), WriteFailed>
     requires { sent.old + length text.now < 2 ^ 64 }
-    ensures counted { result ≡ true → sent.new ≡ sent.old + length text.now }
-    ensures written { result ≡ true → Appends (W.contents output.old) (W.contents output.new) text.now }
+    ensures counted { OnOk result (sent.new ≡ sent.old + length text.now) }
+    ensures written { OnOk result (Appends (W.contents output.old) (W.contents output.new) text.now) }
 {
     let mut done: usize = 0;
     while done < text.len() {
-        let more = write_some(output, &text[done..], sent);
-        if more == 0 {
-            return false;
-        }
-        done += more;
+        done += write_some(output, &text[done..], sent)?;
     }
-    true
+    Ok(())
 }
 
 // The same of words that no definition counts, as those on standard error.
-pub fn write_all<W: Write>(output: &mut W, text: &[u8]) -> bool
-    ensures { result ≡ true → Appends (W.contents output.old) (W.contents output.new) text.now }
+pub fn write_all<W: Write>(output: &mut W, text: &[u8]) -> Result<(), WriteFailed>
+    ensures { OnOk result (Appends (W.contents output.old) (W.contents output.new) text.now) }
 {
     let mut sent: u64 = 0;
     write_counted(output, text, &mut sent)
 }
 
 // Writes a number in decimal digits.
-pub fn print_decimal<W: Write>(output: &mut W, n: u64) -> bool
-    ensures { result ≡ true → Appends (W.contents output.old) (W.contents output.new) (decimal n) }
+pub fn print_decimal<W: Write>(output: &mut W, n: u64) -> io::Result<()>
+    ensures { OnOk result (Appends (W.contents output.old) (W.contents output.new) (decimal n)) }
 {
-    write!(output, "{n}").is_ok()
+    write!(output, "{n}")
 }
 
 // Writes a number in sixteen hexadecimal digits.
-pub fn print_hex<W: Write>(output: &mut W, n: u64) -> bool
-    ensures { result ≡ true → Appends (W.contents output.old) (W.contents output.new) (sixteen n) }
+pub fn print_hex<W: Write>(output: &mut W, n: u64) -> io::Result<()>
+    ensures { OnOk result (Appends (W.contents output.old) (W.contents output.new) (sixteen n)) }
 {
-    write!(output, "{n:016x}").is_ok()
+    write!(output, "{n:016x}")
 }
 
 // How much of an error's text stands before its number in brackets.
 fn words_of(text: &[u8]) -> usize
     ensures { result ≤ length text.now }
 {
-    for i in 1..text.len() {
-        if text[i] == b'(' {
-            return i - 1;
-        }
-    }
-    text.len()
+    text.iter()
+        .skip(1)
+        .position(|b| *b == b'(')
+        .unwrap_or(text.len())
 }
 
 // Says on a line what failed, and why.
@@ -132,17 +145,9 @@ pub fn fail<W: Write>(output: &mut W, what: &str, error: Error) {
     let _ = write!(text, "{error}");
     let n = text.position() as usize;
     let bytes = text.into_inner();
-    write_all(output, what.as_bytes());
-    write_all(output, b": ");
-    let said = part(&bytes, n);
-    write_all(output, &said[..words_of(said)]);
-    write_all(output, b"\n");
-}
-
-// The first n bytes of a list, or all of it.
-fn part(bytes: &[u8], n: usize) -> &[u8] {
-    if n < bytes.len() {
-        return &bytes[..n];
-    }
-    bytes
+    let _ = write_all(output, what.as_bytes());
+    let _ = write_all(output, b": ");
+    let said = &bytes[..n.min(bytes.len())];
+    let _ = write_all(output, &said[..words_of(said)]);
+    let _ = write_all(output, b"\n");
 }

@@ -16,106 +16,103 @@ ghost use Rattle.parts.specs.Vertices.{vertex, corner_point, edge_at, Below, str
 use parts::Vertex;
 use vector::{GridPoint, MOST_POINTS};
 
-// m of n corners, counted from corner v. The last edge, the diagonal, is straight.
-fn segment(vs: [Vertex; MOST_POINTS], n: usize, v: usize, m: usize) -> [Vertex; MOST_POINTS]
-    requires { (n ≤ most_points) × (v < n) × (1 ≤ m) × (m ≤ n) × Below vs }
-    ensures { (take m result ≡ tab (closing vs n v m) m) × Below result }
+// A part that a cut makes, its corners in the first places, and the doubled area that was turned round in making it.
+// Kept: an array with a count beside, in fixed memory.
+#[derive(Clone, Copy)]
+pub struct SubPolygon {
+    pub corners: [Vertex; MOST_POINTS],
+    pub count: usize,
+    pub turned: u64,
+}
+
+impl SubPolygon {
+    // The corners alone.
+    pub fn as_slice(&self) -> &[Vertex]
+        requires { (self.now.count ≤ length self.now.corners) × Below self.now.corners }
+        ensures { (result.now ≡ take self.now.count self.now.corners) × (length result.now ≡ self.now.count) × Below result.now }
+    {
+        &self.corners[..self.count]
+    }
+}
+
+// The first m of the corners, counted round from corner v. The last edge, the diagonal, is straight.
+fn segment(vs: &[Vertex], v: usize, m: usize) -> [Vertex; MOST_POINTS]
+    requires { (length vs.now ≤ most_points) × (v < length vs.now) × (1 ≤ m) × (m ≤ length vs.now) × Below vs.now }
+    ensures { (take m result ≡ tab (closing vs.now (length vs.now) v m) m) × Below result }
 {
     let mut out = [Vertex::BLANK; MOST_POINTS];
-    let mut j = v;
-    for i in 0..m - 1 {
-        let c = vs[j];
-        out[i] = c;
-        j = vector::next(j, n);
+    for (i, c) in vs[v..].iter().chain(&vs[..v]).take(m).enumerate() {
+        out[i] = *c;
     }
-    let c = vs[j];
-    out[m - 1] = Vertex {
-        at: c.at,
-        edge: Vertex::STRAIGHT,
-    };
+    out[m - 1].edge = Vertex::STRAIGHT;
     out
 }
 
-// m corners the other way round. Each keeps the edge that now starts there; the last edge is straight.
-fn reversed(vs: [Vertex; MOST_POINTS], m: usize) -> [Vertex; MOST_POINTS]
-    requires { (1 ≤ m) × (m ≤ most_points) × Below vs }
-    ensures { (take m result ≡ tab (backward vs m) m) × Below result }
+// The corners the other way round. Each keeps the edge that now starts there; the last edge is straight.
+fn reversed(vs: &[Vertex]) -> [Vertex; MOST_POINTS]
+    requires { (1 ≤ length vs.now) × (length vs.now ≤ most_points) × Below vs.now }
+    ensures { (take (length vs.now) result ≡ tab (backward vs.now (length vs.now)) (length vs.now)) × Below result }
 {
     let mut out = [Vertex::BLANK; MOST_POINTS];
-    let mut a = vs[m - 1];
-    for i in 0..m - 1 {
-        let b = vs[m - 2 - i];
+    let before = vs.iter().rev().skip(1);
+    for (i, (a, b)) in vs.iter().rev().zip(before).enumerate() {
         out[i] = Vertex {
             at: a.at,
             edge: b.edge,
         };
-        a = b;
     }
-    out[m - 1] = Vertex {
-        at: a.at,
+    out[vs.len() - 1] = Vertex {
+        at: vs[0].at,
         edge: Vertex::STRAIGHT,
     };
     out
 }
 
-// A part that a cut makes, and the doubled area that was turned round in making it.
-#[derive(Clone, Copy)]
-pub struct SubPolygon {
-    pub corners: [Vertex; MOST_POINTS],
-    pub turned: u64,
-}
-
-// m corners that end with the diagonal, turned round if their area is negative.
+// The part of m corners that end with the diagonal, turned round if their area is negative.
 fn make_sub_polygon(
-    ring: [GridPoint; MOST_POINTS],
+    ring: &[GridPoint; MOST_POINTS],
     vs: [Vertex; MOST_POINTS],
     m: usize,
 ) -> SubPolygon
-    requires { (3 ≤ m) × (m ≤ most_points) × Below vs × AllOnSheet ring × ((vertex vs (m - 1)).edge ≡ straight_number) }
-    ensures { ((es : List EdgeMark) → length es ≡ most_points → part_of ring es result.corners m ≡ Cut.make_sub_polygon (tab (corner_point ring vs) m)
+    requires { (3 ≤ m) × (m ≤ most_points) × Below vs × AllOnSheet ring.now × ((vertex vs (m - 1)).edge ≡ straight_number) }
+    ensures { ((es : List EdgeMark) → length es ≡ most_points → part_of ring.now es result.corners m ≡ Cut.make_sub_polygon (tab (corner_point ring.now vs) m)
         (tab (edge_at es vs) (m - 1)))
-        × (result.turned ≡ Cut.turned_area (tab (corner_point ring vs) m)) × Below result.corners × (result.turned ≤ 2 ^ 53) }
+        × (result.turned ≡ Cut.turned_area (tab (corner_point ring.now vs) m)) × Below result.corners × (result.turned ≤ 2 ^ 53) × (result.count ≡ m) }
 {
-    let area = vector::polygon_area(parts::rotated_points(ring, vs, m, 0));
+    let part = &vs[..m];
+    let area = vector::polygon_area(parts::rotated_points(ring, part, 0).as_slice());
     if 0 <= area {
         return SubPolygon {
             corners: vs,
+            count: m,
             turned: 0,
         };
     }
     SubPolygon {
-        corners: reversed(vs, m),
-        turned: vector::magnitude(area),
+        corners: reversed(part),
+        count: m,
+        turned: area.unsigned_abs(),
     }
 }
 
-// The part of n corners from corner v to the place k after it.
-pub fn first_part(
-    ring: [GridPoint; MOST_POINTS],
-    vs: [Vertex; MOST_POINTS],
-    n: usize,
-    v: usize,
-    k: usize,
-) -> SubPolygon
-    requires { (n ≤ most_points) × (v < n) × (2 ≤ k) × (k + 2 ≤ n) × Below vs × AllOnSheet ring }
-    ensures { ((es : List EdgeMark) → length es ≡ most_points → part_of ring es result.corners (k + 1) ≡ Cut.first_part (part_of ring es vs n) v k)
-        × (result.turned ≡ Cut.turned_area (Cut.first_points (Cut.rotate v (tab (corner_point ring vs) n)) k)) × Below result.corners × (result.turned ≤ 2 ^ 53) }
+// The part of the corners from corner v to the place k after it.
+pub fn first_part(ring: &[GridPoint; MOST_POINTS], vs: &[Vertex], v: usize, k: usize) -> SubPolygon
+    requires { (length vs.now ≤ most_points) × (v < length vs.now) × (2 ≤ k) × (k + 2 ≤ length vs.now) × Below vs.now × AllOnSheet ring.now }
+    ensures { ((es : List EdgeMark) → length es ≡ most_points → part_of ring.now es result.corners (k + 1) ≡ Cut.first_part (part_of ring.now es vs.now (length vs.now)) v k)
+        × (result.turned ≡ Cut.turned_area (Cut.first_points (Cut.rotate v (tab (corner_point ring.now vs.now) (length vs.now))) k))
+        × Below result.corners × (result.turned ≤ 2 ^ 53) × (result.count ≡ k + 1) }
 {
-    make_sub_polygon(ring, segment(vs, n, v, k + 1), k + 1)
+    make_sub_polygon(ring, segment(vs, v, k + 1), k + 1)
 }
 
 // The part from there on, back to corner v.
-pub fn second_part(
-    ring: [GridPoint; MOST_POINTS],
-    vs: [Vertex; MOST_POINTS],
-    n: usize,
-    v: usize,
-    k: usize,
-) -> SubPolygon
-    requires { (n ≤ most_points) × (v < n) × (2 ≤ k) × (k + 2 ≤ n) × Below vs × AllOnSheet ring }
-    ensures { ((es : List EdgeMark) → length es ≡ most_points → part_of ring es result.corners (n - k + 1) ≡ Cut.second_part (part_of ring es vs n) v k)
-        × (result.turned ≡ Cut.turned_area (Cut.second_points (Cut.rotate v (tab (corner_point ring vs) n)) k)) × Below result.corners × (result.turned ≤ 2 ^ 53) }
+pub fn second_part(ring: &[GridPoint; MOST_POINTS], vs: &[Vertex], v: usize, k: usize) -> SubPolygon
+    requires { (length vs.now ≤ most_points) × (v < length vs.now) × (2 ≤ k) × (k + 2 ≤ length vs.now) × Below vs.now × AllOnSheet ring.now }
+    ensures { ((es : List EdgeMark) → length es ≡ most_points → part_of ring.now es result.corners (length vs.now - k + 1) ≡ Cut.second_part (part_of ring.now es vs.now (length vs.now)) v k)
+        × (result.turned ≡ Cut.turned_area (Cut.second_points (Cut.rotate v (tab (corner_point ring.now vs.now) (length vs.now))) k))
+        × Below result.corners × (result.turned ≤ 2 ^ 53) × (result.count ≡ length vs.now - k + 1) }
 {
+    let n = vs.len();
     let start = (v + k) % n;
-    make_sub_polygon(ring, segment(vs, n, start, n - k + 1), n - k + 1)
+    make_sub_polygon(ring, segment(vs, start, n - k + 1), n - k + 1)
 }

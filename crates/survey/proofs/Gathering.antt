@@ -19,7 +19,7 @@ use Rattle.nodes.specs.Flat.{node_in_of}
 use Rattle.nodes.specs.declared.nearby.Span.{Span}
 use Rattle.nodes.specs.declared.nearby.Window.{Window}
 use Rattle.nodes.specs.declared.nearby.Nearby.{Nearby}
-use Rattle.nodes.specs.Nearby.{most_nearby, chosen, Framed, in_span, inside_at, inside, xs_of, Collected, ValidNearby}
+use Rattle.nodes.specs.Nearby.{most_nearby, chosen, Framed, in_span, inside_at, inside, xs_of, CollectedOf, ValidNearby}
 use Rattle.nodes.proofs.Chosen.{beyond, pass, hit, skip}
 use Rattle.survey.specs.Survey.{counted, laid, nearby, Gathered}
 
@@ -181,7 +181,7 @@ module _ (l : List Float) (w : Window) (a : List ℕ) (b : List Float) where
 
   -- ---- what the search asks for
   pub collected : (n r : ℕ) (numbers : List ℕ) (xs : List Float) → length a ≡ most_nearby → length b ≡ most_nearby → r ≤ most_nearby → G n numbers xs r
-      → Collected l w n numbers xs r
+      → CollectedOf l w n numbers xs r
   collected n r numbers xs p q h g =
       let o : length (U n) ≡ r = few (length (U n)) r g.count h in
       let ox : length (xs_of l (U n)) ≡ r = length-map (U n) x_at ∙ o in

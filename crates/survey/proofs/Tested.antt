@@ -4,11 +4,13 @@ use native.Mathlib.Omega.{arith}
 use mathlib.Core.Path.{◌≡◌, refl, sym, ap, ◌∙◌}
 use mathlib.Core.Bool.{Bool, true, false, not, ◌||◌, true≢false}
 use mathlib.Core.List.{List}
-use lib.Ieee.{Float}
+use lib.ListN.{length, take, drop}
+use lib.Ieee.{Float, nan}
+use Rattle.std.specs.List.{fold}
 use Rattle.laws.specs.Bounded.{any}
 use Rattle.laws.proofs.Search.{any_at, any-fails}
-use Rattle.nodes.specs.Flat.{all_held}
-use Rattle.nodes.proofs.Ranged.{out, go_on}
+use Rattle.nodes.specs.Flat.{held, all_held}
+use Rattle.nodes.proofs.Ranged.{out, go_on, any_fold, any_within}
 
 -- the d numbers before place t go after those before place i
 joined : (l : List Float) (d i t : ℕ) → d ≤ t → t ≤ i + d → i ≤ t → (b c : Bool) → b ≡ any (out l) i → c ≡ any (λ j. out l (t - d + j)) d
@@ -29,6 +31,15 @@ pub block : (l : List Float) (i t : ℕ) → 64 ≤ t → t ≤ i + 64 → i ≤
 block l i t h k m b c e f =
     let a : (t - 64) * 2 ≡ t * 2 - 128 = omega arith in
     joined l 128 (i * 2) (t * 2) (omega arith) (omega arith) (omega arith) b c e (f ∙ ap (λ (n : ℕ). any (λ j. out l (n + j)) 128) a)
+
+-- the 64 before place t, as a pass finds it out
+pub judged : (l : List Float) (t : ℕ) → 64 ≤ t → t * 2 ≤ length l
+    → fold (λ b x. b || not (held x)) false (take (t * 2 - (t - 64) * 2) (drop ((t - 64) * 2) l)) ≡ any (λ j. out l ((t - 64) * 2 + j)) 128
+judged l t h k =
+    let e : t * 2 - (t - 64) * 2 ≡ 128 = omega arith in
+    any_fold (λ x. not (held x)) nan (take (t * 2 - (t - 64) * 2) (drop ((t - 64) * 2) l)) false
+    ∙ any_within (λ x. not (held x)) nan l ((t - 64) * 2) (t * 2 - (t - 64) * 2) (omega (arith, h, k))
+    ∙ ap (any (λ j. out l ((t - 64) * 2 + j))) e
 
 -- so all are held
 pub told : (l : List Float) (n : ℕ) (b : Bool) → b ≡ any (out l) n → not b ≡ all_held l n

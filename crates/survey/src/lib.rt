@@ -7,55 +7,39 @@
 
 #![tactic(auto)]
 
-ghost use Rattle.std.specs.Prelude.{◌≡◌, not, ◌+◌, ◌*◌, ◌≤◌, length, get_or};
+ghost use Rattle.std.specs.Prelude.{◌≡◌, ◌+◌, ◌*◌, ◌≤◌, ◌<◌, ◌||◌, length, get_or};
 ghost use Rattle.std.specs.Float.{nan};
 ghost use Rattle.laws.specs.Bounded.{any};
 ghost use Rattle.nodes.specs.Nodes.{most_places};
-ghost use Rattle.nodes.specs.Flat.{held, all_held};
 ghost use Rattle.nodes.specs.Nearby.{most_nearby, in_span, inside, xs_of};
-ghost use Rattle.survey.specs.Survey.{laid, survey_of, Gathered, GoesOn};
+ghost use Rattle.survey.specs.Survey.{laid, survey_of, GoesOn};
 
 use nodes::{MOST_NEARBY, Nearby, NodeNumber, Span, Window};
 
-// Whether all numbers of the nodes are held, and the nodes that were collected.
+// Whether all numbers of the nodes are held, and the nodes that were collected. Kept: no Option, since `near` is said whether
+// they are held or not.
 #[derive(Clone, Copy)]
 pub struct NodeSurvey {
     pub held: bool,
     pub near: Nearby,
 }
 
-// The same while it is made: how many were collected.
-#[derive(Clone, Copy)]
-struct Judged {
-    held: bool,
-    count: usize,
-}
-
-// Whether one of the 128 numbers from place `at` on is not held. Nothing ends the loop, so that several are judged at once.
-fn any_out(nodes: &[f64], at: usize) -> bool
-    requires { at + 128 ≤ length nodes.now }
-    ensures { result ≡ any (λ j. not (held (get_or nodes.now (at + j) nan))) 128 }
-{
-    let mut found = false;
-    for j in 0..128 {
-        found = found | !nodes::is_held(nodes[at + j]);
-    }
-    found
-}
-
-// Whether one of 64 coordinates, every other from place `at` on, is in the span; judged likewise.
+// Whether one of 64 coordinates, every other from place `at` on, is in the span. Nothing ends the pass, so that several are
+// judged at once.
 fn any_in(nodes: &[f64], at: usize, s: Span) -> bool
     requires { at + 127 ≤ length nodes.now }
     ensures { result ≡ any (λ j. in_span s (get_or nodes.now (at + j * 2) nan)) 64 }
 {
-    let mut found = false;
-    for j in 0..64 {
-        found = found | s.holds(nodes[at + j * 2]);
-    }
-    found
+    (0..64).fold(
+        false,
+        |found: bool, j: usize| -> bool
+            requires { (j < 64) × (at + 127 ≤ length nodes.now) }
+            ensures { result ≡ (found || in_span s (get_or nodes.entry.now (at + j * 2) nan)) }
+        { found | s.holds(nodes[at + j * 2]) },
+    )
 }
 
-// The nodes from place `from` on that are in the window go after the n collected before.
+// The nodes from place `from` on that are in the window go after the n collected before. Kept: by place, which is their number.
 fn collect_in(
     nodes: &[f64],
     from: usize,
@@ -122,45 +106,31 @@ fn by_blocks(
     w: Window,
     numbers: &mut [NodeNumber],
     xs: &mut [f64],
-) -> Judged
+) -> NodeSurvey
     requires { (old * 2 ≤ length nodes.now) × (old ≤ most_places) × (64 ≤ old)
         × (length numbers.old ≡ most_nearby) × (length xs.old ≡ most_nearby) }
-    ensures { (result.held ≡ all_held nodes.now (old * 2))
-        × Gathered nodes.now w old numbers.old xs.old numbers.new xs.new result.count }
+    ensures { (result ≡ survey_of w nodes.now old) × (numbers.new ≡ laid (inside w nodes.now old) numbers.old)
+        × (xs.new ≡ laid (xs_of nodes.now (inside w nodes.now old)) xs.old) }
 {
-    let mut i = 0;
     let mut out = false;
-    let mut n = 0;
-    while i < old {
-        let to = nodes::block_end(i, 64, old);
-        out = out | any_out(nodes, (to - 64) * 2);
-        n = collect_block(nodes, i, to, w, numbers, xs, n);
-        i = to;
+    let mut count = 0;
+    // Kept: a block is no chunk of the nodes. The last 64 begin where they end with the list.
+    for block in 0..old.div_ceil(64) {
+        let start = block * 64;
+        let to = nodes::block_end(start, 64, old);
+        out |= nodes::any_out(&nodes[(to - 64) * 2..to * 2]);
+        count = collect_block(nodes, start, to, w, numbers, xs, count);
     }
-    Judged {
-        held: !out,
-        count: n,
-    }
-}
-
-// The survey of any number of nodes: fewer than 64 one by one.
-fn tally(nodes: &[f64], old: usize, w: Window, numbers: &mut [NodeNumber], xs: &mut [f64]) -> Judged
-    requires { (old * 2 ≤ length nodes.now) × (old ≤ most_places) × (length numbers.old ≡ most_nearby) × (length xs.old ≡ most_nearby) }
-    ensures { (result.held ≡ all_held nodes.now (old * 2))
-        × Gathered nodes.now w old numbers.old xs.old numbers.new xs.new result.count }
-{
-    if old < 64 {
-        let n = collect_in(nodes, 0, old, w, numbers, xs, 0);
-        return Judged {
-            held: nodes::all_held(nodes, old * 2),
-            count: n,
-        };
-    }
-    by_blocks(nodes, old, w, numbers, xs)
+    let near = Nearby {
+        window: w,
+        old,
+        count,
+    };
+    NodeSurvey { held: !out, near }
 }
 
 // The nodes in the first `old` places: whether all their numbers are held; and of those in the window the numbers, rising,
-// and the x, as many as the two lists hold.
+// and the x, as many as the two lists hold. Fewer than 64 are looked at one by one.
 pub fn used_nodes(
     nodes: &[f64],
     old: usize,
@@ -172,13 +142,17 @@ pub fn used_nodes(
     ensures { (result ≡ survey_of w nodes.now old) × (numbers.new ≡ laid (inside w nodes.now old) numbers.old)
         × (xs.new ≡ laid (xs_of nodes.now (inside w nodes.now old)) xs.old) }
 {
-    let t = tally(nodes, old, w, numbers, xs);
+    if old >= 64 {
+        return by_blocks(nodes, old, w, numbers, xs);
+    }
+    let count = collect_in(nodes, 0, old, w, numbers, xs, 0);
+    let near = Nearby {
+        window: w,
+        old,
+        count,
+    };
     NodeSurvey {
-        held: t.held,
-        near: Nearby {
-            window: w,
-            old: old,
-            count: t.count,
-        },
+        held: nodes::all_held(nodes, old * 2),
+        near,
     }
 }

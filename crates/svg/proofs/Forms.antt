@@ -1,9 +1,10 @@
 -- What each byte of a form stands for, case by case, and how long a form is: 25 more for each mark than the mark itself, whatever the numbers.
-use Prim.Native.Nat.{ℕ, ◌+◌, ◌-◌, ◌*◌, ◌/◌, ◌%◌, ◌≤◌, ◌<◌}
-use mathlib.Core.Path.{◌≡◌}
+use Prim.Native.Nat.{ℕ, suc, ◌+◌, ◌-◌, ◌*◌, ◌/◌, ◌%◌, ◌≤◌, ◌<◌}
+use mathlib.Core.Path.{◌≡◌, sym, ap, ◌∙◌}
 use mathlib.Core.Bool.{Bool, true, false, ◌||◌, cond}
 use mathlib.Core.List.{List, [], ◌∷◌, ◌++◌}
 use native.Mathlib.Omega.{arith}
+use native.Mathlib.Decide.{dec_le}
 use lib.ListN.{length, get_or}
 use lib.Dec.{ltb, eqb}
 use borrow.Author.Tests.{eq-eqb, ne_eqb, lt-ltb, le-ltb}
@@ -35,6 +36,21 @@ plain-below n k h = rw (eq-eqb (n % 10000) 0 k, lt-ltb n origin h)
 pub plain-above : (n : ℕ) → n % 10000 ≡ 0 → origin ≤ n → plain n ≡ decimal ((n - origin) / 10000)
 unfolding plain
 plain-above n k h = rw (eq-eqb (n % 10000) 0 k, le-ltb n origin h)
+
+-- with the distance from the origin
+module _ (n m : ℕ) (e : m ≡ (n - origin) + (origin - n)) where
+  pub exact-is : decimals (ltb n origin) m ≡ exact n
+  exact-is = go (dec_le (suc n) origin)
+    where
+      go : Dec (suc n ≤ origin) → decimals (ltb n origin) m ≡ exact n
+      go (yes k) = rw (exact_below n k, lt-ltb n origin k) (ap (decimals true) (omega (arith, e, k)))
+      go (no k) = rw (exact_above n (omega (arith, k)), le-ltb n origin (omega (arith, k))) (ap (decimals false) (omega (arith, e, k)))
+
+  pub plain-low : n % 10000 ≡ 0 → n < origin → (45 ∷ []) ++ decimal (m / 10000) ≡ plain n
+  plain-low k h = ap (λ (x : ℕ). (45 ∷ []) ++ decimal (x / 10000)) (omega (arith, e, h)) ∙ sym (plain-below n k h)
+
+  pub plain-high : n % 10000 ≡ 0 → origin ≤ n → decimal (m / 10000) ≡ plain n
+  plain-high k h = ap (λ (x : ℕ). decimal (x / 10000)) (omega (arith, e, h)) ∙ sym (plain-above n k h)
 
 module _ (b n : ℕ) where
   pub part-number : b ≡ 35 → part b n ≡ decimal n

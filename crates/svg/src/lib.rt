@@ -6,11 +6,15 @@
 
 #![tactic(auto)]
 
-ghost use Rattle.std.specs.Prelude.{◌≡◌, ◌+◌, ◌≤◌, ◌<◌, length, get_or};
+ghost use Rattle.std.specs.Prelude.{◌≡◌, ◌+◌, ◌≤◌, length, get_or};
 ghost use Rattle.std.specs.Float.{nan};
 ghost use Rattle.text.specs.Text.{Written};
+ghost use Rattle.text.specs.Page.{Room, Wrote};
 ghost use Rattle.svg.specs.Place as Place;
 ghost use Rattle.svg.specs.Form as Form;
+
+use decimals::Decimal;
+use text::{Marks, Page};
 
 // The place of 0 mm.
 pub const ORIGIN: u64 = 20000000;
@@ -22,21 +26,22 @@ pub fn place_of(x: f64) -> u64
     if !nodes::is_held(x) {
         return ORIGIN;
     }
-    let n = decimals::ten_thousandths(x);
-    if decimals::minus(x, n) {
-        return ORIGIN - n;
+    let d = Decimal::of(x);
+    if d.minus {
+        ORIGIN - d.parts
+    } else {
+        ORIGIN + d.parts
     }
-    ORIGIN + n
 }
 
 // The place of number k of a node list, the origin where there is none.
 pub fn node_place(nodes: &[f64], k: usize) -> u64
     ensures { result ≡ Place.place_of (get_or nodes.now k nan) }
 {
-    if k < nodes.len() {
-        return place_of(nodes[k]);
+    match nodes.get(k) {
+        Some(x) => place_of(*x),
+        None => ORIGIN,
     }
-    ORIGIN
 }
 
 // So many units in ten-thousandths of a mm, those of 1,024 mm at most.
@@ -53,91 +58,75 @@ fn unit_place(n: u32) -> u64
     ensures { (result ≡ Place.unit_place n) × (result ≤ 30240001) }
 {
     if n < 2147483648 {
-        return ORIGIN + rounded(n as u64);
+        return ORIGIN + rounded(u64::from(n));
     }
-    ORIGIN - rounded(4294967296 - n as u64)
+    ORIGIN - rounded(4294967296 - u64::from(n))
 }
 
 // The place of coordinate k of a ring's points, the origin where there is none.
 pub fn point_place(points: &[i32], k: usize) -> u64
     ensures { (result ≡ Place.point_place points.now k) × (result ≤ 30240001) }
 {
-    if k < points.len() {
-        return unit_place(blocks::bits(points[k]));
-    }
-    ORIGIN
+    unit_place(blocks::bits(points.get(k).copied().unwrap_or(0)))
 }
 
 // A place in mm, with four decimals.
-fn put_exact(out: &mut [u8], at: usize, n: u64) -> usize
-    requires { at + length (Form.exact n) ≤ length out.old }
-    ensures { Written out.old at (Form.exact n) result out.new }
+fn put_exact(page: &mut Page, n: u64)
+    requires { Room page.old (Form.exact n) }
+    ensures { Wrote page.old (Form.exact n) page.new }
 {
-    if n < ORIGIN {
-        return decimals::put_decimals(out, at, true, ORIGIN - n);
-    }
-    decimals::put_decimals(out, at, false, n - ORIGIN)
+    let d = Decimal {
+        minus: n < ORIGIN,
+        parts: n.abs_diff(ORIGIN),
+    };
+    d.put(page);
 }
 
 // A place in mm, without decimals where it is whole.
-fn put_plain(out: &mut [u8], at: usize, n: u64) -> usize
-    requires { at + length (Form.plain n) ≤ length out.old }
-    ensures { Written out.old at (Form.plain n) result out.new }
+fn put_plain(page: &mut Page, n: u64)
+    requires { Room page.old (Form.plain n) }
+    ensures { Wrote page.old (Form.plain n) page.new }
 {
     if n % 10000 != 0 {
-        return put_exact(out, at, n);
+        return put_exact(page, n);
     }
     if n < ORIGIN {
-        let next = text::put_byte(out, at, b'-');
-        return text::put_decimal(out, next, (ORIGIN - n) / 10000);
+        page.byte(b'-');
     }
-    text::put_decimal(out, at, (n - ORIGIN) / 10000)
+    page.decimal(n.abs_diff(ORIGIN) / 10000);
 }
 
-// What one byte of a form stands for.
-fn put_part(out: &mut [u8], at: usize, b: u8, n: u64) -> usize
-    requires { at + length (Form.part b n) ≤ length out.old }
-    ensures { Written out.old at (Form.part b n) result out.new }
-{
-    if b == b'#' {
-        return text::put_decimal(out, at, n);
+// The marks of a picture's forms.
+struct PlaceMarks;
+
+impl Marks for PlaceMarks {
+    ghost stands = { Form.part };
+
+    ghost takes = { Form.takes };
+
+    fn taken(b: u8) -> usize {
+        match b {
+            b'#' | b'@' | b'~' => 1,
+            _ => 0,
+        }
     }
-    if b == b'@' {
-        return put_exact(out, at, n);
+
+    fn put(page: &mut Page, b: u8, n: u64) {
+        match b {
+            b'#' => page.decimal(n),
+            b'@' => put_exact(page, n),
+            b'~' => put_plain(page, n),
+            _ => page.byte(b),
+        }
     }
-    if b == b'~' {
-        return put_plain(out, at, n);
-    }
-    text::put_byte(out, at, b)
 }
 
-// How many numbers a byte of a form takes.
-fn takes(b: u8) -> usize
-    ensures { (result ≡ Form.takes b) × (result ≤ 1) }
-{
-    if b == b'#' {
-        return 1;
-    }
-    if b == b'@' {
-        return 1;
-    }
-    if b == b'~' {
-        return 1;
-    }
-    0
-}
-
-// The form with the numbers in place of its marks, in order.
+// The form with the numbers in place of its marks, in order, from the place `at` on; answers the place after it.
 pub fn put_form(out: &mut [u8], at: usize, form: &[u8], numbers: &[u64]) -> usize
     requires { at + length (Form.formed form.now numbers.now) ≤ length out.old }
     ensures { Written out.old at (Form.formed form.now numbers.now) result out.new }
 {
-    let mut next = at;
-    let mut k = 0;
-    for i in 0..form.len() {
-        let b = form[i];
-        next = put_part(out, next, b, text::number(numbers, k));
-        k += takes(b);
-    }
-    next
+    let mut page = Page { out, at };
+    page.form::<PlaceMarks>(form, numbers);
+    page.at
 }

@@ -8,7 +8,32 @@
 ghost use Rattle.std.specs.Prelude.{◌≡◌};
 ghost use Rattle.table.specs.Answers as Answers;
 
-// A ring that was divided; one that was refused, with its number; or one with a piece that has a failing cell.
+// What a ring is refused for, each with its number in the table. A ring with a piece that has a failing cell, 8, is an
+// answer of its own.
+#[derive(Clone, Copy, PartialEq, Eq)]
+pub enum Refusal {
+    Counts = 1,
+    Units = 2,
+    Lists = 3,
+    Room = 4,
+    UnderThree = 5,
+    NotSimple = 6,
+    NoArea = 7,
+    Marks = 13,
+    Outline = 14,
+    Limits = 15,
+    Practice = 16,
+}
+
+impl From<Refusal> for u64 {
+    ghost from_gives = { λ r n. n ≡ Answers.number_of r };
+
+    fn from(r: Refusal) -> u64 {
+        r as u64
+    }
+}
+
+// A ring that was divided; one that was refused; or one with a piece that has a failing cell.
 #[derive(Clone, Copy)]
 pub enum Answer {
     Divided {
@@ -22,7 +47,7 @@ pub enum Answer {
         cells: usize,
     },
     Refused {
-        code: u32,
+        why: Refusal,
         nodes: usize,
         cells: usize,
     },
@@ -35,8 +60,9 @@ pub enum Answer {
 }
 
 // A row of the table: the number, and every value that it may have.
+// Kept: each is a u64, the number too, since C reads the row.
 #[repr(C)]
-#[derive(Clone, Copy)]
+#[derive(Clone, Copy, Default)]
 pub struct Row {
     pub code: u64,
     pub corners: u64,
@@ -50,11 +76,11 @@ pub struct Row {
     pub cells: u64,
 }
 
-impl Row {
-    // The row of an answer.
-    pub fn new(a: Answer) -> Row
-        ensures { result ≡ Answers.values a }
-    {
+// The row of an answer: zeros for what it does not have.
+impl From<Answer> for Row {
+    ghost from_gives = { λ a row. row ≡ Answers.values a };
+
+    fn from(a: Answer) -> Row {
         match a {
             Answer::Divided {
                 corners,
@@ -66,9 +92,7 @@ impl Row {
                 nodes,
                 cells,
             } => Row {
-                code: 0,
                 corners: corners as u64,
-                k: 0,
                 marked: marked as u64,
                 cuts: cuts as u64,
                 pieces: pieces as u64,
@@ -76,32 +100,27 @@ impl Row {
                 area: area,
                 nodes: nodes as u64,
                 cells: cells as u64,
+                ..Row::default()
             },
-            Answer::Refused { code, nodes, cells } => Row::counts(code as u64, 0, 0, nodes, cells),
+            Answer::Refused { why, nodes, cells } => Row {
+                code: u64::from(why),
+                nodes: nodes as u64,
+                cells: cells as u64,
+                ..Row::default()
+            },
             Answer::Failed {
                 corners,
                 k,
                 nodes,
                 cells,
-            } => Row::counts(8, corners, k, nodes, cells),
-        }
-    }
-
-    // The row of a ring that was not divided: zeros for the rest.
-    fn counts(code: u64, corners: usize, k: usize, nodes: usize, cells: usize) -> Row
-        ensures { result ≡ Answers.undivided code corners k nodes cells }
-    {
-        Row {
-            code: code,
-            corners: corners as u64,
-            k: k as u64,
-            marked: 0,
-            cuts: 0,
-            pieces: 0,
-            turned: 0,
-            area: 0,
-            nodes: nodes as u64,
-            cells: cells as u64,
+            } => Row {
+                code: 8,
+                corners: corners as u64,
+                k: k as u64,
+                nodes: nodes as u64,
+                cells: cells as u64,
+                ..Row::default()
+            },
         }
     }
 }

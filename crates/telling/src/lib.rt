@@ -5,7 +5,7 @@
 
 #![tactic(auto)]
 
-ghost use Rattle.std.specs.Prelude.{◌≡◌, false, ◌+◌, ◌≤◌, length};
+ghost use Rattle.std.specs.Prelude.{◌≡◌, ◌+◌, ◌≤◌, length, IfOk, OnOk};
 ghost use Rattle.report.specs.Report.{most_text};
 ghost use Rattle.told.specs.Text.{told_text, CanTell};
 ghost use Rattle.telling.specs.Reached.{Owed, Sends};
@@ -13,32 +13,29 @@ ghost use Rattle.telling.specs.Reached.{Owed, Sends};
 use nodes::NodeNumber;
 use report::MOST_TEXT;
 use std::io::Write;
+use stream::WriteFailed;
 use told::Told;
 
-// How many bytes were written in all; and whether writing has failed, in which case they may end within a text.
-#[derive(Clone, Copy)]
-pub struct Sent {
-    pub bytes: u64,
-    pub failed: bool,
-}
-
-// Writes the text that is owed after `sent` bytes.
-fn send<W: Write>(output: &mut W, text: &[u8], sent: &mut u64) -> Sent
+// Writes the text that is owed after `sent` bytes, and answers how many were written in all.
+fn send<W: Write>(output: &mut W, text: &[u8], sent: &mut u64) -> Result<u64, WriteFailed>
     requires { Owed sent.old text.now × (length text.now ≤ most_text) }
-    ensures { (result.bytes ≡ sent.new) × (result.failed ≡ false → sent.new ≡ sent.old + length text.now) }
+    ensures all { IfOk result (λ n. n ≡ sent.new) }
+    ensures counted { OnOk result (sent.new ≡ sent.old + length text.now) }
 {
-    let written = stream::write_counted(output, text, sent);
-    Sent {
-        bytes: *sent,
-        failed: !written,
-    }
+    stream::write_counted(output, text, sent)?;
+    Ok(*sent)
 }
 
 // Writes the text of what a step told, after `sent` bytes.
-fn write_told<W: Write>(output: &mut W, told: Told, cells: &[NodeNumber], sent: &mut u64) -> Sent
+fn write_told<W: Write>(
+    output: &mut W,
+    told: Told,
+    cells: &[NodeNumber],
+    sent: &mut u64,
+) -> Result<u64, WriteFailed>
     requires { Owed sent.old (told_text told cells.now) × CanTell told cells.now }
-    ensures { (result.bytes ≡ sent.new)
-        × (result.failed ≡ false → Sends sent.old (told_text told cells.now) sent.new) }
+    ensures all { IfOk result (λ n. n ≡ sent.new) }
+    ensures sends { OnOk result (Sends sent.old (told_text told cells.now) sent.new) }
 {
     let mut text = [0u8; MOST_TEXT];
     let n = told::print(told, cells, &mut text);
@@ -47,17 +44,19 @@ fn write_told<W: Write>(output: &mut W, told: Told, cells: &[NodeNumber], sent: 
 
 // The same, and nothing where nothing was told. The text has its place in `write_told`, so that none of it is on the stack
 // while a ring is divided: a function with one call would be merged into the loop, with its places, and so it has two; and
-// both answer a struct, since two calls for a bool would be made one.
-pub fn tell<W: Write>(output: &mut W, told: Told, cells: &[NodeNumber], sent: &mut u64) -> Sent
+// both answer a number, since two calls that only say whether they failed would be made one.
+pub fn tell<W: Write>(
+    output: &mut W,
+    told: Told,
+    cells: &[NodeNumber],
+    sent: &mut u64,
+) -> Result<u64, WriteFailed>
     requires { Owed sent.old (told_text told cells.now) × CanTell told cells.now }
-    ensures { (result.bytes ≡ sent.new)
-        × (result.failed ≡ false → Sends sent.old (told_text told cells.now) sent.new) }
+    ensures all { IfOk result (λ n. n ≡ sent.new) }
+    ensures sends { OnOk result (Sends sent.old (told_text told cells.now) sent.new) }
 {
     match told {
-        Told::Nothing => Sent {
-            bytes: *sent,
-            failed: false,
-        },
+        Told::Nothing => Ok(*sent),
         Told::Ring { .. } => write_told(output, told, cells, sent),
         Told::Block { .. } => write_told(output, told, cells, sent),
     }

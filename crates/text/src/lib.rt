@@ -1,20 +1,35 @@
-// Text: bytes, numbers in decimal, and forms filled with numbers, written into a list that the caller lends. It stands below
-// all that prints: the report, the cell sheet, the picture.
+// Text: bytes, numbers in decimal, and forms filled with numbers, written on a page, a list that the caller lends. It stands
+// below all that prints: the report, the cell sheet, the picture.
 //
-// Each function takes the place to write at and returns the place after it. specs/Text says what a text is and what writing
-// it leaves in every place of the list; proofs/Writing has the laws of texts written one after the other.
+// specs/Text says what a text is and what writing it leaves in every place of the list; proofs/Writing has the laws of texts
+// written one after the other. What writes stops at no failure: whoever calls shows that the text has room.
 
 #![tactic(auto)]
 
-ghost use Rattle.std.specs.Prelude.{◌≡◌, [], ◌∷◌, ◌+◌, ◌≤◌, ◌<◌, length, get_or};
-ghost use Rattle.text.specs.Text.{decimal, part, takes, filled, Written};
+ghost use Rattle.std.specs.Prelude.{◌≡◌, ℕ, List, [], ◌∷◌, ◌+◌, ◌<◌, ◌≤◌, get_or};
+ghost use Rattle.text.specs.Text.{decimal, part, takes, filled, filled_by};
+ghost use Rattle.text.specs.Page.{Room, Wrote};
 
-pub fn put_byte(out: &mut [u8], at: usize, b: u8) -> usize
-    requires { at < length out.old }
-    ensures { Written out.old at (b ∷ []) result out.new }
-{
-    out[at] = b;
-    at + 1
+// A list that is lent to be written on, and how many of its bytes are written.
+// Kept: no `write!`, whose clauses speak of an `Ok` alone, so that no proof could say that a text with room is written.
+#[derive(Drop)]
+pub struct Page<'a> {
+    pub out: &'a mut [u8],
+    pub at: usize,
+}
+
+// The marks of a kind of form: what a byte of a form stands for, n the next of the form's numbers, and how many it takes.
+pub trait Marks {
+    ghost stands: { ℕ → ℕ → List ℕ };
+
+    ghost takes: { ℕ → ℕ };
+
+    fn taken(b: u8) -> usize
+        ensures { (result ≡ takes b) × (result ≤ 1) };
+
+    fn put(page: &mut Page, b: u8, n: u64)
+        requires { Room page.old (stands b n) }
+        ensures { Wrote page.old (stands b n) page.new };
 }
 
 fn digit(n: u64) -> u8
@@ -24,60 +39,70 @@ fn digit(n: u64) -> u8
     48 + n as u8
 }
 
-// The digits before the last, and the last.
-pub fn put_decimal(out: &mut [u8], at: usize, n: u64) -> usize
-    requires { at + length (decimal n) ≤ length out.old }
-    ensures { Written out.old at (decimal n) result out.new }
-{
-    if n < 10 {
-        return put_byte(out, at, digit(n));
+impl Page<'_> {
+    pub fn byte(&mut self, b: u8)
+        requires { Room self.old (b ∷ []) }
+        ensures { Wrote self.old (b ∷ []) self.new }
+    {
+        self.out[self.at] = b;
+        self.at += 1;
     }
-    let next = put_decimal(out, at, n / 10);
-    put_byte(out, next, digit(n % 10))
-}
 
-// What one byte of a form stands for: a '#' for the number n, any other byte for itself.
-fn put_part(out: &mut [u8], at: usize, b: u8, n: u64) -> usize
-    requires { at + length (part b n) ≤ length out.old }
-    ensures { Written out.old at (part b n) result out.new }
-{
-    if b == b'#' {
-        return put_decimal(out, at, n);
+    // The digits before the last, and the last.
+    pub fn decimal(&mut self, n: u64)
+        requires { Room self.old (decimal n) }
+        ensures { Wrote self.old (decimal n) self.new }
+    {
+        if n >= 10 {
+            self.decimal(n / 10);
+        }
+        self.byte(digit(n % 10));
     }
-    put_byte(out, at, b)
-}
 
-// How many numbers a byte of a form takes.
-fn taken(b: u8) -> usize
-    ensures { (result ≡ takes b) × (result ≤ 1) }
-{
-    if b == b'#' {
-        return 1;
+    // A form of any kind, with the numbers in place of its marks, in order.
+    pub fn form<M: Marks>(&mut self, form: &[u8], numbers: &[u64])
+        requires { Room self.old (filled_by M.stands M.takes form.now numbers.now) }
+        ensures { Wrote self.old (filled_by M.stands M.takes form.now numbers.now) self.new }
+    {
+        let mut k = 0;
+        for b in form {
+            M::put(self, *b, number(numbers, k));
+            k += M::taken(*b);
+        }
     }
-    0
+
+    // A form whose one mark is '#', a number in decimal.
+    pub fn filled(&mut self, form: &[u8], numbers: &[u64])
+        requires { Room self.old (filled form.now numbers.now) }
+        ensures { Wrote self.old (filled form.now numbers.now) self.new }
+    {
+        self.form::<Decimals>(form, numbers);
+    }
 }
 
 // Number k of a form's numbers, 0 past them.
 pub fn number(numbers: &[u64], k: usize) -> u64
     ensures { result ≡ get_or numbers.now k 0 }
 {
-    if k < numbers.len() {
-        return numbers[k];
-    }
-    0
+    numbers.get(k).copied().unwrap_or(0)
 }
 
-// The form with the numbers in place of its '#', in order.
-pub fn put_filled(out: &mut [u8], at: usize, form: &[u8], numbers: &[u64]) -> usize
-    requires { at + length (filled form.now numbers.now) ≤ length out.old }
-    ensures { Written out.old at (filled form.now numbers.now) result out.new }
-{
-    let mut next = at;
-    let mut k = 0;
-    for i in 0..form.len() {
-        let b = form[i];
-        next = put_part(out, next, b, number(numbers, k));
-        k += taken(b);
+// The forms with one mark.
+pub struct Decimals;
+
+impl Marks for Decimals {
+    ghost stands = { part };
+
+    ghost takes = { takes };
+
+    fn taken(b: u8) -> usize {
+        usize::from(b == b'#')
     }
-    next
+
+    fn put(page: &mut Page, b: u8, n: u64) {
+        if b == b'#' {
+            return page.decimal(n);
+        }
+        page.byte(b);
+    }
 }

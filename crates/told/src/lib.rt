@@ -29,7 +29,7 @@ fn print_row(text: &mut [u8], ring: u64, used: usize, v: Row, cells: &[NodeNumbe
         return report::print_refused_ring(text, ring, v.code, v.corners, v.k);
     }
     let row = Divided {
-        ring: ring,
+        ring,
         corners: v.corners,
         cuts: v.cuts,
         turned: v.turned,
@@ -51,8 +51,8 @@ pub fn print(told: Told, cells: &[NodeNumber], text: &mut [u8]) -> usize
         Told::Ring { ring, used, row } => print_row(text, ring, used, row, cells),
         Told::Block { number, code } => report::print_refused_block(
             text,
-            number as u64,
-            code as u64,
+            u64::from(number),
+            u64::from(code),
         ),
     }
 }

@@ -3,10 +3,10 @@
 -- first corner and the corner reached (`fan_to_lem`). A triangle of points on the sheet is at most 2 ^ 49, and by `fan_to_lem`
 -- the fan of i edges at most (i + 1) · 2 ^ 47 (`fan_small`): with 60 edges below 2 ^ 53, so 64 bits hold every term and
 -- every sum on the way.
-use Prim.Native.Nat.{ℕ, zero, suc, ◌+◌, ◌-◌, ◌*◌, ◌^◌, ◌%◌, ◌≤◌, ◌<◌}
+use Prim.Native.Nat.{ℕ, zero, suc, ◌+◌, ◌*◌, ◌^◌, ◌%◌, ◌≤◌}
 use native.Mathlib.Nat.{add-mod_right, zero-add}
 use native.Mathlib.Omega.{arith}
-use mathlib.Core.Path.{◌≡◌, refl, sym, ap, ◌∙◌, subst}
+use mathlib.Core.Path.{◌≡◌, sym, ap, ◌∙◌}
 use mathlib.Core.List.{List}
 use lib.IntN.{ℤ, pos, negsuc, suc_ℤ, pred_ℤ, neg_ℤ, nat_abs, ◌+ℤ◌, ◌-ℤ◌, ◌*ℤ◌, +ℤ_assoc, +ℤ_comm, +ℤ_idl, +ℤ_idr, +ℤ_invl, +ℤ_invr, neg_ℤ-+ℤ, neg_ℤ-neg_ℤ, suc_ℤ-+ℤ}
 use lib.IntN.{pred_ℤ-+ℤ, suc_ℤ-*ℤ, pred_ℤ-*ℤ, zero-*ℤ, *ℤ_comm}
@@ -16,7 +16,7 @@ use Rattle.laws.proofs.Signed.{term-sheet}
 use Rattle.vector.specs.declared.GridPoint.{GridPoint}
 use Rattle.vector.specs.Grid.{origin, sub, cross, at, term, area_to, polygon_area}
 use Rattle.vector.specs.Fan.{triangle, fan_to, fan_area}
-use Rattle.vector.specs.Size.{OnSheet, AllOnSheet}
+use Rattle.vector.specs.Size.{AllOnSheet}
 use Rattle.vector.proofs.Sheet.{at_on}
 
 -- ---- products of sums

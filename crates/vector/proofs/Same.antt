@@ -3,12 +3,29 @@
 use mathlib.Core.Path.{◌≡◌, sym, ap, ◌∙◌, subst}
 use lib.IntN.{ℤ, pos, ◌+ℤ◌, ◌-ℤ◌, +ℤ_idl, +ℤ_invr, -ℤ-+ℤ_cancel}
 use lib.Dec.{T}
+use mathlib.Core.Bool.{Bool, ◌&&◌}
+use Rattle.std.proofs.Common.{int_eq}
+use Rattle.std.proofs.lemmas.Bool.{true_from_ne_false}
+use Rattle.std.proofs.lemmas.Bool.Decides.{Decides-int_eq}
+use Rattle.std.proofs.lemmas.Float.{T_from_true}
 use lib.Ieee.Fits.{and_i, and_l, and_r}
 use Rattle.laws.specs.Integer.{eq_z}
 use Rattle.laws.proofs.Booleans.{bool_ext}
 use Rattle.laws.proofs.SignedTests.{eq_z→, eq_z_refl}
 use Rattle.vector.specs.declared.GridPoint.{GridPoint}
 use Rattle.vector.specs.Grid.{origin, same, sub}
+
+-- what the derived `==` of points computes
+pub derived-same : (a b : GridPoint) → (int_eq a.x b.x && int_eq a.y b.y) ≡ same a b
+unfolding same
+derived-same a b = ap (λ (t : Bool). t && int_eq a.y b.y) (whole a.x b.x) ∙ ap (λ (t : Bool). eq_z a.x b.x && t) (whole a.y b.y)
+  where
+    whole : (z w : ℤ) → int_eq z w ≡ eq_z z w
+    whole z w =
+        let d = Decides-int_eq z w in
+        bool_ext (int_eq z w) (eq_z z w)
+        (λ t. subst (λ (v : ℤ). T (eq_z z v)) (d.0 (true_from_ne_false (int_eq z w) (λ e. subst T e t))) (eq_z_refl z))
+        (λ t. T_from_true (int_eq z w) (d.1 (eq_z→ z w t)))
 
 pub same→ : (a b : GridPoint) → T (same a b) → a ≡ b
 unfolding same

@@ -11,6 +11,11 @@ most_points = 60
 abbrev pub points_of : Ring → List GridPoint
 points_of r = take r.count r.points
 
+-- a ring or a chain as a slice: no more points than the limit, each on the sheet
+pub record OnSheetPoints (l : List GridPoint) : Type 0 where
+  pub count : length l ≤ most_points
+  pub points : AllOnSheet l
+
 -- the count fits the array, and every place of it, used or not, holds a point of the sheet
 pub record OnSheetRing (r : Ring) : Type 0 where
   pub count : r.count ≤ most_points

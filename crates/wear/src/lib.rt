@@ -6,7 +6,8 @@
 
 #![tactic(auto)]
 
-ghost use Rattle.std.specs.Prelude.{◌≡◌, false, ◌+◌, ◌*◌, ◌%◌, ◌≤◌, ◌<◌, length, take, set};
+ghost use Rattle.std.specs.Prelude.{◌≡◌, ◌≤◌, ◌<◌, length, nat_lt, sum};
+ghost use Rattle.std.specs.List.{list_any};
 ghost use Rattle.wear.specs.Wear as Rule;
 ghost use Rattle.wear.specs.Bytes as Bytes;
 
@@ -18,7 +19,7 @@ pub struct Record {
     pub next: u8,
 }
 
-// 0 or 20, the three values, and the record that comes back.
+// 0 or 20, the three values, and the record that comes back. Kept: it has the form of `Wear`, which C is answered.
 #[derive(Clone, Copy)]
 pub struct Added {
     pub code: u64,
@@ -38,23 +39,11 @@ pub struct Wear {
     pub rings: u64,
 }
 
-fn wide(x: u8) -> u64
-    ensures { (result ≡ x) × (result < 256) }
+// A ring that has over 32 cuts.
+fn any_over(cuts: &[u8]) -> bool
+    ensures { result ≡ list_any (λ c. nat_lt 32 c) cuts.now }
 {
-    x as u64
-}
-
-// A place that has over 32 cuts, among the first n.
-fn any_over(cuts: [u8; 32], n: usize) -> bool
-    requires { n ≤ 32 }
-    ensures { result ≡ Rule.any_over cuts n }
-{
-    for i in 0..n {
-        if 32 < cuts[i] {
-            return true;
-        }
-    }
-    false
+    cuts.iter().any(|c| *c > 32)
 }
 
 fn misplaced(rings: u8, next: u8) -> bool
@@ -76,37 +65,22 @@ fn invalid(r: Record) -> bool
     if misplaced(r.rings, r.next) {
         return true;
     }
-    let cuts = r.cuts;
-    any_over(cuts, r.rings as usize)
+    any_over(&r.cuts[..usize::from(r.rings)])
 }
 
-fn total(cuts: [u8; 32], n: usize) -> u64
-    requires { n ≤ 32 }
-    ensures { result ≡ Rule.total (take n cuts) }
+fn total(cuts: &[u8]) -> u64
+    requires { length cuts.now ≤ 32 }
+    ensures { result ≡ sum cuts.now }
 {
-    let mut sum: u64 = 0;
-    for i in 0..n {
-        sum += wide(cuts[i]);
-    }
-    sum
+    cuts.iter().map(|c| u64::from(*c)).sum()
 }
 
-fn greater(a: u64, b: u64) -> u64
-    ensures { result ≡ Rule.greater a b }
+fn highest(cuts: &[u8]) -> u64
+    ensures { result ≡ Rule.highest cuts.now }
 {
-    if a < b {
-        return b;
-    }
-    a
-}
-
-fn highest(cuts: [u8; 32], n: usize) -> u64
-    requires { n ≤ 32 }
-    ensures { result ≡ Rule.highest (take n cuts) }
-{
-    let mut most: u64 = 0;
-    for i in 0..n {
-        most = greater(most, wide(cuts[i]));
+    let mut most = 0;
+    for c in cuts {
+        most = u64::from(*c).max(most);
     }
     most
 }
@@ -116,13 +90,12 @@ fn reported(r: Record) -> Added
     requires { r.rings ≤ 32 }
     ensures { result ≡ Rule.reported r }
 {
-    let cuts = r.cuts;
-    let n = r.rings as usize;
+    let held = &r.cuts[..usize::from(r.rings)];
     Added {
         code: 0,
-        total: total(cuts, n),
-        highest: highest(cuts, n),
-        rings: wide(r.rings),
+        total: total(held),
+        highest: highest(held),
+        rings: u64::from(r.rings),
         kept: r,
     }
 }
@@ -142,10 +115,7 @@ fn refused(r: Record) -> Added
 fn grown(n: u8) -> u8
     ensures { (result ≡ Rule.grown n) × (result ≤ 32) }
 {
-    if n < 32 {
-        return n + 1;
-    }
-    32
+    n.min(31) + 1
 }
 
 // One ring more.
@@ -185,11 +155,9 @@ fn read(bytes: &[u8]) -> Record
     ensures { result ≡ Bytes.record_in bytes.now }
 {
     let mut cuts = [0u8; 32];
-    for i in 0..32 {
-        cuts[i] = bytes[i];
-    }
+    cuts.copy_from_slice(&bytes[..32]);
     Record {
-        cuts: cuts,
+        cuts,
         rings: bytes[32],
         next: bytes[33],
     }
@@ -199,10 +167,7 @@ fn write(bytes: &mut [u8], r: Record)
     requires { length bytes.old ≡ 34 }
     ensures { bytes.new ≡ Bytes.bytes_of r }
 {
-    let cuts = r.cuts;
-    for i in 0..32 {
-        bytes[i] = cuts[i];
-    }
+    bytes[..32].copy_from_slice(&r.cuts);
     bytes[32] = r.rings;
     bytes[33] = r.next;
 }
@@ -220,8 +185,7 @@ pub fn wear_add(record: &mut [u8], code: u64, cuts: u64) -> Wear
         };
     }
     let a = add(read(record), code, cuts);
-    let kept = a.kept;
-    write(record, kept);
+    write(record, a.kept);
     Wear {
         code: a.code,
         total: a.total,

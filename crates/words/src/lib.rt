@@ -4,108 +4,82 @@
 
 #![tactic(auto)]
 
-ghost use Rattle.std.specs.Prelude.{◌<◌, ◌≤◌};
+ghost use Rattle.std.specs.Prelude.{◌≡◌, ◌++◌, ◌<◌, ◌≤◌, length, min, take, drop, slice_set};
 
 use std::io::{Read, Write};
+use std::ops::Add;
 
 // How many calls and blocks were run, and on how many the two differ.
-#[derive(Clone, Copy)]
+#[derive(Clone, Copy, Default)]
 pub struct Tally {
     pub ran: u64,
     pub differ: u64,
 }
 
 impl Tally {
-    pub const NONE: Tally = Tally { ran: 0, differ: 0 };
-
     // One more.
     pub fn ran(self, same: bool) -> Tally {
-        let differ = if same { 0 } else { 1 };
-        Tally {
-            ran: std::num::wrapping_add_u64(self.ran, 1),
-            differ: std::num::wrapping_add_u64(self.differ, differ),
+        self + Tally {
+            ran: 1,
+            differ: u64::from(!same),
         }
     }
 
-    pub fn plus(self, b: Tally) -> Tally {
-        Tally {
-            ran: std::num::wrapping_add_u64(self.ran, b.ran),
-            differ: std::num::wrapping_add_u64(self.differ, b.differ),
-        }
-    }
-
-    pub fn print<W: Write>(self, output: &mut W, name: &[u8]) {
-        stream::write_all(output, name);
-        stream::write_all(output, b": ");
-        stream::print_decimal(output, self.ran);
-        stream::write_all(output, b" run, ");
-        stream::print_decimal(output, self.differ);
-        stream::write_all(output, b" differ\n");
+    pub fn print<W: Write>(self, output: &mut W, name: &str) {
+        let _ = write!(output, "{name}: {} run, {} differ\n", self.ran, self.differ);
     }
 
     // Of a list whose rows are wrong on purpose: how many they are, and how many were told to differ.
-    pub fn print_told<W: Write>(self, output: &mut W, name: &[u8]) {
-        stream::write_all(output, name);
-        stream::write_all(output, b": ");
-        stream::print_decimal(output, self.ran);
-        stream::write_all(output, b" wrong on purpose, ");
-        stream::print_decimal(output, self.differ);
-        stream::write_all(output, b" told\n");
+    pub fn print_told<W: Write>(self, output: &mut W, name: &str) {
+        let _ = write!(
+            output,
+            "{name}: {} wrong on purpose, {} told\n",
+            self.ran, self.differ
+        );
     }
 }
 
-pub fn wide(x: u8) -> u32
-    ensures { result < 256 }
-{
-    x as u32
+impl Add for Tally {
+    type Output = Tally;
+
+    fn add(self, b: Tally) -> Tally {
+        Tally {
+            ran: self.ran.wrapping_add(b.ran),
+            differ: self.differ.wrapping_add(b.differ),
+        }
+    }
 }
 
 // The next word of the file; zero past its end.
 pub fn word<R: Read>(input: &mut R) -> u32 {
     let mut b = [0u8; 4];
     stream::read_full(input, &mut b);
-    wide(b[0]) + 256 * wide(b[1]) + 65536 * wide(b[2]) + 16777216 * wide(b[3])
+    u32::from_le_bytes(b)
 }
 
 // A count, of which no list has more.
 pub fn count<R: Read>(input: &mut R) -> usize
     ensures { result ≤ 65536 }
 {
-    let n = word(input);
-    if n < 65536 {
-        return n as usize;
-    }
-    65536
-}
-
-pub fn smaller(a: usize, b: usize) -> usize
-    ensures { (result ≤ a) × (result ≤ b) }
-{
-    if a < b {
-        return a;
-    }
-    b
+    word(input).min(65536) as usize
 }
 
 // A count of a list that has no more places than these.
 pub fn count_to<R: Read>(input: &mut R, most: usize) -> usize
     ensures { result ≤ most }
 {
-    smaller(count(input), most)
+    count(input).min(most)
 }
 
 // The numbers of n places.
 pub fn doubled(n: usize) -> usize {
-    if n < 65536 {
-        return n * 2;
-    }
-    131072
+    n.min(65536) * 2
 }
 
 pub fn long<R: Read>(input: &mut R) -> u64 {
     let low = word(input);
     let high = word(input);
-    low as u64 + 4294967296 * (high as u64)
+    u64::from(low) + 4294967296 * u64::from(high)
 }
 
 // The double with these bits; any NaN's bits give a NaN.
@@ -115,17 +89,14 @@ pub fn double(bits: u64) -> f64 {
         return signed(f64::from_bits(size), bits);
     }
     if size == 0x7ff0_0000_0000_0000 {
-        return signed(1.0 / 0.0, bits);
+        return signed(f64::INFINITY, bits);
     }
-    0.0 / 0.0
+    f64::NAN
 }
 
 // x with the sign of these bits.
 pub fn signed(x: f64, bits: u64) -> f64 {
-    if bits < 0x8000_0000_0000_0000 {
-        return x;
-    }
-    -x
+    if bits < 0x8000_0000_0000_0000 { x } else { -x }
 }
 
 // Whether two doubles have the same bits; all NaN count as one.
@@ -133,62 +104,61 @@ pub fn same_bits(x: f64, y: f64) -> bool {
     if x == y {
         return 1.0 / x == 1.0 / y;
     }
-    x != x && y != y
+    x.is_nan() && y.is_nan()
+}
+
+// What a list of the file holds: each of its elements is the next word, or the next two.
+pub trait Field: Copy {
+    fn read<R: Read>(input: &mut R) -> Self;
+}
+
+impl Field for i32 {
+    fn read<R: Read>(input: &mut R) -> i32 {
+        blocks::signed(word(input))
+    }
+}
+
+impl Field for u8 {
+    fn read<R: Read>(input: &mut R) -> u8 {
+        (word(input) % 256) as u8
+    }
+}
+
+impl Field for u32 {
+    fn read<R: Read>(input: &mut R) -> u32 {
+        word(input)
+    }
+}
+
+impl Field for f64 {
+    fn read<R: Read>(input: &mut R) -> f64 {
+        double(long(input))
+    }
 }
 
 // What does not fit a list is left out, and shows as a difference.
-pub fn put_number(numbers: &mut [i32], i: usize, x: i32) {
-    if i < numbers.len() {
-        numbers[i] = x;
+fn put<T: Copy>(list: &mut [T], i: usize, x: T)
+    ensures within { i < length list.old → list.new ≡ slice_set list.old i x }
+    ensures beyond { length list.old ≤ i → list.new ≡ list.old }
+{
+    if i < list.len() {
+        list[i] = x;
     }
 }
 
-pub fn put_byte(bytes: &mut [u8], i: usize, x: u8) {
-    if i < bytes.len() {
-        bytes[i] = x;
-    }
-}
-
-pub fn put_word(words: &mut [u32], i: usize, x: u32) {
-    if i < words.len() {
-        words[i] = x;
-    }
-}
-
-pub fn put_double(doubles: &mut [f64], i: usize, x: f64) {
-    if i < doubles.len() {
-        doubles[i] = x;
-    }
-}
-
-pub fn read_numbers<R: Read>(input: &mut R, numbers: &mut [i32], n: usize) {
+// The next n elements, as many as the list has places for; all of them are read.
+pub fn read_list<R: Read, T: Field>(input: &mut R, list: &mut [T], n: usize) {
     for i in 0..n {
-        put_number(numbers, i, blocks::signed(word(input)));
+        put(list, i, T::read(input));
     }
 }
 
-pub fn read_bytes<R: Read>(input: &mut R, bytes: &mut [u8], n: usize) {
-    for i in 0..n {
-        put_byte(bytes, i, (word(input) % 256) as u8);
-    }
-}
-
-pub fn read_words<R: Read>(input: &mut R, words: &mut [u32], n: usize) {
-    for i in 0..n {
-        put_word(words, i, word(input));
-    }
-}
-
-pub fn read_nodes<R: Read>(input: &mut R, nodes: &mut [f64], n: usize) {
-    for i in 0..n {
-        put_double(nodes, i, double(long(input)));
-    }
-}
-
-pub fn copy(from: &[f64], to: &mut [f64]) {
-    for i in 0..from.len() {
-        put_double(to, i, from[i]);
-    }
+// The first elements of a list over those of another, as many as both have.
+pub fn copy<T: Copy>(from: &[T], to: &mut [T])
+    ensures { to.new ≡ take (min (length from.now) (length to.old)) from.now ++ drop (min (length from.now) (length to.old)) to.old }
+{
+    let n = from.len().min(to.len());
+    to[..n].copy_from_slice(&from[..n]);
 }
 
 // Byte i of a destination before a call.
@@ -197,8 +167,8 @@ pub fn found(i: usize) -> u8 {
 }
 
 pub fn fill(out: &mut [u8]) {
-    for i in 0..out.len() {
-        out[i] = found(i);
+    for (i, byte) in out.iter_mut().enumerate() {
+        *byte = found(i);
     }
 }
 
@@ -206,22 +176,16 @@ pub fn fill(out: &mut [u8]) {
 pub fn read_packed<R: Read>(input: &mut R, bytes: &mut [u8], n: usize)
     requires { n ≤ 65536 }
 {
-    for k in 0..(n + 3) / 4 {
-        let w = word(input);
-        let i = k * 4;
-        put_byte(bytes, i, (w % 256) as u8);
-        put_byte(bytes, i + 1, (w / 256 % 256) as u8);
-        put_byte(bytes, i + 2, (w / 65536 % 256) as u8);
-        put_byte(bytes, i + 3, (w / 16777216) as u8);
+    for k in 0..n.div_ceil(4) {
+        for (j, byte) in word(input).to_le_bytes().into_iter().enumerate() {
+            put(bytes, k * 4 + j, byte);
+        }
     }
 }
 
 // What byte i of a destination must be after a call that wrote its first n bytes.
 pub fn left(want: u8, i: usize, n: usize) -> u8 {
-    if i < n {
-        return want;
-    }
-    found(i)
+    if i < n { want } else { found(i) }
 }
 
 // Whether the 1,536 bytes of a destination, those beyond the lent ones too, are as the file says: how many bytes are written,
@@ -230,9 +194,8 @@ pub fn same_bytes<R: Read>(input: &mut R, out: &[u8; 1536]) -> bool {
     let n = count(input);
     let mut want = [0u8; 1536];
     read_packed(input, &mut want, n);
-    let mut same = true;
-    for i in 0..1536 {
-        same = same & (out[i] == left(want[i], i, n));
-    }
-    same
+    out.iter()
+        .zip(&want)
+        .enumerate()
+        .all(|(i, (have, want))| *have == left(*want, i, n))
 }

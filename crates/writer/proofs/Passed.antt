@@ -10,7 +10,7 @@ use lib.Seq.{take_all, drop-drop}
 use lib.Dec.{ltb, eqb}
 use lib.IntN.{ℤ, pos, negsuc}
 use lib.Signed.{mag}
-use borrow.Author.Tests.{lt-ltb, le-ltb, eq-eqb, ne_eqb, ltb-false, eqb-true}
+use borrow.Author.Tests.{eq-eqb, ne_eqb, ltb-false, eqb-true}
 use borrow.Rule.Slice.PartMut.{put_mid}
 use Rattle.laws.specs.Bounded.{any}
 use Rattle.laws.proofs.Search.{any_none}
@@ -20,27 +20,17 @@ use Rattle.call.specs.Lent.{point_in, points_in, odd}
 use Rattle.lent_points.proofs.Reading.{outside_at, any-outside-is}
 use Rattle.blocks.specs.Writing.{block_bytes, Writable}
 use Rattle.block_writer.proofs.Words.{length-block, part-back}
-use Rattle.writer.specs.Write.{counts, units, destination_out, refusal, pair_bytes, written}
+use Rattle.std.specs.Prelude.{Ok, Err}
+use Rattle.std.specs.declared.result.Result.{Result}
+use Rattle.writer.specs.declared.Refusal.{Refusal}
+use Rattle.writer.specs.declared.Refusal.TheVariants.{Counts, Units, Destination}
+use Rattle.writer.specs.Write.{counts, units, destination_out, refusal, number_of, tested, answer_of, pair_bytes, written}
 
 none_of : (p q r : Bool) → ◌≡◌ {A = ℕ} (cond p 1 (cond q 2 (cond r 12 0))) 0 → (p ≡ false) × (q ≡ false) × (r ≡ false)
 none_of true q r e = absurd (omega arith)
 none_of false true r e = absurd (omega arith)
 none_of false false true e = absurd (omega arith)
 none_of false false false e = (refl, refl, refl)
-
--- ---- the tests, one by one
-module _ (places number : ℕ) where
-  pub short : places < 1024 → true ≡ destination_out places number
-  unfolding destination_out
-  short h = rw (lt-ltb places 1024 h)
-
-  pub odd_number : 1024 ≤ places → (number % 2 ≡ 0 → ⊥) → true ≡ destination_out places number
-  unfolding destination_out
-  odd_number h k = rw (le-ltb places 1024 h, ne_eqb (number % 2) 0 k)
-
-  pub by_number : 1024 ≤ places → number % 2 ≡ 0 → ltb 65534 number ≡ destination_out places number
-  unfolding destination_out
-  by_number h k = rw (le-ltb places 1024 h, eq-eqb (number % 2) 0 k)
 
 -- ---- coordinates within the limits fit 32 bits
 near : (z : ℤ) → beyond z ≡ false → mag z < 2147483648
@@ -74,18 +64,30 @@ module _ (l : List ℤ) (h : length l % 2 ≡ 0) (e : any_outside (points_in l (
 
 -- ---- the first that refuses
 module _ (ring chain : List ℤ) (size number places : ℕ) where
-  pub first : (f : Bool) → f ≡ counts ring chain → f ≡ true → 1 ≡ refusal ring chain size number places
-  unfolding refusal
+  pub first : (f : Bool) → f ≡ counts ring chain → f ≡ true → Err Counts ≡ tested ring chain size number places
+  unfolding tested
   first f e h = rw (sym e ∙ h)
 
-  pub second : (f : Bool) → f ≡ counts ring chain → f ≡ false → (g : Bool) → g ≡ units ring chain size → g ≡ true → 2 ≡ refusal ring chain size number places
-  unfolding refusal
+  pub second : (f : Bool) → f ≡ counts ring chain → f ≡ false → (g : Bool) → g ≡ units ring chain size → g ≡ true
+      → Err Units ≡ tested ring chain size number places
+  unfolding tested
   second f e h g d k = rw (sym e ∙ h, sym d ∙ k)
 
   pub third : (f : Bool) → f ≡ counts ring chain → f ≡ false → (g : Bool) → g ≡ units ring chain size → g ≡ false
-      → (t : Bool) → t ≡ destination_out places number → (v : Bool) → t ≡ v → cond v 12 0 ≡ refusal ring chain size number places
-  unfolding refusal
+      → (t : Bool) → t ≡ destination_out places number → (v : Bool) → t ≡ v → cond v (Err Destination) (Ok tt) ≡ tested ring chain size number places
+  unfolding tested
   third f e h g d k t q v r = rw (sym e ∙ h, sym d ∙ k, sym q ∙ r)
+
+  -- what the code answers, by its number
+  pub agrees : (r : Result (Unit {0}) Refusal) → r ≡ tested ring chain size number places → answer_of r ≡ refusal ring chain size number places
+  unfolding tested refusal
+  agrees r e = ap answer_of e ∙ go (counts ring chain) (units ring chain size) (destination_out places number)
+    where
+      go : (a b c : Bool) → answer_of (cond a (Err Counts) (cond b (Err Units) (cond c (Err Destination) (Ok tt)))) ≡ cond a 1 (cond b 2 (cond c 12 0))
+      go true b c = refl
+      go false true c = refl
+      go false false true = refl
+      go false false false = refl
 
   -- a call that passes
   module _ (z : refusal ring chain size number places ≡ 0) where
@@ -169,6 +171,14 @@ module _ (ring chain : List ℤ) (size number : ℕ) (out : List ℕ) where
   pub left_alone : (k : ℕ) → k ≡ refusal ring chain size number (length out) → 0 < k → out ≡ written ring chain size number out
   unfolding written
   left_alone k e h = rw (ne_eqb (refusal ring chain size number (length out)) 0 (λ d. omega (arith, e, d, h)))
+
+  pub left_refused : (r : Refusal) → Err r ≡ tested ring chain size number (length out) → out ≡ written ring chain size number out
+  left_refused r e = left_alone (number_of r) (agrees ring chain size number (length out) (Err r) e) (some r)
+    where
+      some : (r : Refusal) → 0 < number_of r
+      some Counts = omega arith
+      some Units = omega arith
+      some Destination = omega arith
 
   module _ (z : refusal ring chain size number (length out) ≡ 0) where
     pub written_is : written ring chain size number out ≡ block_bytes ring size number ++ (block_bytes chain 0 (number + 1) ++ drop 1024 out)

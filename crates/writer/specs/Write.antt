@@ -1,10 +1,14 @@
 -- Card 1: a ring and its chain saved as the two blocks that the divider takes. A ring and a chain are numbers, x and y in turn.
 use Rattle.std.specs.Prelude.{ℕ, ◌+◌, ◌*◌, ◌/◌, ◌%◌, ◌<◌, ◌≡◌, Bool, false, ◌||◌, not, cond, List, [], ◌∷◌, ◌++◌, length, get_or, take, drop, ltb, eqb, ℤ, pos}
+use Rattle.std.specs.Prelude.{Ok, Err}
+use Rattle.std.specs.declared.result.Result.{Result}
 use Rattle.laws.specs.Table.{tab}
 use Rattle.table.specs.Refusals.{first_of, ◌when◌}
 use Rattle.call.specs.Call.{counts_out, units_out}
 use Rattle.call.specs.Lent.{points_in, odd}
 use Rattle.blocks.specs.declared.Block.TheVariants.{Ring, Chain}
+use Rattle.writer.specs.declared.Refusal.{Refusal}
+use Rattle.writer.specs.declared.Refusal.TheVariants.{Counts, Units, Destination}
 use Rattle.blocks.specs.Blocks.{read_block}
 use Rattle.blocks.specs.Writing.{block_bytes}
 
@@ -22,6 +26,22 @@ destination_out places number = ltb places 1024 || not (eqb (number % 2) 0) || l
 -- "tried after 1 and 2": the first that refuses, or 0
 unfoldable pub refusal : List ℤ → List ℤ → ℕ → ℕ → ℕ → ℕ
 refusal ring chain size number places = first_of (1 when counts ring chain ∷ 2 when units ring chain size ∷ 12 when destination_out places number ∷ [])
+
+-- the same as the code says it: the test that refuses, with its number
+abbrev pub number_of : Refusal → ℕ
+number_of Counts = 1
+number_of Units = 2
+number_of Destination = 12
+
+unfoldable pub tested : List ℤ → List ℤ → ℕ → ℕ → ℕ → Result (Unit {0}) Refusal
+tested ring chain size number places =
+    cond (counts ring chain) (Err Counts)
+    (cond (units ring chain size) (Err Units)
+    (cond (destination_out places number) (Err Destination) (Ok tt)))
+
+abbrev pub answer_of : Result (Unit {0}) Refusal → ℕ
+answer_of (Ok u) = 0
+answer_of (Err r) = number_of r
 
 -- the ring's block and the chain's
 unfoldable pub pair_bytes : List ℤ → List ℤ → ℕ → ℕ → List ℕ

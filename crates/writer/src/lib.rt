@@ -9,45 +9,69 @@
 ghost use Rattle.std.specs.Prelude.{◌≡◌, length};
 ghost use Rattle.writer.specs.Write as Write;
 
+// What the writer tests, by its number: the counts, the coordinates and the sheet size, the destination.
+#[derive(Clone, Copy, Debug, PartialEq, Eq)]
+pub enum Refusal {
+    Counts = 1,
+    Units = 2,
+    Destination = 12,
+}
+
+impl Refusal {
+    pub fn number(self) -> u64
+        ensures { result ≡ Write.number_of self }
+    {
+        self as u64
+    }
+}
+
 // 12: too few bytes, or a number that no ring block of a pair has.
 fn destination_out(places: usize, number: u32) -> bool
     ensures { result ≡ Write.destination_out places number }
 {
-    if places < 1024 {
-        return true;
-    }
-    if number % 2 != 0 {
-        return true;
-    }
-    65534 < number
+    places < 1024 || number % 2 != 0 || number > 65534
 }
 
-// The first of 1, 2 and 12 that refuses, or 0.
-fn refusal(ring: &[i32], chain: &[i32], size: u32, number: u32, places: usize) -> u64
-    ensures { result ≡ Write.refusal ring.now chain.now size number places }
+// The first of 1, 2 and 12 that refuses.
+fn test(ring: &[i32], chain: &[i32], size: u32, number: u32, places: usize) -> Result<(), Refusal>
+    ensures { result ≡ Write.tested ring.now chain.now size number places }
 {
     if lent_points::counts_out(ring.len(), chain.len()) {
-        return 1;
+        return Err(Refusal::Counts);
     }
     if lent_points::units_out(ring, chain, size) {
-        return 2;
+        return Err(Refusal::Units);
     }
     if destination_out(places, number) {
-        return 12;
+        return Err(Refusal::Destination);
     }
-    0
+    Ok(())
 }
 
-// Saves the ring and the chain as blocks `number` and `number + 1`, and answers 0; or answers the refusal.
+// Saves the ring and the chain as blocks `number` and `number + 1`, if nothing refuses them.
+pub fn save(
+    ring: &[i32],
+    chain: &[i32],
+    size: u32,
+    number: u32,
+    out: &mut [u8],
+) -> Result<(), Refusal>
+    ensures answer { result ≡ Write.tested ring.now chain.now size number (length out.old) }
+    ensures bytes { out.new ≡ Write.written ring.now chain.now size number out.old }
+{
+    test(ring, chain, size, number, out.len())?;
+    block_writer::write_block(out, ring, size, number);
+    block_writer::write_block(&mut out[512..], chain, 0, number + 1);
+    Ok(())
+}
+
+// The same, and answers 0; or answers the refusal.
 pub fn blocks_write(ring: &[i32], chain: &[i32], size: u32, number: u32, out: &mut [u8]) -> u64
     ensures { (result ≡ Write.refusal ring.now chain.now size number (length out.old))
         × (out.new ≡ Write.written ring.now chain.now size number out.old) }
 {
-    let code = refusal(ring, chain, size, number, out.len());
-    if code > 0 {
-        return code;
+    match save(ring, chain, size, number, out) {
+        Ok(()) => 0,
+        Err(refusal) => refusal.number(),
     }
-    block_writer::write_block(out, ring, size, number);
-    block_writer::write_block(&mut out[512..], chain, 0, number + 1);
-    0
 }

@@ -1,5 +1,5 @@
 -- `write`. The loop's invariant: the first k cells stand in their places, and the list is as long as it came.
-use Prim.Native.Nat.{◌-◌, ◌≤◌}
+use Prim.Native.Nat.{◌≤◌}
 use mathlib.Core.Path.{◌≡◌}
 use lib.ListN.{length}
 use Rattle.cell_records.specs.Records.{written}
@@ -7,8 +7,4 @@ use Rattle.cell_records.proofs.write.Given as goal
 
 abbrev pub invariant-loop-k : goal.invariant-loop-k
 invariant-loop-k l =
-    (l.k ≤ l.n) × (length l.cells ≡ length l.initial.cells) × (l.cells ≡ written l.initial.cells l.at l.laid.numbers l.k)
-
-abbrev pub decreases-loop-k : goal.decreases-loop-k
-decreases-loop-k l =
-    l.n - l.k
+    (l.k ≤ l.n) × (length l.cells ≡ length l.initial.cells) × (l.cells ≡ written l.initial.cells l.at l.numbers l.k)

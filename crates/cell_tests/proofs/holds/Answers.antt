@@ -27,5 +27,5 @@ tests c =
 pub returns-then-quad_positive : goal.returns-then-quad_positive
 returns-then-quad_positive c = c.all_distinct.ensures ∙ sym (rw (sym c.quad_positive.ensures ∙ c.if-quad_positive.true)) ∙ tests (goal.at.returns-then-quad_positive c).After-quad_positive
 
-pub returns : goal.returns
-returns c = sym (rw (sym c.quad_positive.ensures ∙ c.if-quad_positive.false)) ∙ tests (goal.at.returns c).After-quad_positive
+pub returns-else-quad_positive : goal.returns-else-quad_positive
+returns-else-quad_positive c = c.if-quad_positive.false ∙ sym (rw (sym c.quad_positive.ensures ∙ c.if-quad_positive.false)) ∙ tests (goal.at.returns-else-quad_positive c).After-quad_positive

@@ -1,43 +1,62 @@
--- `stays`: each return is one case of the definition.
+-- `stays`: the tests are joined one by one.
 use mathlib.Core.Path.{◌≡◌, sym, ap, ◌∙◌}
+use mathlib.Core.Bool.{Bool, ◌||◌}
 use lib.Ieee.{Float, round, of_bits}
 use Rattle.laws.specs.Double.{lit, ◌<f◌}
+use Rattle.laws.proofs.Booleans.{neither}
 use Rattle.vector.specs.declared.GridPoint.{GridPoint}
 use Rattle.vector.specs.Grid as Grid
 use Rattle.root.specs.Norm.{grid_norm, grid_dist}
 use Rattle.cosine.specs.Cosine as Cosine
 use Rattle.chain.proofs.stays.Goals as goal
-use Rattle.chain.proofs.stays.Goals.{After-is_zero, After-is_zero-2}
+use Rattle.chain.proofs.stays.Goals.{Joined-last, then-last, else-last, Joined-is_zero, then-is_zero, else-is_zero}
 
-in-zero : (c : After-is_zero)
-    → c.is_zero.result ≡ Grid.same (Grid.sub c.args.b c.args.a) Grid.origin
-in-zero c = c.is_zero.ensures ∙ ap (λ (v : GridPoint). Grid.same v Grid.origin) c.sub-u.ensures.0
+-- b is the last, or its step in has no length
+abbrev in-none : GridPoint → GridPoint → Bool → Bool
+in-none a b last = last || Grid.same (Grid.sub b a) Grid.origin
 
-out-zero : (c : After-is_zero-2)
-    → c.is_zero-2.result ≡ Grid.same
-    (Grid.sub c.args.c c.args.b) Grid.origin
-out-zero c = c.is_zero-2.ensures ∙ ap (λ (v : GridPoint). Grid.same v Grid.origin) c.sub-v.ensures.0
+in_is : (c : Joined-last) → c.if-last.value ≡ in-none c.args.a c.args.b c.args.last
+in_is c =
+    elim c.if-last.branch [
+      | then-last w ↦ rw (w.value-is, w.if-last.true)
+      | else-last w ↦ rw (w.value-is, w.if-last.false) (w.is_zero.ensures ∙ ap (λ (v : GridPoint). Grid.same v Grid.origin) c.sub-u.ensures.0)
+    ]
 
-pub returns-then-last : goal.returns-then-last
-returns-then-last c = rw c.if-last.true
+-- or its step out
+abbrev out-none : GridPoint → GridPoint → GridPoint → Bool → Bool
+out-none a b c last = in-none a b last || Grid.same (Grid.sub c b) Grid.origin
 
-pub returns-then-is_zero : goal.returns-then-is_zero
-returns-then-is_zero c = rw (c.if-last.false, ← in-zero (goal.at.returns-then-is_zero c).After-is_zero, c.if-is_zero.true)
-
-pub returns-then-is_zero-2 : goal.returns-then-is_zero-2
-returns-then-is_zero-2 c = rw (c.if-last.false, ← in-zero (goal.at.returns-then-is_zero-2 c).After-is_zero, c.if-is_zero.false, ← out-zero (goal.at.returns-then-is_zero-2 c).After-is_zero-2, c.if-is_zero-2.true)
+out_is : (c : Joined-is_zero) → c.if-last.value ≡ in-none c.args.a c.args.b c.args.last
+    → c.if-is_zero.value ≡ out-none c.args.a c.args.b c.args.c c.args.last
+out_is c e =
+    elim c.if-is_zero.branch [
+      | then-is_zero w ↦ rw (w.value-is, ← e, w.if-is_zero.true)
+      | else-is_zero w ↦
+          rw (w.value-is, ← e, w.if-is_zero.false) (w.is_zero-else-is_zero.ensures ∙ ap (λ (v : GridPoint). Grid.same v Grid.origin) c.sub-v.ensures.0)
+    ]
 
 pub cosine-requires : goal.cosine-requires
 unfolding grid_dist
 cosine-requires c =
     let u = c.sub-u.ensures in
     let v = c.sub-v.ensures in
-    (u.1, v.1, c.requires.3 ∙ ap grid_norm (sym u.0), c.requires.4 c.if-last.false ∙ ap grid_norm (sym v.0))
+    let at = goal.at.cosine-requires c in
+    let e = out_is at.Joined-is_zero (in_is at.Joined-last) in
+    let l = (neither c.args.last _ (neither _ _ (sym e ∙ c.if-is_zero-2.false)).0).0 in
+    (u.1, v.1, c.requires.3 ∙ ap grid_norm (sym u.0), c.requires.4 l ∙ ap grid_norm (sym v.0))
 
-pub returns : goal.returns
+pub returns-then-is_zero-2 : goal.returns-then-is_zero-2
+returns-then-is_zero-2 c =
+    let at = goal.at.returns-then-is_zero-2 c in
+    let e = out_is at.Joined-is_zero (in_is at.Joined-last) in
+    rw (← e, c.if-is_zero-2.true)
+
+pub returns-else-is_zero-2 : goal.returns-else-is_zero-2
 unfolding lit round of_bits
-returns c =
+returns-else-is_zero-2 c =
     let u = c.sub-u.ensures.0 in
     let v = c.sub-v.ensures.0 in
-    rw (c.if-last.false, ← in-zero (goal.at.returns c).After-is_zero, c.if-is_zero.false, ← out-zero (goal.at.returns c).After-is_zero-2, c.if-is_zero-2.false)
+    let at = goal.at.returns-else-is_zero-2 c in
+    let e = out_is at.Joined-is_zero (in_is at.Joined-last) in
+    rw (← e, c.if-is_zero-2.false)
     (ap (λ (x : Float). x <f lit 9063077870366499 16) (c.cosine.ensures ∙ (λ i. Cosine.cosine (u i) (v i))))

@@ -1,22 +1,14 @@
-use Prim.Native.Nat.{ℕ, ◌-◌}
-use native.Mathlib.Omega.{arith}
-use mathlib.Core.Path.{◌≡◌, refl, sym, ap, ◌∙◌}
-use lib.ListN.{take, length-set}
-use lib.Seq.{take-length}
+-- `all`: each place holds its own number.
+use Prim.Native.Nat.{ℕ, ◌<◌}
+use mathlib.Core.Path.{◌≡◌}
 use borrow.Author.Rules.{rules}
-use Rattle.laws.proofs.Table.{more, tab_none}
+use lib.ListN.{get_or}
+use Rattle.laws.proofs.Table.{is_tab}
 use Rattle.clean.proofs.all.Goals as goal
-
-pub loop-i-init : goal.loop-i-init
-loop-i-init c = (search rules, refl, tab_none _)
-
-pub loop-i-preserved : goal.loop-i-preserved
-loop-i-preserved c =
-    let l = c.loop-i in
-    (search rules, simp length-set l.invariant.1, more (λ (i : ℕ). i) l.out l.i l.i (omega (arith, l.invariant.1)) l.invariant.2 refl)
 
 pub returns : goal.returns
 returns c =
-    let l = c.loop-i in
-    let e : l.i ≡ 60 = omega arith in
-    sym (ap (λ (n : ℕ). take n l.out) (sym l.invariant.1) ∙ take-length l.out) ∙ (rw e at l.invariant.2)
+    let l = c.from_fn.result in
+    let k = c.from_fn.ensures.items in
+    let each : (i : ℕ) → i < 60 → get_or l i 0 ≡ i = λ i h. let m = (k.at i 0 h).2 in search (rules, m) in
+    is_tab l (λ (i : ℕ). i) 60 0 k.long each

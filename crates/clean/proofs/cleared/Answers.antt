@@ -1,24 +1,30 @@
-use Prim.Native.Nat.{◌-◌}
-use mathlib.Core.Path.{refl}
-use Rattle.clean_steps.proofs.Choices.{offset_fits}
-use Rattle.clean.proofs.Answer.{copies_start, copies_more, copies_end}
+use Prim.Native.Nat.{ℕ, ◌+◌, ◌<◌}
+use mathlib.Core.Path.{sym, subst}
+use native.Mathlib.Omega.{arith}
+use lib.ListN.{get_or, set}
+use lib.Seq.{get_or-take}
+use Rattle.vector.specs.Grid.{origin}
+use Rattle.clean.proofs.Answer.{Copies, copies_start, copies_more, copies_end}
 use Rattle.clean.proofs.cleared.Goals as goal
 
 pub loop-i-init : goal.loop-i-init
-loop-i-init c = (copies_start c.args.ring c.args.r c.requires, refl)
-
-pub offset_bounds-ring-p : goal.offset_bounds-ring-p
-offset_bounds-ring-p c = offset_fits (c.requires.low _)
+loop-i-init c = copies_start c.args.ring.now c.args.r.now c.requires
 
 pub bounds-ring-p : goal.bounds-ring-p
-bounds-ring-p c = c.requires.low _
+bounds-ring-p c =
+    let r = c.args.r.now in
+    subst (λ (x : ℕ). x < 60) (sym (get_or-take r.count r.places c.loop-i.i 0 (omega (arith, c.loop-i-test.true)))) (c.requires.low _)
 
 pub loop-i-preserved : goal.loop-i-preserved
 loop-i-preserved c =
     let l = c.loop-i in
-    (copies_more c.args.ring c.args.r c.requires l.points l.places l.i l.invariant.0 c.loop-i-test.true, refl)
+    let r = c.args.r.now in
+    let ring = c.args.ring.now in
+    let h : l.i < r.count = omega (arith, c.loop-i-test.true) in
+    subst (λ (x : ℕ). Copies ring r (set l.points l.i (get_or ring x origin)) (set l.places l.i x) (l.i + 1)) (sym (get_or-take r.count r.places l.i 0 h))
+    (copies_more ring r c.requires l.points l.places l.i l.invariant h)
 
 pub returns : goal.returns
 returns c =
     let l = c.loop-i in
-    copies_end c.args.ring c.args.r c.requires l.points l.places l.i l.invariant.0 c.loop-i-test.false
+    copies_end c.args.ring.now c.args.r.now c.requires l.points l.places l.i l.invariant (omega (arith, c.loop-i-test.false))

@@ -7,6 +7,6 @@ returns c =
     let o = c.opened-k in
     let u = c.spaced-u in (
       c.straightened.ensures.0,
-      pass-is c.args.tol c.args.ring c.args.r u.result c.straightened.result c.requires.0 u.ensures.0 u.ensures.2 o.result
+      pass-is c.args.tol c.args.ring.now c.args.r.now u.result c.straightened.result c.requires.0 u.ensures.0 u.ensures.2 o.result
           o.ensures.0 o.ensures.1 c.straightened.ensures.1,
     )

@@ -15,17 +15,17 @@ pub returns-then-u-r : goal.returns-then-u-r
 returns-then-u-r c =
     let l = c.loop-r in (
       l.invariant.0,
-      sym (none_dropped c.args.tol c.args.ring l.r l.invariant.0 c.pass-u.result c.pass-u.ensures.0 c.pass-u.ensures.1 c.loop-r-test.true
+      sym (none_dropped c.args.tol c.args.ring.now l.r l.invariant.0 c.pass-u.result c.pass-u.ensures.0 c.pass-u.ensures.1 c.loop-r-test.true
           c.if-u-r.true) ∙ l.invariant.1,
     )
 
 -- a turn that is not the last drops a point
 dropped : (c : Else-u-r)
     → let l = c.loop-r in
-    (end c.args.tol c.args.ring c.pass-u.result ≡ end c.args.tol c.args.ring l.r) × (c.pass-u.result.count < l.r.count)
+    (end c.args.tol c.args.ring.now c.pass-u.result ≡ end c.args.tol c.args.ring.now l.r) × (c.pass-u.result.count < l.r.count)
 dropped c =
     let l = c.loop-r in
-    some-dropped c.args.tol c.args.ring l.r l.invariant.0 c.pass-u.result c.pass-u.ensures.0 c.pass-u.ensures.1 c.loop-r-test.true
+    some-dropped c.args.tol c.args.ring.now l.r l.invariant.0 c.pass-u.result c.pass-u.ensures.0 c.pass-u.ensures.1 c.loop-r-test.true
     c.if-u-r.false
 
 pub loop-r-smaller : goal.loop-r-smaller
@@ -39,4 +39,4 @@ loop-r-preserved c =
 pub returns : goal.returns
 returns c =
     let l = c.loop-r in
-    (l.invariant.0, sym (few-left c.args.tol c.args.ring l.r l.invariant.0 c.loop-r-test.false) ∙ l.invariant.1)
+    (l.invariant.0, sym (few-left c.args.tol c.args.ring.now l.r l.invariant.0 c.loop-r-test.false) ∙ l.invariant.1)

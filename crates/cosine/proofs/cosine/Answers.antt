@@ -1,7 +1,6 @@
 -- `cosine`: each return is one case of the definition.
 use mathlib.Core.Path.{◌≡◌, ◌∙◌, ap, sym}
 use native.Mathlib.Omega.{arith}
-use lib.Dec.{lit<}
 use lib.Ieee.{of_bits, of_int, sub}
 use Rattle.laws.specs.Double.{nat, clamp, ◌-f◌, ◌*f◌, ◌/f◌}
 use Rattle.laws.proofs.Signed as signed
@@ -10,19 +9,15 @@ use Rattle.vector.specs.Grid as Grid
 use Rattle.root.specs.Norm.{grid_norm}
 use Rattle.cosine.specs.Cosine as Cosine
 use Rattle.cosine.proofs.cosine.Goals as goal
+use Rattle.cosine.proofs.cosine.Goals.{then-is_zero-via-then-is_zero, then-is_zero-via-else-is_zero+then-is_zero-2}
 
 pub returns-then-is_zero : goal.returns-then-is_zero
 unfolding Cosine.cosine of_bits of_int
-returns-then-is_zero c = rw (← c.is_zero.ensures, c.if-is_zero.true)
-
-pub returns-then-is_zero-2 : goal.returns-then-is_zero-2
-unfolding Cosine.cosine of_bits of_int
-returns-then-is_zero-2 c =
-    let z = c.if-is_zero.false in
-    rw (← c.is_zero-2.ensures, ← c.is_zero.ensures, z, c.if-is_zero-2.true)
-
-pub in_square_mm-requires : goal.in_square_mm-requires
-in_square_mm-requires c = let h = c.dot.ensures.1 in signed.small64 c.dot.result _ (lit< tt) (omega arith)
+returns-then-is_zero c =
+    elim c.then-is_zero.branch [
+      | then-is_zero-via-then-is_zero w ↦ rw (← c.is_zero.ensures, w.if-is_zero.true)
+      | then-is_zero-via-else-is_zero+then-is_zero-2 w ↦ rw (← w.is_zero-else-is_zero.ensures, ← c.is_zero.ensures, w.if-is_zero.false, w.if-is_zero-2.true)
+    ]
 
 pub returns : goal.returns
 unfolding Cosine.cosine of_bits of_int sub
@@ -35,5 +30,5 @@ returns c =
     ≡ clamp (nat 0 -f nat 1) (nat 1) (Units.mm² (Grid.dot c.args.a c.args.b) /f (grid_norm c.args.a *f grid_norm c.args.b)) =
     c.clamp.ensures ∙ (λ i. clamp (nat 0 -f nat 1) (nat 1) (e i /f (p i *f q i))) in
     let z = sym c.is_zero.ensures ∙ c.if-is_zero.false in
-    let y = sym c.is_zero-2.ensures ∙ c.if-is_zero-2.false in
+    let y = sym c.is_zero-else-is_zero.ensures ∙ c.if-is_zero-2.false in
     rw (z, y) f

@@ -4,6 +4,10 @@ use mathlib.Core.Path.{◌≡◌, sym, ap, ◌∙◌, subst}
 use native.Mathlib.Nat.{mod-lt, div-le_self, one-mul}
 use native.Mathlib.Omega.{arith}
 use lib.Pow.{pow_pos, pow_mono, shl_exact}
+use Rattle.std.specs.declared.cmp.Ordering.{Ordering}
+use Rattle.std.specs.declared.cmp.Ordering.TheVariants.{Less, Equal, Greater}
+use Rattle.std.specs.Ordering.{nat_cmp, MatchOrdering}
+use Rattle.std.specs.Cmp.{ranks}
 use Rattle.decimals.specs.Rounded.{half_even}
 use Rattle.decimals.proofs.Rounding.{half-under, half_over, half_tie}
 use Rattle.decimals.proofs.half_even.Goals as goal
@@ -24,30 +28,37 @@ most s h = subst (λ (d : ℕ). d ≤ 2 ^ 63) (sym (power s h)) (pow_mono {i = s
 same : (p s : ℕ) → s < 64 → half_even p (shifted s) ≡ half_even p (2 ^ s)
 same p s h = ap (half_even p) (power s h)
 
+-- what an order of two numbers says
+ordered : (o : Ordering) (x y : ℕ) → o ≡ nat_cmp x y → MatchOrdering o (x < y) (x ≡ y) (y < x)
+ordered o x y e = subst (λ (r : Ordering). MatchOrdering r (x < y) (x ≡ y) (y < x)) (sym e) (ranks x y)
+
 pub overflow_shl-d : goal.overflow_shl-d
 overflow_shl-d c = c.requires.1
 
 pub nonzero_div-q : goal.nonzero_div-q
 nonzero_div-q c = above c.args.s c.requires.1
 
-pub nonzero_rem-r : goal.nonzero_rem-r
-nonzero_rem-r c = above c.args.s c.requires.1
+pub nonzero_rem-p : goal.nonzero_rem-p
+nonzero_rem-p c = above c.args.s c.requires.1
 
-pub overflow_mul-r : goal.overflow_mul-r
-overflow_mul-r c = omega (arith, mod-lt c.args.p (above c.args.s c.requires.1), most c.args.s c.requires.1)
-
-pub returns-then-r-d : goal.returns-then-r-d
-returns-then-r-d c = half-under c.args.p (shifted c.args.s) c.if-r-d.true ∙ same c.args.p c.args.s c.requires.1
+pub overflow_mul-p : goal.overflow_mul-p
+overflow_mul-p c = omega (arith, mod-lt c.args.p (above c.args.s c.requires.1), most c.args.s c.requires.1)
 
 pub overflow_add-result : goal.overflow_add-result
 overflow_add-result c = omega (arith, div-le_self c.args.p (shifted c.args.s), c.requires.0)
 
-pub returns-then-d-r : goal.returns-then-d-r
-returns-then-d-r c = half_over c.args.p (shifted c.args.s) c.if-d-r.true ∙ same c.args.p c.args.s c.requires.1
+pub overflow_add-result-in-Greater : goal.overflow_add-result-in-Greater
+overflow_add-result-in-Greater c = omega (arith, div-le_self c.args.p (shifted c.args.s), c.requires.0)
 
-pub overflow_add-result-2 : goal.overflow_add-result-2
-overflow_add-result-2 c = omega (arith, div-le_self c.args.p (shifted c.args.s), c.requires.0)
+pub returns-in-Less : goal.returns-in-Less
+returns-in-Less c =
+    half-under c.args.p (shifted c.args.s) (ordered Less _ _ (sym c.in-Less.is ∙ c.cmp.ensures)) ∙ same c.args.p c.args.s c.requires.1
 
-pub returns : goal.returns
-returns c =
-    half_tie c.args.p (shifted c.args.s) c.if-r-d.false c.if-d-r.false ∙ same c.args.p c.args.s c.requires.1
+pub returns-in-Equal : goal.returns-in-Equal
+returns-in-Equal c =
+    let e = ordered Equal (c.args.p % shifted c.args.s * 2) (shifted c.args.s) (sym c.in-Equal.is ∙ c.cmp.ensures) in
+    half_tie c.args.p (shifted c.args.s) (omega (arith, e)) (omega (arith, e)) ∙ same c.args.p c.args.s c.requires.1
+
+pub returns-in-Greater : goal.returns-in-Greater
+returns-in-Greater c =
+    half_over c.args.p (shifted c.args.s) (ordered Greater _ _ (sym c.in-Greater.is ∙ c.cmp.ensures)) ∙ same c.args.p c.args.s c.requires.1

@@ -7,13 +7,11 @@ use Rattle.parts.specs.Pieces.{marks_of}
 use Rattle.nodes.specs.Flat.{over}
 use Rattle.cells.specs.Pieces.{Outcome}
 use Rattle.cells.specs.Stages.{nodes_of}
-use Rattle.pieces.specs.declared.Subdivision.{Subdivision}
 use Rattle.pieces.specs.Flat.{every_mark, row, row_of, over_from, cells_left_of}
 use Rattle.pieces.proofs.Cases.{if_done, if_failed}
-use Rattle.table.specs.Answers.{values}
 use Rattle.call.proofs.Course.{Divisible, outcome_of}
 use Rattle.marks.specs.Edges.{part_in}
-use Rattle.divider.specs.Steps.{lists_in, failed_answer}
+use Rattle.divider.specs.Steps.{lists_in}
 use Rattle.divider.proofs.Leaving.{moved}
 use Rattle.divider.proofs.Laying.{marks-length, every_length, three, shown, count_is, outcome-is, can-subdivide, mark-room-in, rims-are}
 use Rattle.divider.proofs.LaidOut.{cell_room, laid_done, laid-failed}
@@ -21,13 +19,13 @@ use Rattle.divider.proofs.lay_out.Goals as goal
 use Rattle.divider.proofs.lay_out.Goals.{Start}
 
 -- what was asked: the ring can be divided
-sought : (s : Start) → let a = s.args in Divisible a.limits a.own (part_in a.ring) (lists_in a.nodes.now a.node_count a.rims.now a.cells.now a.cell_count)
+sought : (s : Start) → let a = s.args in Divisible a.limits a.own (part_in a.ring.now) (lists_in a.nodes.now a.node_count a.rims.now a.cells.now a.cell_count)
 sought s = record { prepared = s.requires.0.prepared; whole = s.requires.1 }
 
-pub cell_reserve-reserve-requires : goal.cell_reserve-reserve-requires
-cell_reserve-reserve-requires c =
+pub reserve_of-reserve-requires : goal.reserve_of-reserve-requires
+reserve_of-reserve-requires c =
     let a = c.args in (
-      (three a.limits a.own a.ring a.nodes.now a.node_count a.rims.now a.cells.now a.cell_count (sought (goal.at.cell_reserve-reserve-requires c).Start)).1,
+      (three a.limits a.own a.ring.now a.nodes.now a.node_count a.rims.now a.cells.now a.cell_count (sought (goal.at.reserve_of-reserve-requires c).Start)).1,
       c.requires.0.prepared.few,
     )
 
@@ -35,40 +33,37 @@ pub split_bad_vertices-s-requires : goal.split_bad_vertices-s-requires
 split_bad_vertices-s-requires c =
     let a = c.args in
     let k = c.requires.0 in
-    (k.held.ring, (three a.limits a.own a.ring a.nodes.now a.node_count a.rims.now a.cells.now a.cell_count (sought (goal.at.split_bad_vertices-s-requires c).Start)).0, k.cuts)
+    (k.held.ring, (three a.limits a.own a.ring.now a.nodes.now a.node_count a.rims.now a.cells.now a.cell_count (sought (goal.at.split_bad_vertices-s-requires c).Start)).0, k.cuts)
 
 pub subdivide_all-laid-requires : goal.subdivide_all-laid-requires
 subdivide_all-laid-requires c =
     let a = c.args in
-    let r = c.cell_reserve-reserve in
+    let r = c.reserve_of-reserve in
     let t = c.split_bad_vertices-s in
-    let w = t.ensures.0 (marks_of a.ring.edges) (marks-length a.ring.edges c.requires.0.held.marks) in (
-      can-subdivide a.limits a.own a.ring a.nodes.now a.node_count a.rims.now a.cells.now a.cell_count (sought (goal.at.subdivide_all-laid-requires c).Start) t.result w
-          r.result r.ensures c.requires.0.held.ring.points t.ensures.1,
-      mark-room-in a.limits a.own a.ring a.nodes.now a.node_count a.rims.now a.cells.now a.cell_count (sought (goal.at.subdivide_all-laid-requires c).Start) t.result w,
+    let w = t.ensures.0 (marks_of a.ring.now.edges) (marks-length a.ring.now.edges c.requires.0.held.marks) in (
+      can-subdivide a.limits a.own a.ring.now a.nodes.now a.node_count a.rims.now a.cells.now a.cell_count (sought (goal.at.subdivide_all-laid-requires c).Start) t.result w
+          r.result.cells r.ensures.cells c.requires.0.held.ring.points t.ensures.1,
+      mark-room-in a.limits a.own a.ring.now a.nodes.now a.node_count a.rims.now a.cells.now a.cell_count (sought (goal.at.subdivide_all-laid-requires c).Start) t.result w,
       c.requires.3,
     )
 
-pub returns-in_default : goal.returns-in_default
-returns-in_default c =
-    let s = c.before.before.before.before.before.before.before.before.before.before.before.before.before.before.before.before.before.before.before.before.before.before in
+pub returns-in-Err : goal.returns-in-Err
+returns-in-Err c =
     let a = c.args in
-    let r = c.cell_reserve-reserve in
+    let r = c.reserve_of-reserve in
     let t = c.split_bad_vertices-s in
-    let w = t.ensures.0 (marks_of a.ring.edges) (marks-length a.ring.edges c.requires.0.held.marks) in
+    let w = t.ensures.0 (marks_of a.ring.now.edges) (marks-length a.ring.now.edges c.requires.0.held.marks) in
     let d = c.subdivide_all-laid in
     let x = lists_in a.nodes.now a.node_count a.rims.now a.cells.now a.cell_count in
-    let o = outcome-is a.limits a.own a.ring a.nodes.now a.node_count a.rims.now a.cells.now a.cell_count (sought (goal.at.returns-in_default c).Start) t.result w in
+    let o = outcome-is a.limits a.own a.ring.now a.nodes.now a.node_count a.rims.now a.cells.now a.cell_count (sought (goal.at.returns-in-Err c).Start) t.result w in
     let g =
-    rims-are a.limits a.own a.ring a.nodes.now a.node_count a.rims.now a.cells.now a.cell_count (sought (goal.at.returns-in_default c).Start) t.result w
+    rims-are a.limits a.own a.ring.now a.nodes.now a.node_count a.rims.now a.cells.now a.cell_count (sought (goal.at.returns-in-Err c).Start) t.result w
     c.requires.0.held.marks (t.ensures.0 every_mark every_length) in
-    let y = if_failed (outcome_of a.limits (part_in a.ring) x) (sym (ap row c.in_default.is) ∙ d.ensures.0 ∙ ap row_of o) in
-    let v = c.failed.ensures ∙ ap (λ (s : Subdivision). failed_answer s a.cell_count) c.in_default.is in
-    rw (ap values v)
-    (moved (d.ensures.1 ∙ ap (λ (o : Outcome). over a.nodes.now (nodes_of o)) o) (d.ensures.3 ∙ g)
-    (d.ensures.2 ∙ ap (λ (o : Outcome). over_from a.cells.now a.cell_count (cells_left_of r.result o)) o)
-    (laid-failed a.limits a.own a.ring a.nodes.now a.node_count a.rims.now a.cells.now a.cell_count (sought (goal.at.returns-in_default c).Start) r.result _ _ _ y
-    r.ensures))
+    let y = if_failed (outcome_of a.limits (part_in a.ring.now) x) (sym (ap row c.in-Err.is) ∙ d.ensures.0 ∙ ap row_of o) in
+    moved (d.ensures.1 ∙ ap (λ (o : Outcome). over a.nodes.now (nodes_of o)) o) (d.ensures.3 ∙ g)
+    (d.ensures.2 ∙ ap (λ (o : Outcome). over_from a.cells.now a.cell_count (cells_left_of r.result.cells o)) o)
+    (laid-failed a.limits a.own a.ring.now a.nodes.now a.node_count a.rims.now a.cells.now a.cell_count (sought (goal.at.returns-in-Err c).Start) r.result.cells _ _ _ y
+    r.ensures.cells)
 
 pub mark_count-requires : goal.mark_count-requires
 mark_count-requires c =
@@ -78,37 +73,37 @@ pub overflow_add-result : goal.overflow_add-result
 overflow_add-result c =
     let a = c.args in
     let t = c.split_bad_vertices-s in
-    let w = t.ensures.0 (marks_of a.ring.edges) (marks-length a.ring.edges c.requires.0.held.marks) in
+    let w = t.ensures.0 (marks_of a.ring.now.edges) (marks-length a.ring.now.edges c.requires.0.held.marks) in
     let d = c.subdivide_all-laid in
     let x = lists_in a.nodes.now a.node_count a.rims.now a.cells.now a.cell_count in
-    let o = outcome-is a.limits a.own a.ring a.nodes.now a.node_count a.rims.now a.cells.now a.cell_count (sought (goal.at.overflow_add-result c).Start) t.result w in
+    let o = outcome-is a.limits a.own a.ring.now a.nodes.now a.node_count a.rims.now a.cells.now a.cell_count (sought (goal.at.overflow_add-result c).Start) t.result w in
     let y =
-    if_done (outcome_of a.limits (part_in a.ring) x) (sym (ap row c.in-Done.is) ∙ d.ensures.0 ∙ ap row_of o) in
-    let h = cell_room a.limits a.own a.ring a.nodes.now a.node_count a.rims.now a.cells.now a.cell_count (sought (goal.at.overflow_add-result c).Start) _ _ y in
+    if_done (outcome_of a.limits (part_in a.ring.now) x) (sym (ap row c.in-Ok.is) ∙ d.ensures.0 ∙ ap row_of o) in
+    let h = cell_room a.limits a.own a.ring.now a.nodes.now a.node_count a.rims.now a.cells.now a.cell_count (sought (goal.at.overflow_add-result c).Start) _ _ y in
     omega (arith, c.well_formed.1.1.1.1.1.1.1.0)
 
-pub returns : goal.returns
-returns c =
+pub returns-in-Ok : goal.returns-in-Ok
+returns-in-Ok c =
     let a = c.args in
-    let r = c.cell_reserve-reserve in
+    let r = c.reserve_of-reserve in
     let t = c.split_bad_vertices-s in
-    let w = t.ensures.0 (marks_of a.ring.edges) (marks-length a.ring.edges c.requires.0.held.marks) in
+    let w = t.ensures.0 (marks_of a.ring.now.edges) (marks-length a.ring.now.edges c.requires.0.held.marks) in
     let d = c.subdivide_all-laid in
     let x = lists_in a.nodes.now a.node_count a.rims.now a.cells.now a.cell_count in
-    let o = outcome-is a.limits a.own a.ring a.nodes.now a.node_count a.rims.now a.cells.now a.cell_count (sought (goal.at.returns c).Start) t.result w in
+    let o = outcome-is a.limits a.own a.ring.now a.nodes.now a.node_count a.rims.now a.cells.now a.cell_count (sought (goal.at.returns-in-Ok c).Start) t.result w in
     let g =
-    rims-are a.limits a.own a.ring a.nodes.now a.node_count a.rims.now a.cells.now a.cell_count (sought (goal.at.returns c).Start) t.result w
+    rims-are a.limits a.own a.ring.now a.nodes.now a.node_count a.rims.now a.cells.now a.cell_count (sought (goal.at.returns-in-Ok c).Start) t.result w
     c.requires.0.held.marks (t.ensures.0 every_mark every_length) in
     let y =
-    if_done (outcome_of a.limits (part_in a.ring) x) (sym (ap row c.in-Done.is) ∙ d.ensures.0 ∙ ap row_of o) in
-    let z = shown a.limits a.own a.ring a.nodes.now a.node_count a.rims.now a.cells.now a.cell_count (sought (goal.at.returns c).Start) t.result w in
+    if_done (outcome_of a.limits (part_in a.ring.now) x) (sym (ap row c.in-Ok.is) ∙ d.ensures.0 ∙ ap row_of o) in
+    let z = shown a.limits a.own a.ring.now a.nodes.now a.node_count a.rims.now a.cells.now a.cell_count (sought (goal.at.returns-in-Ok c).Start) t.result w in
     moved (d.ensures.1 ∙ ap (λ (o : Outcome). over a.nodes.now (nodes_of o)) o) (d.ensures.3 ∙ g)
-    (d.ensures.2 ∙ ap (λ (o : Outcome). over_from a.cells.now a.cell_count (cells_left_of r.result o)) o)
-    (laid_done a.limits a.own a.ring a.nodes.now a.node_count a.rims.now a.cells.now a.cell_count (sought (goal.at.returns c).Start) r.result _ _ _ _ _
+    (d.ensures.2 ∙ ap (λ (o : Outcome). over_from a.cells.now a.cell_count (cells_left_of r.result.cells o)) o)
+    (laid_done a.limits a.own a.ring.now a.nodes.now a.node_count a.rims.now a.cells.now a.cell_count (sought (goal.at.returns-in-Ok c).Start) r.result.cells _ _ _ _ _
     _ _ _ y
-    (sym (length-take-le a.ring.ring.count a.ring.ring.points (room a.ring.ring c.requires.0.held.ring)))
+    (sym (length-take-le a.ring.now.ring.count a.ring.now.ring.points (room a.ring.now.ring c.requires.0.held.ring)))
     c.mark_count.ensures.0
     z.cuts
-    (count_is a.limits a.own a.ring a.nodes.now a.node_count a.rims.now a.cells.now a.cell_count (sought (goal.at.returns c).Start) t.result w)
+    (count_is a.limits a.own a.ring.now a.nodes.now a.node_count a.rims.now a.cells.now a.cell_count (sought (goal.at.returns-in-Ok c).Start) t.result w)
     z.turned
     c.requires.2)

@@ -1,26 +1,27 @@
 -- `prepared`: the ring is cleaned, and its edges get the marks of the simplified chain.
+use mathlib.Core.Path.{subst}
+use mathlib.Core.List.{List}
+use lib.ListN.{length}
+use Rattle.vector.specs.declared.GridPoint.{GridPoint}
+use Rattle.chain.specs.Kept.{stretches_in, Simplifies}
+use Rattle.marks.specs.Edges.{Marked}
 use Rattle.divider.proofs.Preparing.{asks, read, prepares}
 use Rattle.divider.proofs.prepared.Goals as goal
 
-pub points-requires : goal.points-requires
-points-requires c = asks c.args.ring.now c.requires.0
+pub points-own-requires : goal.points-own-requires
+points-own-requires c = asks c.args.ring.now c.requires.0
 
-pub clean_polygon-clean-requires : goal.clean_polygon-clean-requires
-clean_polygon-clean-requires c = c.points.ensures.1
-
-pub points-requires-2 : goal.points-requires-2
-points-requires-2 c = asks c.args.chain.now c.requires.1
-
-pub simplify_chain-run-requires : goal.simplify_chain-run-requires
-simplify_chain-run-requires c = c.points-2.ensures.1
+pub points-run-requires : goal.points-run-requires
+points-run-requires c = asks c.args.chain.now c.requires.1
 
 pub returns : goal.returns
 returns c =
     let a = c.args in
-    let p = c.points in
+    let p = c.points-own in
     let g = c.clean_polygon-clean in
-    let q = c.points-2 in
-    let s = c.simplify_chain-run in
+    let q = c.points-run in
+    let s = c.simplify_chain-simplified in
     let x = c.mark_edges-edges in
     prepares a.ring.now a.chain.now a.size p.result q.result (read a.ring.now p.result p.ensures.0)
-    (read a.chain.now q.result q.ensures.0) g.result g.ensures s.result s.ensures x.result x.ensures
+    (read a.chain.now q.result q.ensures.0) g.result g.ensures s.result (subst (λ (ps : List GridPoint). Simplifies ps s.result) c.as_slice.ensures.0 s.ensures)
+    x.result (subst (λ (ps : List GridPoint). Marked (stretches_in s.result) ps (length ps) x.result) c.as_slice-2.ensures.0 x.ensures)

@@ -2,7 +2,5 @@
 use Rattle.draw.proofs.Reaching.{sendable}
 use Rattle.draw.proofs.take.Goals as goal
 
-pub send-written-requires : goal.send-written-requires
-send-written-requires g c =
-    sendable c.requires.0 _
-    c.requires.1 c.feed-state.ensures
+pub send-requires : goal.send-requires
+send-requires g c = sendable c.requires.0 _ c.requires.1 c.feed-state.ensures

@@ -1,5 +1,5 @@
 -- `feed`: laws in proofs/Feeding.
-use Rattle.drawing.proofs.Feeding.{fed_too_long, fed-line, fed-comment, fed-hash, fed-full, fed-byte}
+use Rattle.drawing.proofs.Feeding.{fed_too_long, fed-line, fed-comment, fed-full, fed-byte}
 use Rattle.drawing.proofs.feed.Goals as goal
 
 pub returns-then-s-eq0 : goal.returns-then-s-eq0
@@ -18,13 +18,7 @@ pub returns-then-s : goal.returns-then-s
 returns-then-s c =
     let a = c.args in
     fed-comment a.s a.text.now a.ring.now a.chain.now a.out.now c.requires a.b c.if-s-eq0.false
-    c.if-b-eq10.false c.goes.result c.if-s.true c.goes.ensures
-
-pub returns-then-b-eq35 : goal.returns-then-b-eq35
-returns-then-b-eq35 c =
-    let a = c.args in
-    fed-hash a.s a.text.now a.ring.now a.chain.now a.out.now c.requires a.b c.if-s-eq0.false
-    c.if-b-eq10.false c.goes-then-b-eq35.result c.if-s.false c.if-b-eq35.true c.goes-then-b-eq35.ensures
+    c.if-b-eq10.false c.goes.result c.then-s.either c.goes.ensures
 
 pub returns-then-s-eq-MOST_LINE : goal.returns-then-s-eq-MOST_LINE
 returns-then-s-eq-MOST_LINE c =

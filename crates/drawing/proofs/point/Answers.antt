@@ -1,17 +1,49 @@
--- `point`: laws in proofs/Taking.
-use Rattle.drawing.proofs.Taking.{chain-taken, ring-taken}
-use mathlib.Core.Path.{◌∙◌}
+-- `point`: laws in proofs/Points.
+use Rattle.drawing.proofs.Points.{not_open, ring_full, ring-more, chain_full, chain_more}
+use Rattle.drawing.specs.Drawing.{point_of}
+use mathlib.Core.Path.{◌≡◌, ◌∙◌}
+use mathlib.Core.List.{List, ◌++◌}
+use Prim.Native.Nat.{◌*◌}
+use lib.ListN.{take}
+use lib.IntN.{ℤ}
+use mir.Syntax.{w32}
+use mir.Val.{to_z, of_z, SFits}
+use mir.ValLaws.{to_z-of_z}
 use Rattle.drawing.proofs.point.Goals as goal
 
-pub returns-then-o-eq2 : goal.returns-then-o-eq2
-returns-then-o-eq2 c =
-    let a = c.args in
-    chain-taken a.h a.o a.ring.now a.chain.now a.out.now c.requires.0 c.chain_point.result
-    c.chain_point.new.chain c.if-o-eq2.true (c.chain_point.auto.chain ∙ c.requires.0.chain_long)
-    c.chain_point.ensures
+-- a coordinate that is passed on is the same
+as_passed : (x y : ℤ) → SFits w32 x → SFits w32 y → (ps : List ℤ) → ps ++ point_of (to_z w32 (of_z w32 x)) (to_z w32 (of_z w32 y)) ≡ ps ++ point_of x y
+as_passed x y f g ps = λ j. ps ++ point_of (to_z-of_z w32 x f j) (to_z-of_z w32 y g j)
 
-pub returns : goal.returns
-returns c =
+pub returns-in-Closed : goal.returns-in-Closed
+returns-in-Closed c =
     let a = c.args in
-    ring-taken a.h a.o a.ring.now a.chain.now a.out.now c.requires.0 c.ring_point.result c.ring_point.new.ring
-    c.if-o-eq2.false (c.ring_point.auto.ring ∙ c.requires.0.ring_long) c.ring_point.ensures
+    not_open a.x a.y a.o a.ring.now a.chain.now a.out.now c.requires c.fails.result c.in-Closed.is c.fails.ensures
+
+pub returns-in-None : goal.returns-in-None
+returns-in-None c =
+    let a = c.args in
+    ring_full a.x a.y a.o a.ring.now a.chain.now a.out.now c.requires c.in-Ring.is _ c.fails-in-None.result c.in-None.ensures c.fails-in-None.ensures
+
+pub returns-in-Some : goal.returns-in-Some
+returns-in-Some c =
+    let a = c.args in
+    ring-more a.x a.y a.o a.ring.now a.chain.now a.out.now c.requires c.in-Ring.is c.put_point.new.places c.in-Some.corners
+    (c.in-Some.ensures.0, c.in-Some.ensures.1, c.in-Some.ensures.2 ∙ as_passed a.x a.y c.ranges.x c.ranges.y (take (a.o.corners * 2) a.ring.now))
+    (c.put_point.auto.places ∙ c.requires.ring_long)
+
+pub returns-in-None-put_point : goal.returns-in-None-put_point
+returns-in-None-put_point c =
+    let a = c.args in
+    chain_full a.x a.y a.o a.ring.now a.chain.now a.out.now c.requires c.in-Chain.is _ c.fails-in-None-put_point.result
+    c.in-None-put_point.ensures c.fails-in-None-put_point.ensures
+
+pub returns-in-Some-put_point : goal.returns-in-Some-put_point
+returns-in-Some-put_point c =
+    let a = c.args in
+    chain_more a.x a.y a.o a.ring.now a.chain.now a.out.now c.requires c.in-Chain.is c.put_point-in-Chain.new.places c.in-Some-put_point.run' (
+      c.in-Some-put_point.ensures.0,
+      c.in-Some-put_point.ensures.1,
+      c.in-Some-put_point.ensures.2 ∙ as_passed a.x a.y c.ranges.x c.ranges.y (take (a.o.run * 2) a.chain.now),
+    )
+    (c.put_point-in-Chain.auto.places ∙ c.requires.chain_long)

@@ -1,20 +1,17 @@
-use Prim.Native.Nat.{◌-◌}
-use native.Mathlib.Omega.{arith}
-use mathlib.Core.Path.{◌≡◌, refl}
-use borrow.Author.Rules.{rules}
-use Rattle.laws.specs.Bounded.{any}
-use Rattle.laws.proofs.Search.{any_next}
+-- `any_mark_out`: the scan finds what a test of each place finds.
+use mathlib.Core.Path.{◌∙◌}
+use mathlib.Core.Bool.{◌||◌}
+use lib.Dec.{ltb}
+use lib.ListN.{take}
+use Rattle.std.proofs.Common.{rules, tests}
+use Rattle.std.proofs.lemmas.Iterator.{YieldsList-from_slice}
+use Rattle.std.proofs.lemmas.Iterator.Consumers.{fold_from_yields_List}
+use Rattle.entry.proofs.Tests.{marks_scanned}
 use Rattle.entry.proofs.any_mark_out.Goals as goal
-
-pub loop-i-init : goal.loop-i-init
-unfolding any
-loop-i-init c = (search rules, refl)
-
-pub loop-i-preserved : goal.loop-i-preserved
-loop-i-preserved c = let l = c.loop-i in (search rules, any_next _ l.i l.found _ l.invariant.1 refl)
 
 pub returns : goal.returns
 returns c =
-    let l = c.loop-i in
-    let e : l.i ≡ c.args.used = omega arith in
-    rw e at l.invariant.1
+    let l = c.args.rims.now in
+    let n = c.args.used in
+    fold_from_yields_List _ (λ found x. found || ltb 1 x) _ _ c.fold.ensures.ran (YieldsList-from_slice (take n l) cc) (λ a x b q k. search (rules, tests))
+    ∙ marks_scanned l n c.requires

@@ -1,23 +1,30 @@
 -- `lists_refusal`: where the counts refuse, no node is looked at; else the nodes and the marks decide, and then the room.
 use Prim.Native.Nat.{◌/◌, ◌≤◌}
 use native.Mathlib.Omega.{arith}
-use mathlib.Core.Path.{sym, ap, ◌∙◌}
+use mathlib.Core.Path.{◌≡◌, sym, ap, ◌∙◌}
+use mathlib.Core.List.{List}
 use lib.ListN.{length}
+use borrow.Author.Rules.{rules}
 use Rattle.nodes.specs.Nodes.{most_places}
+use Rattle.nodes.specs.Flat.{nodes_in}
+use Rattle.quads.specs.declared.Cell.{Cell}
+use Rattle.entry.specs.Refusal.{lists_refusal}
 use Rattle.survey.specs.declared.NodeSurvey.{NodeSurvey}
 use Rattle.survey.proofs.Gathering as gathering
+use Rattle.table.specs.Answers.{code_of}
 use Rattle.entry.proofs.Tests.{over, fit, counts_hold, looked_none, looked_all, nothing, all}
 use Rattle.entry.proofs.lists_refusal.Goals as goal
-use Rattle.entry.proofs.lists_refusal.Goals.{Else-counts_over}
+use Rattle.entry.proofs.lists_refusal.Goals.{Else-counts_over, After-used_refusal}
 
-pub returns-then-counts_over : goal.returns-then-counts_over
-returns-then-counts_over c =
+pub returns-then-counts_over-clause-code : goal.returns-then-counts_over-clause-code
+returns-then-counts_over-clause-code c =
     let a = c.args in
-    let z = sym c.counts_over.ensures ∙ c.if-counts_over.true in (
-      λ cells e. over a.limits a.own a.nodes.now a.node_count a.rims.now cells a.cell_count a.cell_places e z,
-      nothing a.w a.nodes.now a.numbers.now a.xs.now _ (looked_none _ _ _ _ _ z),
-      λ o. absurd (omega (arith, o)),
-    )
+    λ cells e. over a.limits a.own a.nodes.now a.node_count a.rims.now cells a.cell_count a.cell_places e (sym c.counts_over.ensures ∙ c.if-counts_over.true)
+
+pub returns-then-counts_over-clause-looked : goal.returns-then-counts_over-clause-looked
+returns-then-counts_over-clause-looked c =
+    let a = c.args in
+    nothing a.w a.nodes.now a.numbers.now a.xs.now _ _ (looked_none _ _ _ _ _ (sym c.counts_over.ensures ∙ c.if-counts_over.true))
 
 -- the counts fit
 fits : (c : Else-counts_over) → let a =
@@ -27,27 +34,61 @@ fits c = counts_hold _ _ _ _ _ (sym c.counts_over.ensures ∙ c.if-counts_over.f
 
 pub used_nodes-s-requires : goal.used_nodes-s-requires
 used_nodes-s-requires c =
-    (omega (arith, (fits (goal.at.used_nodes-s-requires c).Else-counts_over).0), omega (arith, (fits (goal.at.used_nodes-s-requires c).Else-counts_over).0, (fits (goal.at.used_nodes-s-requires c).Else-counts_over).2), c.requires.3, c.requires.4)
+    let f = fits (goal.at.used_nodes-s-requires c).Else-counts_over in
+    (omega (arith, f.0), omega (arith, f.0, f.2), c.requires.3, c.requires.4)
 
-pub overflow_sub-free_nodes : goal.overflow_sub-free_nodes
-overflow_sub-free_nodes c = (fits (goal.at.overflow_sub-free_nodes c).Else-counts_over).0
+pub overflow_sub-free : goal.overflow_sub-free
+overflow_sub-free c = (fits (goal.at.overflow_sub-free c).Else-counts_over).0
 
-pub overflow_sub-free_cells : goal.overflow_sub-free_cells
-overflow_sub-free_cells c = (fits (goal.at.overflow_sub-free_cells c).Else-counts_over).1
+pub overflow_sub-free-2 : goal.overflow_sub-free-2
+overflow_sub-free-2 c = (fits (goal.at.overflow_sub-free-2 c).Else-counts_over).1
 
-pub used_refusal-code-requires : goal.used_refusal-code-requires
-used_refusal-code-requires c =
-    (omega (arith, (fits (goal.at.used_refusal-code-requires c).Else-counts_over).0, (fits (goal.at.used_refusal-code-requires c).Else-counts_over).3), c.requires.0, c.requires.1)
+pub used_refusal-requires : goal.used_refusal-requires
+used_refusal-requires c =
+    let f = fits (goal.at.used_refusal-requires c).Else-counts_over in
+    (omega (arith, f.0, f.3), c.requires.0, c.requires.1)
 
-pub returns : goal.returns
-returns c =
+-- the number of what the used nodes, the marks and the room come to
+told : (c : After-used_refusal) (cells : List Cell) → length cells ≡ c.args.cell_places
+    → code_of c.used_refusal.result ≡ lists_refusal c.args.limits c.args.own (record {
+      nodes = nodes_in c.args.nodes.now (length c.args.nodes.now / 2);
+      node_count_of = c.args.node_count;
+      rims = c.args.rims.now;
+      cells = cells;
+      cell_count_of = c.args.cell_count;
+    })
+told c cells o =
+    let a = c.args in
+    c.used_refusal.ensures
+    ∙ fit a.limits a.own a.nodes.now a.node_count a.rims.now cells a.cell_count a.cell_places o (sym c.counts_over.ensures ∙ c.if-counts_over.false)
+    c.used_nodes-s.result.held (ap (λ (r : NodeSurvey). r.held) c.used_nodes-s.ensures.0)
+
+pub returns-in_err-used_refusal-clause-code : goal.returns-in_err-used_refusal-clause-code
+returns-in_err-used_refusal-clause-code c = λ cells o.
+    let e : code_of c.from_residual.result ≡ code_of c.used_refusal.result = search rules in
+    e ∙ told (goal.at.returns-in_err-used_refusal-clause-code c).After-used_refusal cells o
+
+pub returns-in_err-used_refusal-clause-looked : goal.returns-in_err-used_refusal-clause-looked
+returns-in_err-used_refusal-clause-looked c =
     let a = c.args in
     let e = c.used_nodes-s.ensures in
     let z = sym c.counts_over.ensures ∙ c.if-counts_over.false in
-    let f = ap (λ (r : NodeSurvey). r.near) e.0 in (
-      λ cells o. c.used_refusal-code.ensures
-          ∙ fit a.limits a.own a.nodes.now a.node_count a.rims.now cells a.cell_count a.cell_places o z c.used_nodes-s.result.held
-          (ap (λ (r : NodeSurvey). r.held) e.0),
-      all a.w a.nodes.now a.numbers.now a.xs.now _ a.node_count _ _ _ (looked_all _ _ _ _ _ z) f e.1 e.2,
-      λ o. gathering.held a.nodes.now a.w a.numbers.now a.xs.now a.node_count _ _ _ c.requires.3 c.requires.4 c.requires.2 f e.1 e.2,
-    )
+    all a.w a.nodes.now a.numbers.now a.xs.now _ a.node_count _ _ _ (looked_all _ _ _ _ _ z) (search rules) e.1 e.2
+
+pub returns-clause-code : goal.returns-clause-code
+returns-clause-code c = λ cells o.
+    let e : 0 ≡ code_of c.used_refusal.result = search rules in
+    e ∙ told (goal.at.returns-clause-code c).After-used_refusal cells o
+
+pub returns-clause-looked : goal.returns-clause-looked
+returns-clause-looked c =
+    let a = c.args in
+    let e = c.used_nodes-s.ensures in
+    let z = sym c.counts_over.ensures ∙ c.if-counts_over.false in
+    all a.w a.nodes.now a.numbers.now a.xs.now _ a.node_count _ _ _ (looked_all _ _ _ _ _ z) (ap (λ (r : NodeSurvey). r.near) e.0) e.1 e.2
+
+pub returns-clause-near : goal.returns-clause-near
+returns-clause-near c =
+    let a = c.args in
+    let e = c.used_nodes-s.ensures in
+    gathering.held a.nodes.now a.w a.numbers.now a.xs.now a.node_count _ _ _ c.requires.3 c.requires.4 c.requires.2 (ap (λ (r : NodeSurvey). r.near) e.0) e.1 e.2

@@ -1,15 +1,9 @@
 -- `bent`, the loop's invariant: the first k places hold what is kept of the first i, and the
 -- choice that judges them stays.
-use Prim.Native.Nat.{◌-◌}
-use mathlib.Core.Path.{◌≡◌}
 use Rattle.clean_steps.specs.Choices.{bent_places, chosen}
 use Rattle.clean_steps.proofs.Filter.{Filter}
 use Rattle.flat_points.proofs.bent.Given as goal
 
 abbrev pub invariant-loop-i : goal.invariant-loop-i
 invariant-loop-i l =
-    Filter l.r (bent_places l.tol (chosen l.ring l.r)) l.out.places l.k l.i × (l.n ≡ l.r.count)
-
-abbrev pub decreases-loop-i : goal.decreases-loop-i
-decreases-loop-i l =
-    l.n - l.i
+    Filter l.r (bent_places l.tol (chosen l.ring l.r)) l.out.places l.k l.i

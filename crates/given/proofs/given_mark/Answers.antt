@@ -1,5 +1,5 @@
-use borrow.Author.Tests.{eq-eqb, ne_eqb}
-use mathlib.Core.Path.{ap, ◌∙◌}
+use Rattle.std.proofs.Common.{ap, ◌∙◌, arith}
+use Rattle.std.proofs.lemmas.Bool.Decides.{nat_tests}
 use Rattle.call.specs.Marked.{mark_of, lead_point}
 use Rattle.vector.specs.declared.Point.{Point}
 use Rattle.outline.specs.Outline.{nearest_boundary_point}
@@ -8,21 +8,20 @@ use Rattle.marks.specs.declared.EdgeMark.TheVariants.{Snap}
 use Rattle.given.specs.Steps.{sought}
 use Rattle.given.proofs.given_mark.Goals as goal
 
-pub returns-then-kind-eq1 : goal.returns-then-kind-eq1
+pub returns-in-1 : goal.returns-in-1
 unfolding mark_of
-returns-then-kind-eq1 c = simp (eq-eqb _ _ c.if-kind-eq1.true)
+returns-in-1 c = rw c.in-1.is
 
-pub nearest_boundary_point-q-requires : goal.nearest_boundary_point-q-requires
-nearest_boundary_point-q-requires c = let p = c.requires in (p.few, p.points)
+pub nearest_boundary_point-requires : goal.nearest_boundary_point-requires
+nearest_boundary_point-requires c = let p = c.requires in (omega (arith, p.points), p.points)
 
-pub returns-then-kind-eq2 : goal.returns-then-kind-eq2
+pub returns-in-2 : goal.returns-in-2
 unfolding mark_of lead_point
-returns-then-kind-eq2 c =
-    let s = c.args in
-    let m = c.halfway-m.ensures ∙ (λ j. middle (c.new.ensures j) (c.new-then-kind-eq2.ensures j)) in
-    let e = c.nearest_boundary_point-q.ensures ∙ ap (λ (p : Point). nearest_boundary_point p (sought s.lead)) m in
-    simp (ne_eqb _ _ c.if-kind-eq1.false, eq-eqb _ _ c.if-kind-eq2.true) (ap Snap e)
+returns-in-2 c =
+    let m = c.halfway-m.ensures ∙ (λ j. middle (c.new.ensures j) (c.new-in-2.ensures j)) in
+    let e = c.nearest_boundary_point.ensures ∙ ap (λ (p : Point). nearest_boundary_point p (sought c.args.lead.now)) m in
+    rw c.in-2.is (ap Snap e)
 
-pub returns : goal.returns
+pub returns-in_default : goal.returns-in_default
 unfolding mark_of
-returns c = simp (ne_eqb _ _ c.if-kind-eq1.false, ne_eqb _ _ c.if-kind-eq2.false)
+returns-in_default c = grind (arith, nat_tests)

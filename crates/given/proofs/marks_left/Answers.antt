@@ -12,12 +12,12 @@ pub loop-j-init : goal.loop-j-init
 loop-j-init c = (search rules, search rules, search rules, laid_none _)
 
 -- the kept place is one of the ring's, and has a mark and its point
-low : (c : In-loop-j) → get_or c.args.clean.places c.loop-j.j 0 < c.args.ring.count
+low : (c : In-loop-j) → get_or c.args.clean.now.places c.loop-j.j 0 < c.args.ring.now.count
 low c =
-    place-low _ _ _ c.args.clean c.requires.1 c.loop-j.j (omega (arith, c.loop-j-test.true, c.loop-j.invariant.1))
+    place-low _ _ _ c.args.clean.now c.requires.1 c.loop-j.j (omega (arith, c.loop-j-test.true, c.loop-j.invariant.1))
 
 marked : (c : In-loop-j)
-    → let k = get_or c.args.clean.places c.loop-j.j 0 in
+    → let k = get_or c.args.clean.now.places c.loop-j.j 0 in
     (k < 60) × (k < length c.args.kinds.now) × (k * 2 + 2 ≤ length c.args.snaps.now)
 marked c =
     let l = low c in
@@ -52,7 +52,7 @@ loop-j-preserved c =
       search rules,
       laid_more _ o.j o.edges _ o.invariant.3 (search rules)
           (c.surviving_mark-mark.ensures
-          ∙ mark-next a.ring a.clean a.kinds.now a.snaps.now (sought a.lead) o.j _ _ _ c.next.ensures.0 c.next-after.ensures.0
+          ∙ mark-next a.ring.now a.clean.now a.kinds.now a.snaps.now (sought a.lead.now) o.j _ _ _ c.next.ensures.0 c.next-after.ensures.0
           c.snap_at-p.ensures),
     )
 
@@ -60,5 +60,5 @@ pub returns : goal.returns
 returns c =
     let o = c.loop-j in
     let a = c.args in
-    let e : o.j ≡ a.clean.ring.count = omega arith in
-    subst (λ (k : ℕ). Laid (mark_left a.ring a.clean a.kinds.now a.snaps.now (sought a.lead)) k o.edges) e o.invariant.3
+    let e : o.j ≡ a.clean.now.ring.count = omega arith in
+    subst (λ (k : ℕ). Laid (mark_left a.ring.now a.clean.now a.kinds.now a.snaps.now (sought a.lead.now)) k o.edges) e o.invariant.3

@@ -4,6 +4,6 @@ use Rattle.given.proofs.surviving_marks.Goals as goal
 
 pub returns : goal.returns
 returns c =
-    survive c.args.ring c.args.clean
+    survive c.args.ring.now c.args.clean.now
     (record { kinds = c.args.kinds.now; snaps = c.args.snaps.now; outline = c.args.outline.now; loops = c.args.loops.now })
-    c.lead_line-lead.result c.requires.0 c.lead_line-lead.ensures c.marks_left.result c.marks_left.ensures
+    c.lead_line.result c.requires.0 c.lead_line.ensures c.marks_left.result c.marks_left.ensures

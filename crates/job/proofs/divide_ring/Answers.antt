@@ -26,4 +26,4 @@ returns c =
     let a = c.args in
     let d = c.divide in
     divided a.s a.ring.now a.nodes.now a.rims.now (take (a.run * 2) a.chain.now) a.cells.now c.requires.1 _ _ _ _ d.ensures
-    d.auto.cells _ c.new-row.ensures
+    d.auto.cells _ c.from-row.ensures

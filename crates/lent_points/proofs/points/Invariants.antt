@@ -1,5 +1,5 @@
 -- `points`. The loop's invariant: the places before i hold the points read, and those after them the origin.
-use Prim.Native.Nat.{◌-◌, ◌≤◌}
+use Prim.Native.Nat.{◌≤◌}
 use mathlib.Core.Path.{◌≡◌}
 use lib.ListN.{length, take, drop, replicate}
 use Rattle.laws.specs.Table.{tab}
@@ -12,7 +12,3 @@ abbrev pub invariant-loop-i : goal.invariant-loop-i
 invariant-loop-i l =
     (l.i ≤ l.n) × (length l.out.points ≡ 60) × (take l.i l.out.points ≡ tab (point_in l.l) l.i) × (drop l.i l.out.points ≡ drop l.i (replicate 60 origin))
     × AllOnSheet l.out.points × (l.out.count ≡ l.n)
-
-abbrev pub decreases-loop-i : goal.decreases-loop-i
-decreases-loop-i l =
-    l.n - l.i

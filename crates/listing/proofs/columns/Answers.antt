@@ -1,27 +1,18 @@
 -- `columns`: the whole part's digits, the point, four decimals and the minus.
-use Prim.Native.Nat.{◌+◌}
+use Prim.Native.Nat.{ℕ, ◌+◌, ◌/◌, ◌≤◌}
 use mathlib.Core.Path.{◌≡◌}
-use mathlib.Core.Bool.{true, false}
+use mathlib.Core.Bool.{Bool, true, false}
+use native.Mathlib.Omega.{arith}
+use mir.Val.{bool_byte}
 use lib.ListN.{length}
+use Rattle.text.specs.Text.{decimal}
 use Rattle.decimals.specs.Shown.{decimals}
 use Rattle.decimals.proofs.Texts.{decimals-long}
-use native.Mathlib.Omega.{arith}
 use Rattle.listing.proofs.columns.Goals as goal
 
-pub overflow_add-result : goal.overflow_add-result
-overflow_add-result c = omega (arith, c.width-w.ensures.1)
-
-pub returns-then-m : goal.returns-then-m
-returns-then-m c =
-    let e : c.width-w.result + 6 ≡ length (decimals c.args.m c.args.n) =
-    rw c.if-m.true (omega (arith, c.width-w.ensures.0, decimals-long true c.args.n)) in
-    (e, omega (arith, c.width-w.ensures.1))
-
-pub overflow_add-result-2 : goal.overflow_add-result-2
-overflow_add-result-2 c = omega (arith, c.width-w.ensures.1)
+counted : (m : Bool) (n w b : ℕ) → w ≡ length (decimal (n / 10000)) → w ≤ 20 → b ≡ bool_byte m → (w + 5 + b ≡ length (decimals m n)) × (w + 5 + b ≤ 26)
+counted true n w b e l d = (omega (arith, decimals-long true n), omega arith)
+counted false n w b e l d = (omega (arith, decimals-long false n), omega arith)
 
 pub returns : goal.returns
-returns c =
-    let e : c.width-w.result + 5 ≡ length (decimals c.args.m c.args.n) =
-    rw c.if-m.false (omega (arith, c.width-w.ensures.0, decimals-long false c.args.n)) in
-    (e, omega (arith, c.width-w.ensures.1))
+returns c = counted c.args.d.minus c.args.d.parts c.width.result c.from.result c.width.ensures.0 c.width.ensures.1 c.from.ensures

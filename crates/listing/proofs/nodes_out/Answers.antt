@@ -4,14 +4,16 @@ use mathlib.Core.Bool.{not}
 use borrow.Author.Tests.{lt-ltb, le-ltb}
 use Rattle.listing.specs.Sheet.{nodes_out}
 use Rattle.listing.proofs.nodes_out.Goals as goal
+use Rattle.listing.proofs.nodes_out.Goals.{then-places-count-via-then-places-count, then-places-count-via-else-places-count+then-places-gt-MOST_PLACES}
 
 pub returns-then-places-count : goal.returns-then-places-count
 unfolding nodes_out
-returns-then-places-count c = rw (lt-ltb _ _ c.if-places-count.true)
-
-pub returns-then-places-gt-MOST_PLACES : goal.returns-then-places-gt-MOST_PLACES
-unfolding nodes_out
-returns-then-places-gt-MOST_PLACES c = rw (le-ltb _ _ c.if-places-count.false, lt-ltb _ _ c.if-places-gt-MOST_PLACES.true)
+returns-then-places-count c =
+    elim c.then-places-count.branch [
+      | then-places-count-via-then-places-count w ↦ rw (lt-ltb _ _ w.if-places-count.true)
+      | then-places-count-via-else-places-count+then-places-gt-MOST_PLACES w ↦
+          rw (le-ltb _ _ w.if-places-count.false, lt-ltb _ _ w.if-places-gt-MOST_PLACES.true)
+    ]
 
 pub returns : goal.returns
 unfolding nodes_out

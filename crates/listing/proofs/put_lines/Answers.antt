@@ -1,40 +1,29 @@
-use Prim.Native.Nat.{ℕ, ◌-◌, ◌<◌}
-use mathlib.Core.Path.{◌≡◌, refl, ◌∙◌, subst}
-use Rattle.text.specs.Text.{Written}
-use Rattle.text.proofs.Writing.{nothing, turn-room, turn-written}
-use Rattle.listing.specs.Sheet.{line, lines}
-use Rattle.listing.proofs.Texts.{line-long, lines_long}
-use borrow.Author.Rules.{rules}
+-- `put_lines`: the lines of all nodes have room, and a turn writes one.
+use mathlib.Core.Path.{◌≡◌, refl}
 use native.Mathlib.Omega.{arith}
+use Rattle.std.proofs.Common.{rules}
+use Rattle.text.proofs.Pages.{wrote_none, room-turn, wrote-turn, written-on}
+use Rattle.listing.specs.Sheet.{line, lines}
+use Rattle.listing.proofs.Texts.{lines_long}
 use Rattle.listing.proofs.put_lines.Goals as goal
 
 pub loop-i-init : goal.loop-i-init
 unfolding lines
-loop-i-init c = (
-  search rules,
-  c.requires.0,
-  omega (arith, c.requires.1, lines_long c.args.nodes.now c.args.count (omega (arith, c.requires.0.few))),
-  search rules,
-  nothing c.args.out.now 0 (omega arith),
-)
+loop-i-init c = (omega arith, wrote_none _ (record { fits = omega arith }))
 
-pub put_line-next-requires : goal.put_line-next-requires
+pub line-requires : goal.line-requires
 unfolding lines
-put_line-next-requires c =
+line-requires c =
     let s = c.args in
     let l = c.loop-i in
-    let u = l.invariant.1 in
-    let k : l.i < s.count = omega arith in
-    let few : l.i < 1000000 = omega (arith, u.few) in (
-      few,
-      omega (arith, u.room),
+    let u = c.requires.0 in
+    let k = c.loop-i-test.true in (
+      omega (arith, u.few, k),
+      omega (arith, u.room, k),
       (u.ranged l.i k).0,
       (u.ranged l.i k).1,
-      omega (
-        arith,
-        turn-room (lines s.nodes.now) (line s.nodes.now) (λ i. refl) s.out.now 0 l.i s.count l.invariant.2 k l.next l.out l.invariant.4,
-        line-long s.nodes.now l.i few,
-      ),
+      room-turn (lines s.nodes.now) (line s.nodes.now) (λ i. refl) s.count
+          (record { fits = omega (arith, c.requires.1, lines_long s.nodes.now s.count (omega (arith, u.few))) }) k l.invariant.1,
     )
 
 pub loop-i-preserved : goal.loop-i-preserved
@@ -42,21 +31,14 @@ unfolding lines
 loop-i-preserved c =
     let s = c.args in
     let l = c.loop-i in
-    let p = c.put_line-next in (
-      search rules,
-      l.invariant.1,
-      l.invariant.2,
-      p.auto.out ∙ l.invariant.3,
-      turn-written (lines s.nodes.now) (line s.nodes.now) (λ i. refl) s.out.now 0 l.i s.count l.invariant.2 (omega arith) l.next l.out
-          l.invariant.4 p.result p.new.out p.ensures,
+    let u = c.requires.0 in (
+      omega arith,
+      wrote-turn (lines s.nodes.now) (line s.nodes.now) (λ i. refl) s.count
+          (record { fits = omega (arith, c.requires.1, lines_long s.nodes.now s.count (omega (arith, u.few))) }) c.loop-i-test.true l.invariant.1 c.line.ensures,
     )
-
-pub shape_of-out : goal.shape_of-out
-shape_of-out c = c.loop-i.invariant.3
 
 pub returns : goal.returns
 returns c =
-    let s = c.args in
     let l = c.loop-i in
-    let e : l.i ≡ s.count = omega arith in
-    subst (λ (i : ℕ). Written s.out.now 0 (lines s.nodes.now i) l.next l.out) e l.invariant.4
+    let e : l.i ≡ c.args.count = omega (arith, l.invariant.0, c.loop-i-test.false) in
+    written-on (search rules) (rw e at l.invariant.1)

@@ -1,23 +1,13 @@
-use mathlib.Core.Path.{◌≡◌}
-use lib.ListN.{length}
-use Rattle.text.specs.Text.{decimal}
-use Rattle.text.proofs.Decimal.{at-most_20}
-use Rattle.listing.proofs.Texts.{one-long, tenth_long}
-use borrow.Author.Rules.{rules}
+-- `width`: the number lies between two powers of ten, or is 0.
+use mathlib.Core.Path.{sym}
 use native.Mathlib.Omega.{arith}
+use Rattle.listing.proofs.Texts.{one-long, long-between}
 use Rattle.listing.proofs.width.Goals as goal
 
-pub loop-m-init : goal.loop-m-init
-loop-m-init c = (c.ranges.n.fits, search rules)
+pub returns-in-Some : goal.returns-in-Some
+returns-in-Some c =
+    let e = c.in-Some.ensures in
+    (long-between c.in-Some.k c.args.n e.power_le e.next_power_gt c.ranges.n.fits, omega (arith, e.bound))
 
-pub overflow_add-w : goal.overflow_add-w
-overflow_add-w c = let l = c.loop-m in omega (arith, l.invariant.1, at-most_20 c.args.n)
-
-pub loop-m-preserved : goal.loop-m-preserved
-loop-m-preserved c = let l = c.loop-m in (omega arith, omega (arith, l.invariant.1, tenth_long l.m (search rules) l.invariant.0))
-
-pub returns : goal.returns
-returns c =
-    let l = c.loop-m in
-    let e : l.w ≡ length (decimal c.args.n) = omega (arith, l.invariant.1, one-long l.m (search rules)) in
-    (e, omega (arith, e, at-most_20 c.args.n))
+pub returns-in-None : goal.returns-in-None
+returns-in-None c = (sym (one-long c.args.n (omega (arith, c.in-None.ensures.none))), omega arith)

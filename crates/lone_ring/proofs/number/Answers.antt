@@ -6,4 +6,4 @@ use Rattle.lone_ring.proofs.number.Goals as goal
 
 pub returns : goal.returns
 unfolding number_of of_bits
-returns c = ap (λ (v : Row). v.code) (c.new-v.ensures ∙ c.divide-a.ensures.leaves.values)
+returns c = ap (λ (v : Row). v.code) (c.from.ensures ∙ c.divide-answer.ensures.leaves.values)

@@ -31,11 +31,11 @@ units-no : (c : Else-units_out) → let a = c.args in units_out (all_points a.ri
 units-no c = sym c.units_out.ensures ∙ c.if-units_out.false
 
 marks-no : (c : Else-marks_out) → let a =
-    c.args in marks_out a.kinds.now a.snaps.now (length a.ring.now / 2) ≡ false
+    c.args in marks_out a.marking.kinds.now a.marking.snaps.now (length a.ring.now / 2) ≡ false
 marks-no c = sym c.marks_out.ensures ∙ c.if-marks_out.false
 
 outline-no : (c : Else-outline_out) → let a =
-    c.args in outline_out a.kinds.now a.outline.now a.loops.now ≡ false
+    c.args in outline_out a.marking.kinds.now a.marking.outline.now a.marking.loops.now ≡ false
 outline-no c = sym c.outline_out.ensures ∙ c.if-outline_out.false
 
 pub returns-then-counts_out : goal.returns-then-counts_out

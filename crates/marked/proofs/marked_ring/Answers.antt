@@ -1,14 +1,10 @@
 -- `marked_ring`: the ring is cleaned, and of the marks given those stay that survive.
 use mathlib.Core.Path.{ap}
 use Rattle.vector.specs.declared.Ring.{Ring}
-use Rattle.call.specs.Marked.{Marking}
+use Rattle.marked.specs.Steps.{lent_in}
 use Rattle.divider.proofs.Preparing.{asks, read}
 use Rattle.marked.proofs.Preparing.{marks-of, prepares}
 use Rattle.marked.proofs.marked_ring.Goals as goal
-use Rattle.marked.proofs.marked_ring.Goals.{Start}
-
-abbrev marking : Start → Marking
-marking s = let a = s.args in record { kinds = a.kinds.now; snaps = a.snaps.now; outline = a.outline.now; loops = a.loops.now }
 
 pub points-own-requires : goal.points-own-requires
 points-own-requires c = asks c.args.ring.now c.requires.paper
@@ -19,7 +15,7 @@ clean_polygon-clean-requires c = c.points-own.ensures.1
 pub surviving_marks-edges-requires : goal.surviving_marks-edges-requires
 surviving_marks-edges-requires c =
     let r = c.args.ring.now in (
-      marks-of r (marking (goal.at.surviving_marks-edges-requires c).Start) c.args.size c.requires c.points-own.result c.points-own.ensures.1 (ap (λ (w : Ring). w.count) c.points-own.ensures.0)
+      marks-of r (lent_in c.args.marking) c.args.size c.requires c.points-own.result c.points-own.ensures.1 (ap (λ (w : Ring). w.count) c.points-own.ensures.0)
           (read r c.points-own.result c.points-own.ensures.0) c.clean_polygon-clean.result c.clean_polygon-clean.ensures,
       c.requires.outline,
     )
@@ -27,6 +23,6 @@ surviving_marks-edges-requires c =
 pub returns : goal.returns
 returns c =
     let r = c.args.ring.now in
-    prepares r (marking (goal.at.returns c).Start) c.args.size c.requires c.points-own.result c.points-own.ensures.1 (ap (λ (w : Ring). w.count) c.points-own.ensures.0)
+    prepares r (lent_in c.args.marking) c.args.size c.requires c.points-own.result c.points-own.ensures.1 (ap (λ (w : Ring). w.count) c.points-own.ensures.0)
     (read r c.points-own.result c.points-own.ensures.0) c.clean_polygon-clean.result c.clean_polygon-clean.ensures c.surviving_marks-edges.result
     c.surviving_marks-edges.ensures

@@ -1,11 +1,41 @@
--- `joins`: each return is one case of the definition.
+-- `joins`: the derived equality of points is the definition's, and each return is one of its cases.
+use Rattle.std.proofs.Common.{sym, ◌∙◌}
+use Rattle.vector.proofs.Same.{derived-same}
 use Rattle.marks.specs.Marks as Marks
 use Rattle.marks.proofs.joins.Goals as goal
+use Rattle.marks.proofs.joins.Goals.{then-eq, else-eq}
 
-pub returns-then-runs : goal.returns-then-runs
+pub returns-then-eq-2 : goal.returns-then-eq-2
 unfolding Marks.joins
-returns-then-runs c = λ s. rw (← c.runs.ensures, c.if-runs.true)
+returns-then-eq-2 c = λ s.
+    let a = c.args in
+    elim c.if-eq.branch [
+      | then-eq w ↦
+          rw (sym (c.eq.ensures ∙ derived-same a.p a.a) ∙ w.if-eq.true, sym (w.value-is ∙ w.eq-then-eq.ensures ∙ derived-same a.q a.b) ∙ c.if-eq-2.true)
+          c.if-eq-2.true
+      | else-eq w ↦ cc
+    ]
 
-pub returns : goal.returns
+pub returns-then-eq-3 : goal.returns-then-eq-3
 unfolding Marks.joins
-returns c = λ s. rw (← c.runs.ensures, c.if-runs.false) c.runs-2.ensures
+returns-then-eq-3 c = λ s.
+    let a = c.args in
+    let first = sym (c.eq.ensures ∙ derived-same a.p a.a) in
+    let back = sym (c.eq-else-eq-2.ensures ∙ derived-same a.p a.b) ∙ c.if-eq-3.true in
+    let last = c.eq-then-eq-3.ensures ∙ derived-same a.q a.a in
+    elim c.if-eq.branch [
+      | then-eq w ↦ rw (first ∙ w.if-eq.true, sym (w.value-is ∙ w.eq-then-eq.ensures ∙ derived-same a.q a.b) ∙ c.if-eq-2.false, back) last
+      | else-eq w ↦ rw (first ∙ w.if-eq.false, back) last
+    ]
+
+pub returns-else-eq-3 : goal.returns-else-eq-3
+unfolding Marks.joins
+returns-else-eq-3 c = λ s.
+    let a = c.args in
+    let first = sym (c.eq.ensures ∙ derived-same a.p a.a) in
+    let back = sym (c.eq-else-eq-2.ensures ∙ derived-same a.p a.b) ∙ c.if-eq-3.false in
+    elim c.if-eq.branch [
+      | then-eq w ↦
+          rw (first ∙ w.if-eq.true, sym (w.value-is ∙ w.eq-then-eq.ensures ∙ derived-same a.q a.b) ∙ c.if-eq-2.false, back) c.if-eq-3.false
+      | else-eq w ↦ rw (first ∙ w.if-eq.false, back) c.if-eq-3.false
+    ]

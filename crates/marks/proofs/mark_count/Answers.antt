@@ -1,32 +1,30 @@
-use Prim.Native.Nat.{◌+◌, ◌-◌, ◌<◌}
-use native.Mathlib.Omega.{arith}
-use mathlib.Core.Path.{◌≡◌, refl, sym, ap, ◌∙◌}
-use lib.ListN.{length}
-use borrow.Author.Rules.{rules}
+use Rattle.std.proofs.Common.{◌≡◌, ◌+◌, ◌<◌, length, get_or, take, [], ◌∷◌, sym, ap, ◌∙◌, refl, arith}
+use lib.Seq.{get_or-take, length-take-le}
+use Rattle.marks.specs.declared.Edge.{Edge}
 use Rattle.marks.specs.Part.{mark_count}
-use Rattle.marks.specs.Edges.{marks_in}
+use Rattle.marks.specs.Edges.{marks_in, straight_edge}
 use Rattle.marks.proofs.Edges.{marks-more, count-more}
 use Rattle.marks.proofs.mark_count.Goals as goal
 
-pub loop-i-init : goal.loop-i-init
-loop-i-init c = (search rules, search rules, search rules, search rules, refl)
-
-pub loop-i-preserved : goal.loop-i-preserved
-loop-i-preserved c =
-    let l = c.loop-i in
-    let es = c.args.ring.edges in
-    let h : l.i < length es = omega (arith, c.requires.marks, c.requires.ring.count) in
-    let q = l.invariant.4 in
-    let w = c.weight-total.ensures.0 in (
-      search rules,
-      search rules,
-      search rules,
-      omega (arith, c.weight-total.ensures.1),
-      (λ j. q j + w j) ∙ sym (count-more (marks_in es l.i) _) ∙ ap mark_count (sym (marks-more es l.i h)),
+pub loop-e-preserved : goal.loop-e-preserved
+loop-e-preserved c =
+    let l = c.loop-e in
+    let r = c.args.ring.now in
+    let es = r.edges in
+    let n = length-take-le r.ring.count es (omega (arith, c.requires.marks, c.requires.ring.count)) in
+    let q = l.invariant.1 in
+    let e : get_or (take r.ring.count es) l.e-index straight_edge ≡ get_or es l.e-index straight_edge =
+    get_or-take r.ring.count es l.e-index straight_edge (omega (arith, n)) in
+    let w = c.weight-total.ensures.0 ∙ (λ j. mark_count ((e j).mark ∷ [])) in (
+      omega (arith, c.weight-total.ensures.1, l.invariant.0),
+      (λ j. q j + w j) ∙ sym (count-more (marks_in es l.e-index) _)
+          ∙ ap mark_count (sym (marks-more es l.e-index (omega (arith, n, c.requires.marks, c.requires.ring.count)))),
     )
 
 pub returns : goal.returns
 returns c =
-    let l = c.loop-i in
-    let e : l.i ≡ c.args.ring.ring.count = omega arith in
-    (rw e at l.invariant.4, omega arith)
+    let l = c.loop-e in
+    let r = c.args.ring.now in
+    let n = length-take-le r.ring.count r.edges (omega (arith, c.requires.marks, c.requires.ring.count)) in
+    let e : l.e-index ≡ r.ring.count = omega (arith, n) in
+    (rw e at l.invariant.1, omega (arith, e, l.invariant.0))

@@ -1,9 +1,7 @@
 -- `mark_edges`, for every count from 0 to 60. The outer invariant: the edges before i have their marks; the inner: what is
 -- left of the search is the whole search.
-use Prim.Native.Nat.{◌-◌, ◌≤◌, ◌<◌}
-use mathlib.Core.Path.{◌≡◌}
+use Rattle.std.proofs.Common.{◌≡◌, ◌-◌}
 use Rattle.laws.specs.Bounded.{first}
-use Rattle.vector.specs.Rings.{most_points, points_of}
 use Rattle.chain.specs.Kept.{stretch_in, stretches_in}
 use Rattle.marks.specs.Marks.{joins}
 use Rattle.marks.specs.Edges.{Marked}
@@ -11,18 +9,9 @@ use Rattle.marks.proofs.mark_edges.Given as goal
 
 abbrev pub invariant-search : goal.invariant-search
 invariant-search l =
-    (l.i < l.n) × (l.n ≡ l.ring.count) × (l.n ≤ most_points) × (l.chain.count ≤ 59) × (l.j ≤ l.chain.count) × Marked (stretches_in l.chain) (points_of l.ring) l.i l.edges
+    Marked (stretches_in l.chain) l.ring l.i l.edges
     × (first (λ k. joins l.a l.b (stretch_in l.chain.points l.chain.snaps k)) (l.chain.count - l.j) l.j
     ≡ first (λ k. joins l.a l.b (stretch_in l.chain.points l.chain.snaps k)) l.chain.count 0)
 
-abbrev pub decreases-search : goal.decreases-search
-decreases-search l =
-    l.count - l.j
-
 abbrev pub invariant-loop-i : goal.invariant-loop-i
-invariant-loop-i l =
-    (l.i ≤ l.n) × (l.n ≡ l.ring.count) × (l.n ≤ most_points) × (l.chain.count ≤ 59) × Marked (stretches_in l.chain) (points_of l.ring) l.i l.edges
-
-abbrev pub decreases-loop-i : goal.decreases-loop-i
-decreases-loop-i l =
-    l.n - l.i
+invariant-loop-i l = Marked (stretches_in l.chain) l.ring l.i l.edges

@@ -1,25 +1,19 @@
 -- `near_segment`: each step is that of the definition, on whole numbers that fit.
 use native.Mathlib.Omega.{arith}
 use mathlib.Core.Path.{sym, ap, ◌∙◌}
-use lib.Dec.{lit<}
 use lib.Ieee.{of_bits, of_int}
 use Rattle.laws.specs.Double.{int, nat, clamp, ◌/f◌, ◌≤f◌}
 use Rattle.laws.proofs.Signed as signed
 use Rattle.vector.specs.Grid as Grid
 use Rattle.vector.specs.Plane.{lerp}
+use Rattle.vector.proofs.Same.{derived-same}
 use Rattle.root.specs.Norm.{dist}
 use Rattle.nearness.specs.Nearness.{point_segment_distance}
 use Rattle.nearness.proofs.near_segment.Goals as goal
 
-pub returns-then-same : goal.returns-then-same
+pub returns-then-eq : goal.returns-then-eq
 unfolding point_segment_distance
-returns-then-same c = let e = sym c.same.ensures ∙ c.if-same.true in rw e c.grid_dist_at_most.ensures
-
-pub to_double-requires : goal.to_double-requires
-to_double-requires c = let h = c.dot.ensures.1 in signed.small64 c.dot.result _ (lit< tt) (omega arith)
-
-pub to_double-requires-2 : goal.to_double-requires-2
-to_double-requires-2 c = let h = c.dot-2.ensures.1 in signed.small64 c.dot-2.result _ (lit< tt) (omega arith)
+returns-then-eq c = let e = sym (derived-same c.args.a c.args.b) ∙ sym c.eq.ensures ∙ c.if-eq.true in rw e c.grid_dist_at_most.ensures
 
 pub returns : goal.returns
 unfolding point_segment_distance of_bits of_int
@@ -35,5 +29,5 @@ returns c =
     ∙ (λ i. Grid.dot (ab i) (ab i))) in
     let t = c.clamp.ensures ∙ (λ i. clamp (nat 0) (nat 1) (x i /f y i)) in
     let f = c.lerp-foot.ensures ∙ (λ i. lerp (c.new.ensures i) (c.new-2.ensures i) (t i)) in
-    let e = sym c.same.ensures ∙ c.if-same.false in
+    let e = sym (derived-same c.args.a c.args.b) ∙ sym c.eq.ensures ∙ c.if-eq.false in
     rw e (c.dist_at_most.ensures ∙ (λ i. dist (c.new-3.ensures i) (f i) ≤f c.args.tol))

@@ -1,56 +1,54 @@
 -- `find_nearby`: what the collected nodes decide is what the whole scan finds.
-use Prim.Native.Nat.{◌<◌}
-use native.Mathlib.Omega.{arith}
-use mathlib.Core.Path.{sym, ◌∙◌}
-use lib.ListN.{length}
+use Rattle.std.proofs.Common.{◌≡◌, ℕ, ◌-◌, true, leb, ◌&&◌, refl, sym, ap, subst, ◌∙◌, arith}
+use Rattle.laws.specs.Bounded.{first}
 use Rattle.laws.proofs.Search.{first-start}
-use Rattle.laws.proofs.Booleans.{is_true}
-use Rattle.nodes.specs.Nearby.{most_nearby}
+use Rattle.keys.specs.Keys.{key_of}
+use Rattle.nodes.specs.Nodes.{number}
+use Rattle.nodes.specs.Flat.{nodes_in, Usable, has_at}
+use Rattle.nodes.specs.Nearby.{most_nearby, well_inside, NearbyLists}
 use Rattle.nodes.proofs.Scan.{found-is}
 use Rattle.nodes.proofs.Collection as collection
+use Rattle.numbering.specs.Search.{below}
+use Rattle.numbering.proofs.Found.{some, given, absent}
 use Rattle.numbering.proofs.find_nearby.Goals as goal
-use Rattle.numbering.proofs.find_nearby.Goals.{Then-j-near}
+use Rattle.numbering.proofs.find_nearby.Goals.{Then-decides, Joined-decides, then-decides+in_default, else-decides}
 
-pub returns-then-not-decides : goal.returns-then-not-decides
-returns-then-not-decides c =
-    c.find_from.ensures ∙ first-start _ _ ∙ found-is c.args.nodes.now c.args.used c.args.p _ _ c.new-kx.ensures.0 c.new-ky.ensures.0
+-- a point whose keys the collected nodes decide
+decided : (c : Then-decides) → (leb c.args.found.near.count most_nearby && well_inside c.args.found.near.window c.new-key.result.x.scaled c.new-key.result.y.scaled) ≡ true
+decided c = sym c.decides.ensures ∙ c.if-decides.true
 
-pub find_listed-j-requires : goal.find_listed-j-requires
-find_listed-j-requires c =
-    let r = collection.searchable _ _ _ _ _ c.args.p _ _ c.requires.2 c.requires.0 c.new-kx.ensures.0 c.new-ky.ensures.0 c.new-kx.ensures.1
-    c.new-ky.ensures.1 (sym c.decides.ensures ∙ is_true _ c.if-not-decides.false-raw) in
-    (r.0, r.1, c.new-kx.ensures.1, c.new-ky.ensures.1)
+lists : (c : Then-decides) → let a = c.args in Usable a.nodes.now a.found.near.old × NearbyLists a.nodes.now a.found.near.old a.found.numbers.now a.found.xs.now a.found.near.count
+lists c =
+    let k = c.new-key in
+    collection.searchable _ _ _ _ _ c.args.p _ _ c.requires.2 c.requires.0 k.ensures.0 k.ensures.1 k.result.sought.0 k.result.sought.1 (decided c)
 
--- a place among the collected
-abbrev Low : Then-j-near → Type 0
-Low c =
+pub invariant_of-listed : goal.invariant_of-listed
+invariant_of-listed c = let r = lists (goal.at.invariant_of-listed c).Then-decides in record { usable = r.0; lists = r.1 }
+
+pub returns-in-Some : goal.returns-in-Some
+returns-in-Some c =
+    let k = c.new-key in
+    let n = c.args.found.near in
+    let d = (goal.at.returns-in-Some c).Then-decides in
+    let v = given n.count _ c.in-Some.j (sym c.in-Some.is ∙ c.find_from.ensures) in
+    some _ _ _ (sym (collection.found _ _ _ _ _ c.args.p _ _ c.requires.2 c.requires.0 k.ensures.0 k.ensures.1 k.result.sought.0 k.result.sought.1 (decided d)
+    c.in-Some.j (v.0 ∙ first-start _ _) v.1))
+    (omega (arith, (lists d).1.low c.in-Some.j v.1, c.requires.2.old))
+
+-- what is left of the list has the point's number
+rest : (c : Joined-decides) → let a = c.args in let k = c.new-key.result in
+    first (has_at a.nodes.now (key_of k.x) (key_of k.y)) (a.used - c.if-decides.from) c.if-decides.from ≡ number (nodes_in a.nodes.now a.used) a.p
+rest c =
     let a = c.args in
-    (c.find_listed-j.result < length a.numbers.now) × (c.find_listed-j.result < most_nearby)
-
-low : (c : Then-j-near) → Low c
-low c =
-    collection.room_at _ _ _ _ _ c.args.p _ _ c.requires.2 c.requires.0 c.new-kx.ensures.0 c.new-ky.ensures.0 c.new-kx.ensures.1 c.new-ky.ensures.1
-    (sym c.decides.ensures ∙ is_true _ c.if-not-decides.false-raw) _ c.if-j-near.true
-
-pub offset_bounds-numbers-j : goal.offset_bounds-numbers-j
-offset_bounds-numbers-j c = omega (arith, (low c).1)
-
-pub bounds-numbers-j : goal.bounds-numbers-j
-bounds-numbers-j c = (low (goal.at.bounds-numbers-j c).Then-j-near).0
-
-pub overflow_cast-result : goal.overflow_cast-result
-overflow_cast-result c = omega (arith, c.shared_slice_known-then-j-near-1.given c.find_listed-j.result)
-
-pub returns-then-j-near : goal.returns-then-j-near
-returns-then-j-near c =
-    collection.found _ _ _ _ _ c.args.p _ _ c.requires.2 c.requires.0 c.new-kx.ensures.0 c.new-ky.ensures.0 c.new-kx.ensures.1 c.new-ky.ensures.1
-    (sym c.decides.ensures ∙ is_true _ c.if-not-decides.false-raw) _ c.find_listed-j.ensures c.if-j-near.true
-
-pub find_from-requires-2 : goal.find_from-requires-2
-find_from-requires-2 c =
-    (c.requires.0, c.requires.2.old, c.new-kx.ensures.1, c.new-ky.ensures.1)
+    let k = c.new-key in
+    let n = a.found.near in
+    let P : ℕ → Type 0 = λ m. first (has_at a.nodes.now (key_of k.result.x) (key_of k.result.y)) (a.used - m) m ≡ number (nodes_in a.nodes.now a.used) a.p in
+    elim c.if-decides.branch [
+      | then-decides+in_default w ↦
+          subst P (sym w.from-is) (collection.not_found _ _ _ _ _ a.p _ _ c.requires.2 c.requires.0 k.ensures.0 k.ensures.1 k.result.sought.0 k.result.sought.1
+          (sym c.decides.ensures ∙ w.if-decides.true) _ (first-start _ _) _ (absent n.count _ (sym w.in_default.is ∙ w.find_from.ensures)) refl)
+      | else-decides w ↦ subst P (sym w.from-is) (first-start _ _ ∙ found-is a.nodes.now a.used a.p k.result.x k.result.y k.ensures.0 k.ensures.1)
+    ]
 
 pub returns : goal.returns
-returns c =
-    collection.not_found _ _ _ _ _ c.args.p _ _ c.requires.2 c.requires.0 c.new-kx.ensures.0 c.new-ky.ensures.0 c.new-kx.ensures.1
-    c.new-ky.ensures.1 (sym c.decides.ensures ∙ is_true _ c.if-not-decides.false-raw) _ c.find_listed-j.ensures _ c.if-j-near.false c.find_from-2.ensures
+returns c = c.find_from-2.ensures ∙ ap (below c.args.used) (rest (goal.at.returns c).Joined-decides)

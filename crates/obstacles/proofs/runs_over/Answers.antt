@@ -1,50 +1,26 @@
-use Prim.Native.Nat.{◌-◌}
-use mathlib.Core.Bool.{true, false}
-use mathlib.Core.Path.{◌≡◌, refl, sym, ap, ◌∙◌}
-use lib.ListN.{take}
-use Rattle.laws.specs.Bounded.{any}
-use Rattle.laws.proofs.Search.{any-pass, any_hit}
-use Rattle.vector.specs.Rings.{points_of}
-use Rattle.vector.proofs.Rings as rings
-use Rattle.obstacles.specs.Obstacles.{runs_over}
+use mathlib.Core.Path.{◌∙◌}
+use lib.ListN.{get_or}
+use Rattle.std.proofs.Common.{rules, tests}
+use Rattle.std.proofs.lemmas.Iterator.Adapters.{serves_from_places}
+use Rattle.std.proofs.lemmas.Iterator.{YieldsList-from_slice}
+use Rattle.std.proofs.lemmas.Iterator.Search.{any_from_yields_List}
+use Rattle.vector.specs.Grid.{origin}
+use Rattle.vector.specs.Size.{OnSheet}
+use Rattle.segments.specs.Meeting.{strictly_between}
 use Rattle.obstacles.proofs.Blocking as blocking
-use borrow.Author.Rules.{rules}
-use native.Mathlib.Omega.{arith}
 use Rattle.obstacles.proofs.runs_over.Goals as goal
 
-pub scan-init : goal.scan-init
-unfolding any
-scan-init c = (search rules, search rules, search rules, c.requires.0, refl, refl)
+pub any-requires-clause-callable : goal.any-requires-clause-callable
+any-requires-clause-callable c =
+    let r = c.args.part.now in
+    let all = c.requires.0.points in
+    let o : OnSheet (get_or r 0 origin) = all 0 in
+    let q : OnSheet (get_or r c.args.k origin) = all c.args.k in
+    serves_from_places (YieldsList-from_slice r cc) (λ x f h. search rules)
+    (λ x k l e. let p = blocking.on_sheet r all k l x.now e in search rules)
 
-pub strictly_between-requires : goal.strictly_between-requires
-strictly_between-requires c = let s = c.scan.invariant.3.points in (s _, s _, s _)
-
-pub scan-preserved : goal.scan-preserved
-scan-preserved c =
-    let l = c.scan in
-    let h = rings.room c.args.part c.requires.0 in
-    let ps = c.args.part.points in
-    let n = c.args.part.count in (
-      search rules,
-      search rules,
-      search rules,
-      l.invariant.3,
-      l.invariant.4,
-      any-pass (runs_over (take n ps) c.args.k) l.j l.invariant.5
-          (blocking.over ps n h (omega arith) c.args.k (omega arith) l.j (omega arith) false (sym c.strictly_between.ensures ∙ c.if-strictly_between.false)),
-    )
-
-pub returns-after-scan : goal.returns-after-scan
-returns-after-scan c =
-    let l = c.scan in
-    let e : l.j ≡ c.args.part.count = omega arith in
-    l.invariant.4 ∙ sym l.invariant.5 ∙ ap (any (runs_over (points_of c.args.part) c.args.k)) e
-
-pub returns-then-strictly_between : goal.returns-then-strictly_between
-returns-then-strictly_between c =
-    let l = c.scan in
-    let h = rings.room c.args.part c.requires.0 in
-    let ps = c.args.part.points in
-    let n = c.args.part.count in
-    sym (any_hit (runs_over (take n ps) c.args.k) l.j n (omega arith)
-    (blocking.over ps n h (omega arith) c.args.k (omega arith) l.j (omega arith) true (sym c.strictly_between.ensures ∙ c.if-strictly_between.true)))
+pub returns : goal.returns
+returns c =
+    let r = c.args.part.now in
+    any_from_yields_List (strictly_between (get_or r 0 origin) (get_or r c.args.k origin)) _ _ c.any.result c.any.ensures.ran (YieldsList-from_slice r cc) (λ x b q k. search (rules, tests))
+    ∙ blocking.over r c.args.k c.requires.1

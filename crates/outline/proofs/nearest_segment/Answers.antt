@@ -1,47 +1,28 @@
-use Prim.Native.Nat.{◌-◌, ◌≤◌}
-use mathlib.Core.Path.{◌≡◌, refl}
-use lib.Ieee.{div, of_bits}
-use lib.ListN.{length}
-use Rattle.outline.specs.Outline.{none, nearest_segment}
+use mathlib.Core.Path.{refl, sym, ◌∙◌}
+use lib.Ieee.{of_bits}
+use Rattle.std.proofs.lemmas.List.{at_drop_all}
+use Rattle.outline.specs.Outline.{segments, nearest_from, nearest_segment}
 use Rattle.outline.proofs.Scan as scan
-use borrow.Author.Rules.{rules}
 use native.Mathlib.Omega.{arith}
 use Rattle.outline.proofs.nearest_segment.Goals as goal
 
-pub loop-l-init : goal.loop-l-init
-unfolding div of_bits
-loop-l-init c = (search rules, search rules, search rules, refl, scan.loop-none c.args.p none c.args.points c.args.loops)
+pub loop-m-init : goal.loop-m-init
+unfolding of_bits
+loop-m-init c = (c.requires.0, c.requires.1, refl)
 
-pub nearest_in_loop-best-requires : goal.nearest_in_loop-best-requires
-nearest_in_loop-best-requires c =
-    let l = c.loop-l in
-    let h : c.args.count ≤ length c.args.loops = omega (arith, c.well_formed.1.1.0.1) in
-    let e = scan.sum_low c.args.points c.args.loops l.l c.args.count (omega arith) h in
-    omega (arith, e, l.invariant.3, l.invariant.2)
-
-pub overflow_add-start : goal.overflow_add-start
-overflow_add-start c =
-    let l = c.loop-l in
-    let h : c.args.count ≤ length c.args.loops = omega (arith, c.well_formed.1.1.0.1) in
-    let e = scan.sum_low c.args.points c.args.loops l.l c.args.count (omega arith) h in
-    omega (arith, e, l.invariant.3, l.invariant.2)
-
-pub loop-l-preserved : goal.loop-l-preserved
-loop-l-preserved c =
-    let l = c.loop-l in
-    let h : c.args.count ≤ length c.args.loops = omega (arith, c.well_formed.1.1.0.1) in
-    let e = scan.sum_more c.args.points c.args.loops l.l c.args.count (omega arith) h in (
-      search rules,
-      search rules,
-      search rules,
-      omega (arith, e, l.invariant.3),
-      scan.loop-more c.args.points c.args.loops l.l c.args.count (omega arith) h c.args.p l.start none l.best _ l.invariant.3 l.invariant.4
-          c.nearest_in_loop-best.ensures,
+pub loop-m-preserved : goal.loop-m-preserved
+loop-m-preserved c =
+    let l = c.loop-m in
+    let ms = c.args.loops.now in
+    let s = scan.sum_left ms l.m-index c.loop-m-test.true in
+    let cut = c.split_at.ensures in (
+      omega (arith, s, cut.back_len, l.invariant.0),
+      omega (arith, s, l.invariant.1),
+      scan.loop-turn ms l.m-index c.loop-m-test.true l.rest.now _ _ c.args.p l.best _ _ cut.front cut.back c.nearest_in_loop-best.ensures l.invariant.2,
     )
 
 pub returns : goal.returns
-unfolding nearest_segment
+unfolding nearest_segment nearest_from segments
 returns c =
-    let l = c.loop-l in
-    let e : l.l ≡ c.args.count = omega arith in
-    rw e at l.invariant.4
+    let l = c.loop-m in
+    sym (at_drop_all (λ ms. nearest_from c.args.p l.best (segments l.rest.now ms)) c.args.loops.now l.m-index c.loop-m-test.false) ∙ l.invariant.2

@@ -1,62 +1,87 @@
-use Prim.Native.Nat.{ℕ, ◌+◌, ◌-◌, ◌%◌}
-use mathlib.Core.Path.{◌≡◌, refl, ap, ◌∙◌}
-use lib.ListN.{take, length-set}
+-- `rotated_points`: each turn puts the point of one corner more, counted round.
+use Rattle.std.proofs.Common.{◌≡◌, ℕ, ◌+◌, ◌-◌, ◌%◌, ◌<◌, length, get_or, take, drop, refl, ap, ◌∙◌, arith}
+use lib.ListN.{length-set}
+use lib.Seq.{get_or-set_other}
+use Rattle.std.proofs.lemmas.Iterator.{YieldsList-from_slice}
+use Rattle.std.proofs.lemmas.Iterator.Consumers.{YieldsList-turn, YieldsList-end, YieldsList-from_enumerate, YieldsList-from_chain}
+use Rattle.std.proofs.lemmas.List.{length_push}
+use Rattle.std.proofs.lemmas.List.FromFn.{length-enumerate_from, get_or-enumerate_from}
+use Rattle.laws.specs.Table.{tab}
+use Rattle.laws.proofs.Lists.{all_same, all_set}
+use Rattle.laws.proofs.Table.{more, tab_none}
+use Rattle.vector.specs.declared.GridPoint.{GridPoint}
 use Rattle.vector.specs.Grid.{origin}
 use Rattle.vector.specs.Size.{OnSheet}
 use Rattle.vector.proofs.Sheet.{origin_on}
-use Rattle.laws.specs.Table.{tab}
-use Rattle.laws.proofs.Table.{more, tab_none, start-mod, step-mod}
-use Rattle.laws.proofs.Lists.{all_same, all_set}
-use Rattle.parts.specs.Vertices.{corner_point}
-use borrow.Author.Rules.{rules}
-use native.Mathlib.Omega.{arith}
+use Rattle.parts.specs.declared.Vertex.{Vertex}
+use Rattle.parts.specs.Vertices.{vertex, corner_point}
+use Rattle.parts.proofs.Stored.{turned, turned-at, length-turned}
 use Rattle.parts.proofs.rotated_points.Goals as goal
+use Rattle.parts.proofs.rotated_points.Goals.{In-Some}
+
+-- this turn's corner, and its number
+turn : (c : In-Some) → (length c.loop-i.yielded < length c.args.vs.now) × (c.in-Some.i ≡ length c.loop-i.yielded)
+    × (c.in-Some.c.now ≡ vertex c.args.vs.now ((c.args.v + length c.loop-i.yielded) % length c.args.vs.now))
+turn c =
+    let vs = c.args.vs.now in
+    let v = c.args.v in
+    let road =
+    YieldsList-from_enumerate {s = c.into_iter-i-iterator.result}
+    (YieldsList-from_chain (YieldsList-from_slice (take (length vs - v) (drop v vs)) (cc)) (YieldsList-from_slice (take v vs) (cc)) (cc) (cc)) (cc) in
+    let t = YieldsList-turn road c.loop-i.yielded _ c.loop-i.yielded_by _ _ (c.in-Some.i, c.in-Some.c) c.in-Some.is c.next.ensures.steps in
+    let l : length c.loop-i.yielded < length vs =
+    omega (arith, t.0, length-enumerate_from 0 (turned vs v), length-turned vs v c.requires.1) in
+    let e =
+    t.1 ∙ get_or-enumerate_from 0 (turned vs v) (length c.loop-i.yielded) (c.in-Some.i, c.in-Some.c.now) (omega (arith, l, length-turned vs v c.requires.1)) in
+    let n : c.in-Some.i ≡ length c.loop-i.yielded = ap (λ (p : ℕ × Vertex). p.0) e ∙ omega arith in
+    (l, n, ap (λ (p : ℕ × Vertex). p.1) e ∙ turned-at vs v (length c.loop-i.yielded) c.in-Some.c.now c.requires.1 l)
 
 pub loop-i-init : goal.loop-i-init
 loop-i-init c = (
-  search rules,
-  search rules,
   refl,
-  search rules,
-  start-mod c.args.v c.args.n (omega arith),
+  refl,
   tab_none _,
   all_same OnSheet origin 60 _ origin_on origin_on,
-  c.requires.2,
-  c.requires.3,
-  refl,
+  λ k h. all_same (λ x. x ≡ origin) origin 60 origin refl refl k,
 )
 
-pub offset_bounds-ring-k : goal.offset_bounds-ring-k
-offset_bounds-ring-k c = let h = c.loop-i.invariant.7 c.loop-i.j in omega (arith, h)
-
-pub bounds-ring-k : goal.bounds-ring-k
-bounds-ring-k c = c.loop-i.invariant.7 _
+pub bounds-ring-from : goal.bounds-ring-from
+bounds-ring-from c =
+    let t = turn (goal.at.bounds-ring-from c).In-Some in
+    let b = c.requires.2 ((c.args.v + length c.loop-i.yielded) % length c.args.vs.now) in
+    omega (arith, c.from.ensures, ap (λ (v : Vertex). v.at) t.2, b)
 
 pub loop-i-preserved : goal.loop-i-preserved
 loop-i-preserved c =
     let l = c.loop-i in
-    let ring = c.args.ring in
-    let vs = c.args.vs in (
-      search rules,
-      search rules,
-      simp length-set l.invariant.2,
-      c.next-j.ensures.1,
-      step-mod c.args.v l.i c.args.n l.j c.next-j.result l.invariant.4 c.next-j.ensures.0,
-      more (λ i. corner_point ring vs ((c.args.v + i) % c.args.n)) l.out.points l.i (corner_point ring vs l.j) (omega (arith, l.invariant.2))
-          l.invariant.5 (ap (corner_point ring vs) l.invariant.4),
-      all_set OnSheet origin l.out.points l.i (corner_point ring vs l.j) l.invariant.6 (l.invariant.8 _),
-      l.invariant.7,
-      l.invariant.8,
-      l.invariant.9,
+    let ring = c.args.ring.now in
+    let vs = c.args.vs.now in
+    let t = turn (goal.at.loop-i-preserved c).In-Some in
+    let f : ℕ → GridPoint = (λ k. corner_point ring vs ((c.args.v + k) % length vs)) in
+    let q : get_or ring c.from.result origin ≡ f (length l.yielded) =
+    ap (λ k. get_or ring k origin) (c.from.ensures ∙ ap (λ (v : Vertex). v.at) t.2) in
+    let n = length_push l.yielded (c.in-Some.i, c.in-Some.c) in
+    rw (n, t.1) (
+      length-set l.out.points (length l.yielded) _ ∙ l.invariant.0,
+      l.invariant.1,
+      more f l.out.points (length l.yielded) _ (omega (arith, l.invariant.0, t.0, c.requires.0)) l.invariant.2 q,
+      all_set OnSheet origin l.out.points (length l.yielded) _ l.invariant.3 (c.requires.3 _),
+      λ k h. get_or-set_other l.out.points (length l.yielded) k _ origin (λ e. omega (arith, e)) ∙ l.invariant.4 k (omega arith),
     )
 
 pub returns : goal.returns
 returns c =
+    let vs = c.args.vs.now in
+    let v = c.args.v in
+    let road =
+    YieldsList-from_enumerate {s = c.into_iter-i-iterator.result}
+    (YieldsList-from_chain (YieldsList-from_slice (take (length vs - v) (drop v vs)) (cc)) (YieldsList-from_slice (take v vs) (cc)) (cc) (cc)) (cc) in
+    let t = YieldsList-end road c.loop-i.yielded _ c.loop-i.yielded_by _ _ c.in-None.is c.next.ensures.steps in
     let l = c.loop-i in
-    let e : l.i ≡ c.args.n = omega arith in
-    let f : take c.args.n l.out.points ≡ tab (λ i. corner_point c.args.ring c.args.vs ((c.args.v + i) % c.args.n)) c.args.n =
-    rw e at l.invariant.5 in (
-      ap (λ (k : ℕ). take k l.out.points) l.invariant.9 ∙ f,
-      record { count = omega (arith, l.invariant.9); places = l.invariant.2; points = l.invariant.6 },
-      l.invariant.9,
+    let e : length l.yielded ≡ length vs = omega (arith, t.1, length-enumerate_from 0 (turned vs v), length-turned vs v c.requires.1) in
+    let f : take (length vs) l.out.points ≡ tab (λ i. corner_point c.args.ring.now vs ((v + i) % length vs)) (length vs) = rw e at l.invariant.2 in (
+      ap (λ (k : ℕ). take k l.out.points) l.invariant.1 ∙ f,
+      record { count = omega (arith, l.invariant.1, c.requires.0); places = l.invariant.0; points = l.invariant.3 },
+      l.invariant.1,
+      λ j h. l.invariant.4 j (omega (arith, e, l.invariant.1)),
     )

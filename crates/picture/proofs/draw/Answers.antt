@@ -31,14 +31,11 @@ slice_bounds-turn-end-in-loop-f-2 g c = sym c.loop-f.invariant.5
 pub slice_bounds-turn-end-in-loop-f-3 : goal.slice_bounds-turn-end-in-loop-f-3
 slice_bounds-turn-end-in-loop-f-3 g c = sym c.loop-f.invariant.6
 
-pub turn-t-requires : goal.turn-t-requires
-turn-t-requires g c =
+pub turn-requires : goal.turn-requires
+turn-requires g c =
     let l = c.loop-f in
     let e = not-true l.s.ended (sym c.goes_on.ensures ∙ c.loop-f-test.true) in
     (l.invariant.0, l.invariant.7, e, l.invariant.2, l.invariant.6, l.invariant.1)
-
-pub returns-then-not-t : goal.returns-then-not-t
-returns-then-not-t g c = λ e. absurd (true≢false (sym e))
 
 pub overflow_add-i : goal.overflow_add-i
 overflow_add-i g c =
@@ -57,16 +54,17 @@ loop-f-smaller g c =
 
 pub loop-f-preserved : goal.loop-f-preserved
 loop-f-preserved g c =
-    let p = c.turn-t in
+    let p = c.turn in
+    let k = c.in_ok-s.ensures in
     let l = c.loop-f in (
-      p.ensures.0,
+      k.reached,
       l.invariant.1,
       l.invariant.2,
       p.auto.ring ∙ l.invariant.3,
       p.auto.nodes ∙ l.invariant.4,
       p.auto.rims ∙ l.invariant.5,
       p.auto.cells ∙ l.invariant.6,
-      p.ensures.1 (not-false p.result.sent c.if-not-t.false),
+      k.drew,
     )
 
 pub slice_bounds-draw_nodes-end : goal.slice_bounds-draw_nodes-end

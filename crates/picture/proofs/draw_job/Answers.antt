@@ -11,12 +11,11 @@ slice_bounds-picture-end-2 g c =
     let q = c.read_job-job in
     part_length q.result.count 262145 _ (q.auto.bytes ∙ c.requires) q.ensures.0
 
-pub picture-written-requires : goal.picture-written-requires
-picture-written-requires g c =
+pub picture-requires : goal.picture-requires
+picture-requires g c =
     let q = c.read_job-job in (omega (arith, length-take q.result.count q.new.bytes, q.ensures.0), refl)
 
-pub returns : goal.returns
-returns g c =
+pub returns-in-Ok : goal.returns-in-Ok
+returns-in-Ok g c =
     let q = c.read_job-job in
-    let p = c.picture-written in
-    (p.ensures (not-false p.result c.if-not-written.false-raw), c.if-count-gt-MOST_JOB.false, q.ensures.1)
+    (c.in-Ok.ensures, c.if-count-gt-MOST_JOB.false, q.ensures.1)

@@ -27,8 +27,8 @@ slice_bounds-send-end g c =
     let n = length-replicate {A = ℕ} 256 0 in
     part_length p.result 256 _ (p.auto.out ∙ n) (omega (arith, fits p.ensures p.auto.out, n))
 
-pub send-written-requires : goal.send-written-requires
-send-written-requires g c =
+pub send-requires : goal.send-requires
+send-requires g c =
     let p = c.put_node-n in
     let h = c.loop-i-test.true in
     let l = c.loop-i in
@@ -38,14 +38,11 @@ send-written-requires g c =
       omega (arith, length-take p.result p.new.out, fits p.ensures p.auto.out, n),
     )
 
-pub returns-then-not-written : goal.returns-then-not-written
-returns-then-not-written g c = λ e. absurd (true≢false (sym e))
-
 pub loop-i-preserved : goal.loop-i-preserved
 loop-i-preserved g c =
     let p = c.put_node-n in
     let l = c.loop-i in
-    let q = c.send-written.ensures (not-false c.send-written.result c.if-not-written.false-raw) in
+    let q = c.in_ok-send.ensures in
     let n = length-replicate {A = ℕ} 256 0 in (
       search rules,
       more-nodes _ _ _ _ l.invariant.3 l.i l.sent _ _ l.invariant.1 (front p.ensures) q,
@@ -58,4 +55,4 @@ returns g c =
     let l = c.loop-i in
     let a = c.args in
     let e : l.i ≡ a.used = omega arith in
-    λ _. all-nodes _ _ _ _ l.invariant.3 l.i l.sent e l.invariant.1 (omega (arith, l.invariant.2, e, few-left _ _ _ _ l.invariant.3))
+    all-nodes _ _ _ _ l.invariant.3 l.i l.sent e l.invariant.1 (omega (arith, l.invariant.2, e, few-left _ _ _ _ l.invariant.3))

@@ -13,8 +13,8 @@ block_at-requires g c = let h = c.requires in (h.0.within h.2, omega (arith, h.0
 pub step-stepped-requires : goal.step-stepped-requires
 step-stepped-requires g c = let h = c.requires in (can_step _ _ _ _ _ _ h.0, h.4)
 
-pub draw_step-written-requires : goal.draw_step-written-requires
-draw_step-written-requires g c =
+pub draw_step-requires : goal.draw_step-requires
+draw_step-requires g c =
     let a = c.args in
     let h = c.requires in
     let p = c.step-stepped in
@@ -34,9 +34,8 @@ returns g c =
     let h = c.requires in
     let p = c.step-stepped in
     let g = c.block_at.ensures in
-    let t = turned _ a.i a.s a.ring.now a.nodes.now a.rims.now h.0 h.2 _ g p.result _ _ _ _ p.ensures.0 in (
-      subst (λ (m : ℕ). Reached a.job.now m p.result.state p.new.ring p.new.nodes p.new.rims)
-          (sym (add-one a.i)) t,
-      λ z. drew _ a.i a.s a.ring.now a.nodes.now a.rims.now h.0 h.2 _ g p.result _ _ _ _ p.ensures.0 _ h.3 a.sent.now _
-          h.1 (c.draw_step-written.ensures z),
-    )
+    let t = turned _ a.i a.s a.ring.now a.nodes.now a.rims.now h.0 h.2 _ g p.result _ _ _ _ p.ensures.0 in
+    record {
+      reached = subst (λ (m : ℕ). Reached a.job.now m p.result.state p.new.ring p.new.nodes p.new.rims) (sym (add-one a.i)) t;
+      drew = drew _ a.i a.s a.ring.now a.nodes.now a.rims.now h.0 h.2 _ g p.result _ _ _ _ p.ensures.0 _ h.3 a.sent.now _ h.1 c.in_ok-draw_step.ensures;
+    }

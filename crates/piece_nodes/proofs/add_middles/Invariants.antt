@@ -1,14 +1,11 @@
 -- `add_middles`, the loop's invariant: the middles of the edges passed are added, and `far` tells whether one of them is far.
 use mathlib.Core.Path.{◌≡◌}
-use Prim.Native.Nat.{◌-◌, ◌≤◌}
+use lib.ListN.{length}
 use Rattle.laws.specs.Bounded.{any}
 use Rattle.piece_nodes.specs.Adding.{Adds, middle_at, far_at}
 use Rattle.piece_nodes.proofs.add_middles.Given as goal
 
 abbrev pub invariant-loop-i : goal.invariant-loop-i
 invariant-loop-i l =
-    (l.i ≤ l.n) × Adds l.initial.nodes l.used (middle_at l.share l.initial.nodes l.used l.vs l.marks l.n) l.i l.nodes l.at l.list × (l.far ≡ any (far_at l.share l.initial.nodes l.used l.vs l.marks l.n) l.i)
-
-abbrev pub decreases-loop-i : goal.decreases-loop-i
-decreases-loop-i l =
-    l.n - l.i
+    Adds l.initial.nodes l.used (middle_at l.share l.initial.nodes l.used l.vs l.marks (length l.vs)) l.i l.nodes l.at l.list
+    × (l.far ≡ any (far_at l.share l.initial.nodes l.used l.vs l.marks (length l.vs)) l.i)

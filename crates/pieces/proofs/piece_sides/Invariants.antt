@@ -1,16 +1,13 @@
 -- `piece_sides`, the loop's invariant: the places filled are the sides of the piece, and the rest are false.
-use Prim.Native.Nat.{ℕ, ◌+◌, ◌-◌, ◌≤◌}
+use Prim.Native.Nat.{ℕ, ◌≤◌}
 use mathlib.Core.Path.{◌≡◌}
 use mathlib.Core.Bool.{false}
 use lib.ListN.{take, length, get_or}
 use Rattle.laws.specs.Table.{tab}
+use Rattle.parts.specs.Layout.{end}
 use Rattle.pieces.proofs.Sides.{side_of}
 use Rattle.pieces.proofs.piece_sides.Given as goal
 
 abbrev pub invariant-loop-j : goal.invariant-loop-j
 invariant-loop-j l =
-    (l.j ≤ l.n) × (l.n ≤ 60) × (l.a + l.n ≤ 124) × (length l.out ≡ 60) × (take l.j l.out ≡ tab (side_of l.pieces l.a) l.j) × ((k : ℕ) → l.j ≤ k → get_or l.out k false ≡ false)
-
-abbrev pub decreases-loop-j : goal.decreases-loop-j
-decreases-loop-j l =
-    l.n - l.j
+    (length l.out ≡ 60) × (take l.j l.out ≡ tab (side_of l.pieces (end l.pieces l.i)) l.j) × ((k : ℕ) → l.j ≤ k → get_or l.out k false ≡ false)

@@ -1,5 +1,7 @@
 -- `print_refused_block`: the form filled with the numbers, where the text has room.
+use Rattle.std.proofs.Common.{rules}
 use Rattle.text.specs.Text.{bytes}
+use Rattle.text.proofs.Pages.{written-on}
 use Rattle.report.specs.Report as Report
 use Rattle.report.proofs.Lengths.{refused-block-length}
 use Rattle.report.proofs.Print.{unprinted, has_room, printed}
@@ -10,16 +12,15 @@ returns-then-out-lt-MOST_TEXT c =
     let s = c.args in
     unprinted s.out.now (Report.refused_block s.block s.code) c.if-out-lt-MOST_TEXT.true
 
-pub put_filled-requires : goal.put_filled-requires
+pub filled-requires : goal.filled-requires
 unfolding Report.refused_block bytes
-put_filled-requires c =
+filled-requires c =
     let s = c.args in
-    has_room s.out.now (Report.refused_block s.block s.code) c.if-out-lt-MOST_TEXT.false (refused-block-length s.block s.code)
+    record { fits = has_room s.out.now (Report.refused_block s.block s.code) c.if-out-lt-MOST_TEXT.false (refused-block-length s.block s.code) }
 
 pub returns : goal.returns
 unfolding Report.refused_block bytes
 returns c =
     let s = c.args in
-    let p = c.put_filled in
-    printed s.out.now (Report.refused_block s.block s.code) c.if-out-lt-MOST_TEXT.false
-    (refused-block-length s.block s.code) p.result p.new.out p.ensures
+    printed s.out.now (Report.refused_block s.block s.code) c.if-out-lt-MOST_TEXT.false (refused-block-length s.block s.code) _ _
+    (written-on (search rules) c.filled.ensures)

@@ -1,5 +1,7 @@
 -- `print_refused_ring`: the form filled with the numbers, where the text has room.
+use Rattle.std.proofs.Common.{rules}
 use Rattle.text.specs.Text.{bytes}
+use Rattle.text.proofs.Pages.{written-on}
 use Rattle.report.specs.Report as Report
 use Rattle.report.proofs.Lengths.{refused-ring-length}
 use Rattle.report.proofs.Print.{unprinted, has_room, printed}
@@ -10,17 +12,18 @@ returns-then-out-lt-MOST_TEXT c =
     let s = c.args in
     unprinted s.out.now (Report.refused_ring s.ring s.code s.corners s.k) c.if-out-lt-MOST_TEXT.true
 
-pub put_filled-requires : goal.put_filled-requires
+pub filled-requires : goal.filled-requires
 unfolding Report.refused_ring bytes
-put_filled-requires c =
+filled-requires c =
     let s = c.args in
-    has_room s.out.now (Report.refused_ring s.ring s.code s.corners s.k) c.if-out-lt-MOST_TEXT.false
-    (refused-ring-length s.ring s.code s.corners s.k)
+    record {
+      fits = has_room s.out.now (Report.refused_ring s.ring s.code s.corners s.k) c.if-out-lt-MOST_TEXT.false
+          (refused-ring-length s.ring s.code s.corners s.k);
+    }
 
 pub returns : goal.returns
 unfolding Report.refused_ring bytes
 returns c =
     let s = c.args in
-    let p = c.put_filled in
     printed s.out.now (Report.refused_ring s.ring s.code s.corners s.k) c.if-out-lt-MOST_TEXT.false
-    (refused-ring-length s.ring s.code s.corners s.k) p.result p.new.out p.ensures
+    (refused-ring-length s.ring s.code s.corners s.k) _ _ (written-on (search rules) c.filled.ensures)

@@ -3,10 +3,10 @@ use Rattle.text.specs.Text.{bytes}
 use Rattle.report.specs.Report as Report
 use Rattle.report.proofs.put_nodes.Goals as goal
 
-pub put_filled-requires : goal.put_filled-requires
+pub filled-requires : goal.filled-requires
 unfolding Report.nodes_line bytes
-put_filled-requires c = c.requires
+filled-requires c = c.requires
 
 pub returns : goal.returns
 unfolding Report.nodes_line bytes
-returns c = c.put_filled.ensures
+returns c = c.filled.ensures

@@ -1,49 +1,33 @@
-use Prim.Native.Nat.{ℕ, ◌-◌, ◌/◌}
-use mathlib.Core.Path.{◌≡◌, refl, ◌∙◌, subst}
+-- `put_quads`: a turn writes the line of one cell.
+use Prim.Native.Nat.{◌/◌}
+use mathlib.Core.Path.{refl}
 use native.Mathlib.Omega.{arith}
 use lib.ListN.{length}
-use borrow.Author.Rules.{rules}
-use Rattle.text.proofs.Writing.{nothing, turn-room, turn-written}
-use Rattle.text.specs.Text.{Written}
+use Rattle.text.specs.Text.{bytes}
+use Rattle.text.proofs.Pages.{room_on, wrote_as, wrote_none, room-turn, wrote-turn}
 use Rattle.report.specs.Report as Report
+use Rattle.report.proofs.Quads.{line-of}
 use Rattle.report.proofs.put_quads.Goals as goal
 
-pub loop-i-init : goal.loop-i-init
+pub loop-a-init : goal.loop-a-init
 unfolding Report.quad_lines
-loop-i-init c =
-    let s = c.args in
-    (search rules, search rules, search rules, search rules, nothing s.out.now s.at (omega arith))
+loop-a-init c = wrote_none c.args.page.now (record { fits = omega (arith, c.requires.fits) })
 
-pub put_quad-next-requires : goal.put_quad-next-requires
-unfolding Report.quad_lines
-put_quad-next-requires c =
+pub filled-requires : goal.filled-requires
+unfolding Report.quad_lines bytes
+filled-requires c =
     let s = c.args in
-    let l = c.loop-i in (
-      omega arith,
-      turn-room (Report.quad_lines s.cells.now) (Report.quad_line s.cells.now) (λ i. refl) s.out.now s.at l.i (length s.cells.now / 4)
-          l.invariant.2 (omega arith) l.next l.out l.invariant.4,
-    )
+    room_on
+    (line-of s.cells.now c.as_chunks.result.0.now c.as_chunks.ensures.front c.loop-a.a-index (omega (arith, c.loop-a-test.true, c.as_chunks.ensures.front_len)) _ _ _ _ c.from.ensures c.from-in-loop-a.ensures
+    c.from-in-loop-a-2.ensures c.from-in-loop-a-3.ensures)
+    (room-turn (Report.quad_lines s.cells.now) (Report.quad_line s.cells.now) (λ i. refl) (length s.cells.now / 4) c.requires (omega (arith, c.loop-a-test.true, c.as_chunks.ensures.front_len)) c.loop-a.invariant)
 
-pub loop-i-preserved : goal.loop-i-preserved
-unfolding Report.quad_lines
-loop-i-preserved c =
+pub loop-a-preserved : goal.loop-a-preserved
+unfolding Report.quad_lines bytes
+loop-a-preserved c =
     let s = c.args in
-    let l = c.loop-i in
-    let p = c.put_quad-next in (
-      search rules,
-      search rules,
-      l.invariant.2,
-      p.auto.out ∙ l.invariant.3,
-      turn-written (Report.quad_lines s.cells.now) (Report.quad_line s.cells.now) (λ i. refl) s.out.now s.at l.i (length s.cells.now / 4)
-          l.invariant.2 (omega arith) l.next l.out l.invariant.4 p.result p.new.out p.ensures,
-    )
-
-pub shape_of-out : goal.shape_of-out
-shape_of-out c = c.loop-i.invariant.3
-
-pub returns : goal.returns
-returns c =
-    let s = c.args in
-    let l = c.loop-i in
-    let e : l.i ≡ length s.cells.now / 4 = omega arith in
-    subst (λ (i : ℕ). Written s.out.now s.at (Report.quad_lines s.cells.now i) l.next l.out) e l.invariant.4
+    wrote-turn (Report.quad_lines s.cells.now) (Report.quad_line s.cells.now) (λ i. refl) (length s.cells.now / 4) c.requires (omega (arith, c.loop-a-test.true, c.as_chunks.ensures.front_len)) c.loop-a.invariant
+    (wrote_as
+    (line-of s.cells.now c.as_chunks.result.0.now c.as_chunks.ensures.front c.loop-a.a-index (omega (arith, c.loop-a-test.true, c.as_chunks.ensures.front_len)) _ _ _ _ c.from.ensures c.from-in-loop-a.ensures
+    c.from-in-loop-a-2.ensures c.from-in-loop-a-3.ensures)
+    c.filled.ensures)

@@ -1,39 +1,25 @@
-use mathlib.Core.Path.{◌≡◌, ap, ◌∙◌}
-use Prim.Native.Nat.{◌-◌}
-use lib.ListN.{length}
+use mathlib.Core.Path.{ap, ◌∙◌, sym}
+use Prim.Native.Nat.{ℕ}
+use lib.ListN.{length, set}
+use Rattle.std.proofs.lemmas.List.{length_push}
+use Rattle.std.proofs.lemmas.Slice.Zip.{zip_turn}
 use Rattle.rim_marks.specs.Marking.{set_at}
-use Rattle.rim_marks.proofs.Marking.{set-none, set_on, set-off, set-length}
+use Rattle.rim_marks.proofs.Marking.{set-none, set_on, set-off}
 use borrow.Author.Rules.{rules}
-use native.Mathlib.Omega.{arith}
 use Rattle.rim_marks.proofs.set_rims.Goals as goal
-use Rattle.rim_marks.proofs.set_rims.Goals.{At-loop-i, then-on-i, else-on-i}
 
--- the list is as long as it came
-long : (c : At-loop-i) → length c.loop-i.rims ≡ length c.args.rims.now
-long c = ap length c.loop-i.invariant.1 ∙ set-length _ _ _ _
+pub loop-k-init : goal.loop-k-init
+loop-k-init c = set-none _ _ _
 
-pub loop-i-init : goal.loop-i-init
-loop-i-init c = (search rules, set-none _ _ _)
+pub loop-k-preserved : goal.loop-k-preserved
+loop-k-preserved c =
+    let t = zip_turn c.args.list.now c.args.on.now c.loop-k.yielded c.into_iter-k-iterator.result c.loop-k.k-iterator c.next.new.self c.next.result (search rules) (search rules) c.loop-k.yielded_by _ c.in-Some.is c.next.ensures.steps in
+    let n = length_push c.loop-k.yielded (c.in-Some.k, c.in-Some.is_on) in
+    set-off _ _ _ c.loop-k.rims (length c.loop-k.yielded) c.loop-k.invariant (sym (t.3 _) ∙ c.if-is_on.false) ∙ ap (set_at _ _ _) (sym n)
 
-pub bounds-rims-k : goal.bounds-rims-k
-bounds-rims-k c = omega (arith, long (goal.at.bounds-rims-k c).At-loop-i, c.requires.1 c.loop-i.i c.loop-i-test.true)
-
-pub loop-i-preserved : goal.loop-i-preserved
-loop-i-preserved c =
-    let l = c.loop-i in (
-      search rules,
-      elim c.if-on-i.branch [
-        | then-on-i w ↦ w.rims-is ∙ set_on _ _ _ l.rims l.i l.invariant.1 w.if-on-i.true
-        | else-on-i w ↦ w.rims-is ∙ set-off _ _ _ l.rims l.i l.invariant.1 w.if-on-i.false
-      ],
-    )
-
-pub shape_of-rims : goal.shape_of-rims
-shape_of-rims c = long (goal.at.shape_of-rims c).At-loop-i
-
-pub returns : goal.returns
-returns c =
-    let l = c.loop-i in
-    let a = c.args in
-    let e : l.i ≡ a.n = omega arith in
-    l.invariant.1 ∙ ap (set_at _ _ _) e
+pub loop-k-preserved-then-is_on : goal.loop-k-preserved-then-is_on
+loop-k-preserved-then-is_on c =
+    let t = zip_turn c.args.list.now c.args.on.now c.loop-k.yielded c.into_iter-k-iterator.result c.loop-k.k-iterator c.next.new.self c.next.result (search rules) (search rules) c.loop-k.yielded_by _ c.in-Some.is c.next.ensures.steps in
+    let n = length_push c.loop-k.yielded (c.in-Some.k, c.in-Some.is_on) in
+    ap (λ (k : ℕ). set c.loop-k.rims k 1) (t.2 0)
+    ∙ set_on _ _ _ c.loop-k.rims (length c.loop-k.yielded) c.loop-k.invariant (sym (t.3 _) ∙ c.if-is_on.true) ∙ ap (set_at _ _ _) (sym n)

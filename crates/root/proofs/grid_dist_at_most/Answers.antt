@@ -1,18 +1,14 @@
 -- `grid_dist_at_most`: the step of two points of the sheet, and its squares as a double.
 use mathlib.Core.Path.{ap, ◌∙◌}
 use native.Mathlib.Omega.{arith}
-use lib.Dec.{lit<}
 use Rattle.laws.specs.Double.{◌≤f◌}
 use Rattle.laws.specs.Units.{mm²}
-use Rattle.laws.proofs.Signed.{back, small64}
+use Rattle.laws.proofs.Signed.{back}
 use Rattle.vector.specs.declared.GridPoint.{GridPoint}
 use Rattle.vector.specs.Grid as Grid
 use Rattle.root.specs.Root.{root_of}
 use Rattle.root.specs.Norm as Norm
 use Rattle.root.proofs.grid_dist_at_most.Goals as goal
-
-pub in_square_mm-requires : goal.in_square_mm-requires
-in_square_mm-requires c = small64 c.dot.result _ (lit< tt) (omega (arith, c.dot.ensures.1))
 
 pub returns : goal.returns
 unfolding Norm.grid_dist Norm.grid_norm

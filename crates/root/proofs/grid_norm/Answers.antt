@@ -1,15 +1,11 @@
 -- `grid_norm`: the squares of a step fit 64 bits and are exact as a double.
 use mathlib.Core.Path.{ap, ◌∙◌}
 use native.Mathlib.Omega.{arith}
-use lib.Dec.{lit<}
-use Rattle.laws.proofs.Signed.{back, small64}
+use Rattle.laws.proofs.Signed.{back}
 use Rattle.laws.specs.Units.{mm²}
 use Rattle.root.specs.Root.{root_of}
 use Rattle.root.specs.Norm as Norm
 use Rattle.root.proofs.grid_norm.Goals as goal
-
-pub in_square_mm-requires : goal.in_square_mm-requires
-in_square_mm-requires c = small64 c.dot.result _ (lit< tt) (omega (arith, c.dot.ensures.1))
 
 pub returns : goal.returns
 unfolding Norm.grid_norm

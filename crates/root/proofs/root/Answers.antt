@@ -1,7 +1,7 @@
 -- `root`: each return is one case of the definition; laws in proofs/Cases.
 use mathlib.Core.Path.{sym, ap, ◌∙◌, subst}
 use lib.Dec.{T}
-use lib.Ieee.{binary64, fits}
+use lib.Ieee.{binary64, fits, of_bits, div}
 use lib.Ieee.Bits.{of_bits-to_bits}
 use Rattle.root.specs.Root.{root_of}
 use Rattle.root.proofs.Cases.{not_nan, pattern_pos, no_nan_bits, infinite, zeros, others, nan_is}
@@ -31,4 +31,5 @@ pub returns-then-x-2 : goal.returns-then-x-2
 returns-then-x-2 c = zeros c.args.x c.if-x-2.true
 
 pub returns : goal.returns
+unfolding of_bits div
 returns c = nan_is ∙ others c.args.x c.if-x.false c.if-x-2.false

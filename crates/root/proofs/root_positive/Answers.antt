@@ -3,12 +3,11 @@ use mathlib.Core.Path.{◌≡◌, sym, subst}
 use Prim.Native.Nat.{ℕ, ◌+◌, ◌-◌, ◌*◌, ◌/◌, ◌%◌, ◌^◌, ◌≤◌, ◌<◌}
 use native.Mathlib.Nat.{mod-eq_of_lt}
 use native.Mathlib.Omega.{arith}
-use lib.Count.{count_leading_zeros, leading_le}
 use Rattle.root.specs.Root.{IsRoot}
 use Rattle.root.proofs.Pattern.{Decoded, decoded_low, decoded_high}
 use Rattle.root.proofs.Scaled.{Lead, lead, Radicand, radicand, shift, rooted, root-to}
 use Rattle.root.proofs.root_positive.Goals as goal
-use Rattle.root.proofs.root_positive.Goals.{After-root_digits-s, Joined-f-gt0, then-f-gt0, else-f-gt0}
+use Rattle.root.proofs.root_positive.Goals.{After-from-z, After-root_digits-s, Joined-f-gt0, then-f-gt0, else-f-gt0}
 
 -- where the branches join: m and k are what b's fields say
 moved : (b m k m' k' : ℕ) → m' ≡ m → k' ≡ k → Decoded b m k → Decoded b m' k'
@@ -24,11 +23,13 @@ at_join c =
     ]
 
 -- the shift by the leading zeros, and the number that `root_digits` is handed
-leads : (c : Joined-f-gt0) → Lead c.if-f-gt0.m (count_leading_zeros 64 c.if-f-gt0.m)
-leads c = lead c.if-f-gt0.m (at_join c).above (at_join c).small
+leads : (c : After-from-z) → Lead c.if-f-gt0.m c.from-z.result
+leads c =
+    let d = at_join c.before in
+    subst (λ (z : ℕ). Lead c.if-f-gt0.m z) (sym c.from-z.ensures) (lead c.if-f-gt0.m d.above d.small)
 
-handed : (c : Joined-f-gt0) → Radicand (c.if-f-gt0.m * 2 ^ shift c.if-f-gt0.k (count_leading_zeros 64 c.if-f-gt0.m))
-handed c = radicand c.if-f-gt0.m c.if-f-gt0.k (count_leading_zeros 64 c.if-f-gt0.m) (leads c)
+handed : (c : After-from-z) → Radicand (c.if-f-gt0.m * 2 ^ shift c.if-f-gt0.k c.from-z.result)
+handed c = radicand c.if-f-gt0.m c.if-f-gt0.k c.from-z.result (leads c)
 
 -- the shift loses nothing
 kept : (n : ℕ) → Radicand n → n % 2 ^ 64 ≡ n
@@ -36,38 +37,35 @@ kept n r = mod-eq_of_lt (omega (arith, r.to))
 
 -- the root's 54 digits
 got : (c : After-root_digits-s)
-    → IsRoot (c.if-f-gt0.m * 2 ^ shift c.if-f-gt0.k (count_leading_zeros 64 c.if-f-gt0.m) * 2 ^ 54)
+    → IsRoot (c.if-f-gt0.m * 2 ^ shift c.if-f-gt0.k c.from-z.result * 2 ^ 54)
     c.root_digits-s.result
 got c =
-    let n = c.if-f-gt0.m * 2 ^ shift c.if-f-gt0.k (count_leading_zeros 64 c.if-f-gt0.m) in
+    let n = c.if-f-gt0.m * 2 ^ shift c.if-f-gt0.k c.from-z.result in
     subst (λ (x : ℕ). IsRoot (x * 2 ^ 54) c.root_digits-s.result) (kept n (handed c.before.before.before)) c.root_digits-s.ensures
 
 small : (c : After-root_digits-s) → c.root_digits-s.result < 2 ^ 54 - 1
 small c =
-    root-to (c.if-f-gt0.m * 2 ^ shift c.if-f-gt0.k (count_leading_zeros 64 c.if-f-gt0.m)) c.root_digits-s.result (handed c.before.before.before) (got c)
-
-pub overflow_cast-z : goal.overflow_cast-z
-overflow_cast-z c = omega (arith, leading_le 64 c.if-f-gt0.m)
+    root-to (c.if-f-gt0.m * 2 ^ shift c.if-f-gt0.k c.from-z.result) c.root_digits-s.result (handed c.before.before.before) (got c)
 
 pub overflow_add-e : goal.overflow_add-e
 overflow_add-e c = omega (arith, (at_join (goal.at.overflow_add-e c).Joined-f-gt0).most)
 
 pub overflow_sub-e : goal.overflow_sub-e
-overflow_sub-e c = omega (arith, (leads (goal.at.overflow_sub-e c).Joined-f-gt0).high)
+overflow_sub-e c = omega (arith, (leads (goal.at.overflow_sub-e c).After-from-z).high)
 
 pub overflow_sub-n : goal.overflow_sub-n
-overflow_sub-n c = (leads (goal.at.overflow_sub-n c).Joined-f-gt0).low
+overflow_sub-n c = (leads (goal.at.overflow_sub-n c).After-from-z).low
 
 pub overflow_add-n : goal.overflow_add-n
-overflow_add-n c = omega (arith, (leads (goal.at.overflow_add-n c).Joined-f-gt0).high)
+overflow_add-n c = omega (arith, (leads (goal.at.overflow_add-n c).After-from-z).high)
 
 pub overflow_shl-n : goal.overflow_shl-n
-overflow_shl-n c = omega (arith, (leads (goal.at.overflow_shl-n c).Joined-f-gt0).high)
+overflow_shl-n c = omega (arith, (leads (goal.at.overflow_shl-n c).After-from-z).high)
 
 pub root_digits-s-requires : goal.root_digits-s-requires
 root_digits-s-requires c =
-    subst (λ (x : ℕ). (2 ^ 52 ≤ x) × (x < 2 ^ 54)) (sym (kept (c.if-f-gt0.m * 2 ^ shift c.if-f-gt0.k (count_leading_zeros 64 c.if-f-gt0.m)) (handed (goal.at.root_digits-s-requires c).Joined-f-gt0)))
-    ((handed (goal.at.root_digits-s-requires c).Joined-f-gt0).from, omega (arith, (handed (goal.at.root_digits-s-requires c).Joined-f-gt0).to))
+    subst (λ (x : ℕ). (2 ^ 52 ≤ x) × (x < 2 ^ 54)) (sym (kept (c.if-f-gt0.m * 2 ^ shift c.if-f-gt0.k c.from-z.result) (handed (goal.at.root_digits-s-requires c).After-from-z)))
+    ((handed (goal.at.root_digits-s-requires c).After-from-z).from, omega (arith, (handed (goal.at.root_digits-s-requires c).After-from-z).to))
 
 pub overflow_mul-result : goal.overflow_mul-result
 overflow_mul-result c = omega (arith, (at_join (goal.at.overflow_mul-result c).Joined-f-gt0).most)
@@ -82,7 +80,7 @@ pub returns : goal.returns
 returns c =
     let m = c.if-f-gt0.m in
     let k = c.if-f-gt0.k in
-    let z = count_leading_zeros 64 m in
+    let z = c.from-z.result in
     let d = at_join (goal.at.returns c).Joined-f-gt0 in
     let s = c.root_digits-s.result in
-    (rooted _ m k z s d.value d.above d.most (leads (goal.at.returns c).Joined-f-gt0) (got c), omega (arith, d.most, small c))
+    (rooted _ m k z s d.value d.above d.most (leads (goal.at.returns c).After-from-z) (got c), omega (arith, d.most, small c))

@@ -45,8 +45,8 @@ slice_bounds-tell-end g c =
     (c.step-stepped.auto.cells
     ∙ c.loop-ring.invariant.5)
 
-pub tell-out-requires : goal.tell-out-requires
-tell-out-requires g c =
+pub tell-requires : goal.tell-requires
+tell-requires g c =
     let l = c.loop-ring in
     let q = c.read_block-got in
     let g = c.goes_on in
@@ -57,9 +57,6 @@ tell-out-requires g c =
     let b = take q.result q.new.bytes in
     let h : length b ≤ 512 = omega (arith, length-take q.result q.new.bytes, q.ensures) in
     (owes l.s l.ring l.nodes l.rims l.sent l.invariant.0 e b p.ensures.1 h p.result _ _ _ _ p.ensures.0, p.ensures.0.tells)
-
-pub returns-then-out : goal.returns-then-out
-returns-then-out g c = λ e. not-both _ c.if-out.true e
 
 pub loop-ring-smaller : goal.loop-ring-smaller
 loop-ring-smaller g c =
@@ -85,10 +82,9 @@ loop-ring-preserved g c =
     ∙ c.loop-ring-test.true) in
     let p = c.step-stepped in
     let b = take q.result q.new.bytes in
-    let h : length b ≤ 512 = omega (arith, length-take q.result q.new.bytes, q.ensures) in
-    let o = c.tell-out in (
+    let h : length b ≤ 512 = omega (arith, length-take q.result q.new.bytes, q.ensures) in (
       wrote l.s l.ring l.nodes l.rims l.sent l.invariant.0 e b p.ensures.1 h p.result _ _ _ _ p.ensures.0 _
-          (o.ensures.1 c.if-out.false),
+          c.in_ok-tell.ensures.sends,
       p.auto.ring ∙ l.invariant.1,
       p.auto.nodes ∙ l.invariant.2,
       p.auto.rims ∙ l.invariant.3,
@@ -98,5 +94,5 @@ loop-ring-preserved g c =
 
 pub returns : goal.returns
 returns g c =
-    λ e. let l = c.loop-ring in
+    let l = c.loop-ring in
     finished l.s l.ring l.nodes l.rims l.sent l.invariant.0 (not-false l.s.ended (sym c.goes_on.ensures ∙ c.loop-ring-test.false))

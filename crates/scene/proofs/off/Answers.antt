@@ -1,9 +1,6 @@
--- `off`: above halfway, or below.
-use Rattle.scene.proofs.Snaps.{off-above, off-below}
+-- `off`: the distance from halfway.
+use Rattle.scene.proofs.Snaps.{off-far}
 use Rattle.scene.proofs.off.Goals as goal
 
-pub returns-then-half-m : goal.returns-then-half-m
-returns-then-half-m c = off-above c.args.a c.args.m c.args.b c.if-half-m.true
-
 pub returns : goal.returns
-returns c = off-below c.args.a c.args.m c.args.b c.if-half-m.false
+returns c = off-far c.args.a c.args.m c.args.b c.abs_diff.result c.abs_diff.ensures

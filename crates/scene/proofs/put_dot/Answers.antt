@@ -4,23 +4,22 @@ use Rattle.text.proofs.Writing.{written_as}
 use Rattle.scene.proofs.Lengths.{dot-inside, dot-rim, inside-length, rim-length}
 use native.Mathlib.Omega.{arith}
 use Rattle.scene.proofs.put_dot.Goals as goal
+use Rattle.scene.proofs.put_dot.Goals.{then-mark-eq0, else-mark-eq0}
 
 pub put_form-requires : goal.put_form-requires
 unfolding bytes
-put_form-requires c = omega (arith, c.requires, inside-length c.args.mark c.args.p c.args.n)
-
-pub returns-then-mark-eq0 : goal.returns-then-mark-eq0
-unfolding bytes
-returns-then-mark-eq0 c =
-    written_as (dot-inside c.args.mark c.args.p c.args.n c.if-mark-eq0.true)
-    c.put_form.ensures
-
-pub put_form-requires-2 : goal.put_form-requires-2
-unfolding bytes
-put_form-requires-2 c = omega (arith, c.requires, rim-length c.args.mark c.args.p c.args.n)
+put_form-requires c =
+    let s = c.args in
+    elim c.if-mark-eq0.branch [
+      | then-mark-eq0 w ↦ rw w.form-is (omega (arith, c.requires, inside-length s.mark s.p s.n))
+      | else-mark-eq0 w ↦ rw w.form-is (omega (arith, c.requires, rim-length s.mark s.p s.n))
+    ]
 
 pub returns : goal.returns
 unfolding bytes
 returns c =
-    written_as (dot-rim c.args.mark c.args.p c.args.n c.if-mark-eq0.false)
-    c.put_form-2.ensures
+    let s = c.args in
+    elim c.if-mark-eq0.branch [
+      | then-mark-eq0 w ↦ written_as (dot-inside s.mark s.p s.n w.if-mark-eq0.true) (rw w.form-is at c.put_form.ensures)
+      | else-mark-eq0 w ↦ written_as (dot-rim s.mark s.p s.n w.if-mark-eq0.false) (rw w.form-is at c.put_form.ensures)
+    ]

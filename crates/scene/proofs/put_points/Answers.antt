@@ -1,4 +1,4 @@
-use Prim.Native.Nat.{ℕ, ◌-◌}
+use Prim.Native.Nat.{ℕ}
 use mathlib.Core.Path.{◌≡◌, refl, ◌∙◌, subst}
 use Rattle.text.proofs.Writing.{nothing, turn-room, turn-written, room_as, written_as}
 use Rattle.text.specs.Text.{Written}

@@ -1,5 +1,5 @@
 use mathlib.Core.Path.{ap, ◌≡◌, refl, ◌∙◌, subst}
-use Prim.Native.Nat.{ℕ, ◌-◌, ◌/◌}
+use Prim.Native.Nat.{ℕ, ◌/◌}
 use lib.ListN.{length}
 use Rattle.text.proofs.Writing.{nothing, turn-room, turn-written, room_as, written_as}
 use Rattle.text.specs.Text.{Written}

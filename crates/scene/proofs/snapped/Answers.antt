@@ -4,8 +4,7 @@ use Rattle.scene.proofs.Snaps.{snapped-x, snapped-y}
 use Rattle.scene.proofs.snapped.Goals as goal
 
 pub returns-then-off : goal.returns-then-off
-returns-then-off c = snapped-x c.args.q (sym c.off.ensures ∙ c.if-off.true)
+returns-then-off c = rw c.if-off.true (snapped-x c.args.q (sym c.off.ensures ∙ c.if-off.true))
 
-pub returns : goal.returns
-returns c =
-    c.off-2.ensures ∙ snapped-y c.args.q (sym c.off.ensures ∙ c.if-off.false)
+pub returns-else-off : goal.returns-else-off
+returns-else-off c = c.off-else-off.ensures ∙ snapped-y c.args.q (sym c.off.ensures ∙ c.if-off.false)

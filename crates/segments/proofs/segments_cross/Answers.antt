@@ -1,47 +1,30 @@
 -- `segments_cross`: the parallel segments are told by whole numbers, the others by the two parameters.
-use Rattle.segments.specs.Segments as Segments
-use Rattle.vector.specs.Grid as Grid
-use mathlib.Core.Path.{◌≡◌, sym, ◌∙◌, ap}
+use mathlib.Core.Path.{sym, ◌∙◌}
+use mathlib.Core.Bool.{true≢false}
 use Rattle.segments.proofs.Parameters as crossing
-use Rattle.laws.proofs.Signed as signed
-use native.Mathlib.Omega.{arith}
 use Rattle.segments.proofs.segments_cross.Goals as goal
-use Rattle.segments.proofs.segments_cross.Goals.{After-cross, After-cross-den, After-cross-then-interior}
-
-den-is : (c : After-cross-den) → let a = c.args in signed.r64 c.cross-den.result ≡ Grid.cross (Grid.sub a.b a.a) (Grid.sub a.d a.c)
-den-is c =
-    let u = c.sub-d1.ensures.0 in
-    let v = c.sub-d2.ensures.0 in
-    signed.back c.cross-den.result (omega (arith, c.cross-den.ensures.1)) ∙ c.cross-den.ensures.0 ∙ (λ i. Grid.cross (u i) (v i))
-
-first-is : (c : After-cross) → let a = c.args in signed.r64 c.cross.result ≡ Grid.cross (Grid.sub a.c a.a)
-    (Grid.sub a.d a.c)
-first-is c =
-    let w = c.sub-ac.ensures.0 in
-    let v = c.sub-d2.ensures.0 in
-    signed.back c.cross.result (omega (arith, c.cross.ensures.1)) ∙ c.cross.ensures.0 ∙ (λ i. Grid.cross (w i) (v i))
-
-second_is : (c : After-cross-then-interior) → let a = c.args in signed.r64 c.cross-then-interior.result ≡ Grid.cross
-    (Grid.sub a.c a.a) (Grid.sub a.b a.a)
-second_is c =
-    let w = c.sub-ac.ensures.0 in
-    let u = c.sub-d1.ensures.0 in
-    signed.back c.cross-then-interior.result (omega (arith, c.cross-then-interior.ensures.1)) ∙ c.cross-then-interior.ensures.0 ∙ (λ i. Grid.cross (w i) (u i))
-
-pub returns-then-is_zero : goal.returns-then-is_zero
-returns-then-is_zero c = let k = c.before.before in crossing.parallel _ _ _ _ _ (den-is k) (sym c.is_zero.ensures ∙ c.if-is_zero.true)
+use Rattle.segments.proofs.segments_cross.Goals.{then-den-ne0, else-den-ne0}
 
 pub returns-then-interior : goal.returns-then-interior
 returns-then-interior c =
-    let f = c.before.before.before.before.before.before in
-    let k = c.before.before.before.before.before.before.before.before.before in
-    crossing.inside _ _ _ _ _ (den-is k) (sym c.is_zero.ensures ∙ c.if-is_zero.false) _ (first-is f) _
-    (c.interior.ensures ∙ ap Segments.interior c.ratio.ensures) c.if-interior.true _ (second_is c.before.before) _
-    (c.interior-then-interior.ensures ∙ ap Segments.interior c.ratio-then-interior.ensures)
+    let d1 = c.sub-d1.ensures.0 in
+    let d2 = c.sub-d2.ensures.0 in
+    let ac = c.sub-ac.ensures.0 in
+    elim c.if-den-ne0.branch [
+      | then-den-ne0 w ↦
+          crossing.inside _ _ _ _ _ _ _ d1 d2 ac _ c.cross-den.ensures w.if-den-ne0.true _ w.cross.ensures _ w.ratio.ensures _ w.interior.ensures
+          _ w.value-is c.if-interior.true _ c.cross-then-interior.ensures _ c.ratio-then-interior.ensures _ c.interior-then-interior.ensures
+      | else-den-ne0 w ↦ absurd (true≢false (sym c.if-interior.true ∙ w.value-is ∙ crossing.none c.cross-den.result w.if-den-ne0.false))
+    ]
 
-pub returns : goal.returns
-returns c =
-    let f = c.before.before.before in
-    let k = c.before.before.before.before.before.before in
-    crossing.outside _ _ _ _ _ (den-is k) (sym c.is_zero.ensures ∙ c.if-is_zero.false) _ (first-is f) _
-    (c.interior.ensures ∙ ap Segments.interior c.ratio.ensures) c.if-interior.false
+pub returns-else-interior : goal.returns-else-interior
+returns-else-interior c =
+    let d1 = c.sub-d1.ensures.0 in
+    let d2 = c.sub-d2.ensures.0 in
+    let ac = c.sub-ac.ensures.0 in
+    elim c.if-den-ne0.branch [
+      | then-den-ne0 w ↦
+          crossing.outside _ _ _ _ _ _ _ d1 d2 ac _ c.cross-den.ensures w.if-den-ne0.true _ w.cross.ensures _ w.ratio.ensures _ w.interior.ensures
+          _ w.value-is c.if-interior.false
+      | else-den-ne0 w ↦ crossing.parallel _ _ _ _ _ _ _ d1 d2 ac _ c.cross-den.ensures w.if-den-ne0.false _ (w.value-is ∙ crossing.none c.cross-den.result w.if-den-ne0.false)
+    ]

@@ -11,9 +11,6 @@ use borrow.Author.Rules.{rules}
 use native.Mathlib.Omega.{arith}
 use Rattle.sheet_lines.proofs.print_sheet.Goals as goal
 
-pub returns-then-nodes_out : goal.returns-then-nodes_out
-returns-then-nodes_out g c = λ e. not-both true refl e
-
 pub loop-i-init : goal.loop-i-init
 loop-i-init g c = (
   search rules,
@@ -32,8 +29,8 @@ put_line-requires g c =
 pub slice_bounds-send-end : goal.slice_bounds-send-end
 slice_bounds-send-end g c = sym c.put_line.auto.out
 
-pub send-written-requires : goal.send-written-requires
-send-written-requires g c =
+pub send-requires : goal.send-requires
+send-requires g c =
     let a = c.args in
     let l = c.loop-i in
     let u = l.invariant.1 in
@@ -52,9 +49,6 @@ send-written-requires g c =
       fits = few_bytes a.nodes.now l.i l.sent _ (omega (arith, u.few, h)) l.invariant.2 t;
     }
 
-pub returns-then-not-written : goal.returns-then-not-written
-returns-then-not-written g c = λ e. not-both true refl e
-
 pub loop-i-preserved : goal.loop-i-preserved
 loop-i-preserved g c =
     let a = c.args in
@@ -65,7 +59,7 @@ loop-i-preserved g c =
     let t = whole-line a.nodes.now l.i (omega (arith, u.few, h)) _ _ _ p.ensures p.auto.out in (
       search rules,
       u,
-      more-lines a.nodes.now l.i l.sent _ _ l.invariant.2 t (c.send-written.ensures (not-false c.send-written.result c.if-not-written.false-raw)),
+      more-lines a.nodes.now l.i l.sent _ _ l.invariant.2 t c.in_ok-send.ensures,
       l.invariant.3,
     )
 
@@ -74,4 +68,4 @@ returns g c =
     let l = c.loop-i in
     let a = c.args in
     let e : l.i ≡ a.used = omega arith in
-    λ _. l.invariant.2 ∙ ap (λ (k : ℕ). length (lines a.nodes.now k)) e
+    l.invariant.2 ∙ ap (λ (k : ℕ). length (lines a.nodes.now k)) e

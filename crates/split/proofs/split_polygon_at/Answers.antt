@@ -1,26 +1,31 @@
 -- `split_polygon_at`: no diagonal where the cuts are spent or the worst corner is not bad.
-use Prim.Native.Nat.{ℕ, ◌-◌}
-use mathlib.Core.Path.{sym, ap, ◌∙◌}
-use Rattle.vector.specs.Rings.{points_of}
+use Rattle.std.proofs.Common.{ℕ, ◌-◌, List, length, sym, ap, ◌∙◌}
+use Rattle.vector.specs.declared.GridPoint.{GridPoint}
+use Rattle.laws.proofs.Table.{length_tab}
 use Rattle.diagonal.specs.Diagonal.{best_to}
 use borrow.Author.Tests.{lt-ltb, le-ltb}
 use Rattle.split.proofs.Popped as Popped
 use Rattle.split.proofs.split_polygon_at.Goals as goal
+use Rattle.split.proofs.split_polygon_at.Goals.{else-cuts-limits-via-then-cuts-limits+else-is_bad, else-cuts-limits-via-else-cuts-limits}
 
 pub returns-then-is_bad : goal.returns-then-is_bad
 returns-then-is_bad c =
-    let q = c.rotated_points in
-    Popped.sought c.args.limits c.args.ring c.args.vs c.args.n c.args.cuts c.args.worst.at c.requires.2 c.args.worst.measure
-    c.requires.5 (sym c.is_bad.ensures ∙ c.if-is_bad.true) (lt-ltb c.args.cuts c.args.limits.cuts c.if-cuts-limits.true) _ _
-    q.ensures.0
-    (c.best_diagonal.ensures ∙ ap (λ (n : ℕ). best_to c.args.limits (points_of q.result) (n - 3)) q.ensures.2)
+    let a = c.args in
+    let ps = c.as_slice.result.now in
+    let e = c.as_slice.ensures.0 ∙ c.rotated_points.ensures.0 in
+    let n = ap (λ (l : List GridPoint). length l) e ∙ length_tab _ (length a.vs.now) in
+    Popped.sought a.limits a.ring.now a.vs.now (length a.vs.now) a.cuts a.worst.at c.requires.2 a.worst.measure
+    c.requires.5 (sym c.is_bad.ensures ∙ c.if-is_bad.true) (lt-ltb a.cuts a.limits.cuts c.if-cuts-limits.true) _ ps e
+    (c.best_diagonal.ensures ∙ ap (λ (k : ℕ). best_to a.limits ps (k - 3)) n)
 
-pub returns-else-is_bad : goal.returns-else-is_bad
-returns-else-is_bad c =
-    Popped.not-bad c.args.limits c.args.ring c.args.vs c.args.n c.args.cuts c.args.worst.at c.requires.2 c.args.worst.measure
-    c.requires.5 (sym c.is_bad.ensures ∙ c.if-is_bad.false)
-
-pub returns-else-cuts-limits : goal.returns-else-cuts-limits
-returns-else-cuts-limits c =
-    Popped.spent c.args.limits c.args.ring c.args.vs c.args.n c.args.cuts c.args.worst.at c.requires.2 c.args.worst.measure
-    c.requires.5 (le-ltb c.args.cuts c.args.limits.cuts c.if-cuts-limits.false)
+pub returns : goal.returns
+returns c =
+    let a = c.args in
+    elim c.else-cuts-limits.branch [
+      | else-cuts-limits-via-then-cuts-limits+else-is_bad w ↦
+          Popped.not-bad a.limits a.ring.now a.vs.now (length a.vs.now) a.cuts a.worst.at c.requires.2 a.worst.measure
+          c.requires.5 (sym w.is_bad.ensures ∙ w.if-is_bad.false)
+      | else-cuts-limits-via-else-cuts-limits w ↦
+          Popped.spent a.limits a.ring.now a.vs.now (length a.vs.now) a.cuts a.worst.at c.requires.2 a.worst.measure
+          c.requires.5 (le-ltb a.cuts a.limits.cuts w.if-cuts-limits.false)
+    ]

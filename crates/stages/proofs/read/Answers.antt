@@ -1,34 +1,17 @@
 -- `read`: a block has at most 60 points, in 120 places.
-use Prim.Native.Nat.{◌*◌, ◌≤◌}
-use Rattle.laws.proofs.Lists.{part_length}
-use Rattle.blocks.proofs.Counts.{few-points, all-places}
+use Prim.Native.Nat.{◌≤◌}
+use Rattle.blocks.proofs.Counts.{few-points}
 use native.Mathlib.Omega.{arith}
 use borrow.Author.Rules.{rules}
 use Rattle.stages.proofs.read.Goals as goal
 
-pub overflow_mul-end : goal.overflow_mul-end
-overflow_mul-end g c =
+pub overflow_mul-count : goal.overflow_mul-count
+overflow_mul-count g c =
     let r = c.read_block-reading in
-    let h : c.count_of-end.result ≤ 60 = omega (arith, few-points _ _ r.result r.ensures, c.count_of-end.ensures) in
+    let h : c.in_ok-count.count ≤ 60 = omega (arith, few-points _ _ r.result r.ensures, c.in_ok-count.ensures) in
     search rules
 
-pub slice_bounds-points-end : goal.slice_bounds-points-end
-slice_bounds-points-end g c =
+pub shared_ref_as_front-ring_of : goal.shared_ref_as_front-ring_of
+shared_ref_as_front-ring_of g c =
     let r = c.read_block-reading in
-    let k = c.count_of-end in
-    omega (arith, few-points _ _ r.result r.ensures, all-places _ _ r.result r.ensures, k.ensures)
-
-pub slice_bounds-ring_of-end : goal.slice_bounds-ring_of-end
-slice_bounds-ring_of-end g c =
-    let r = c.read_block-reading in
-    let k = c.count_of-end in
-    part_length (k.result * 2) 120 r.result.points (all-places _ _ r.result r.ensures)
-    (omega (arith, few-points _ _ r.result r.ensures, k.ensures))
-
-pub ring_of-requires : goal.ring_of-requires
-ring_of-requires g c =
-    let r = c.read_block-reading in
-    let k = c.count_of-end in
-    let f = few-points _ _ r.result r.ensures in
-    let e = part_length (k.result * 2) 120 r.result.points (all-places _ _ r.result r.ensures) (omega (arith, f, k.ensures)) in
-    omega (arith, e, f, k.ensures)
+    omega (arith, few-points _ _ r.result r.ensures, c.in_ok-count.ensures)

@@ -5,8 +5,8 @@ use Rattle.stream.proofs.write_counted.Goals as goal
 pub loop-done-preserved : goal.loop-done-preserved
 loop-done-preserved g c =
     let l = c.loop-done in
-    let w = c.write_some-more in (
+    let w = c.in_ok-done.ensures in (
       search rules,
       search rules,
-      more-written _ _ _ l.done w.result c.args.text.now (omega arith) l.invariant.2 w.ensures.written,
+      more-written _ _ _ l.done c.in_ok-done.field-0 c.args.text.now (omega (arith, w.within.1)) l.invariant.2 w.written,
     )

@@ -1,6 +1,7 @@
 -- `first_part`: the corners from the diagonal's start to its end.
 use Prim.Native.Nat.{◌+◌}
 use mathlib.Core.Path.{ap, ◌∙◌}
+use lib.ListN.{length}
 use native.Mathlib.Omega.{arith}
 use Rattle.parts.specs.Cut.{turned_area}
 use Rattle.parts.proofs.Segments as Segments
@@ -12,7 +13,7 @@ make_sub_polygon-requires c = (
   omega arith,
   c.segment.ensures.1,
   c.requires.5,
-  Segments.seg_straight c.args.vs c.segment.result c.args.n c.args.v (c.args.k + 1) (omega arith) c.segment.ensures.0,
+  Segments.seg_straight c.args.vs.now c.segment.result (length c.args.vs.now) c.args.v (c.args.k + 1) (omega arith) c.segment.ensures.0,
 )
 
 pub returns : goal.returns
@@ -20,10 +21,11 @@ returns c =
     let g = c.segment in
     let m = c.make_sub_polygon.ensures in (
       λ es len. m.0 es len
-          ∙ Segments.first-is c.args.ring c.args.vs c.args.n c.args.v c.args.k (omega arith) g.result es (omega arith) g.ensures.0,
+          ∙ Segments.first-is c.args.ring.now c.args.vs.now (length c.args.vs.now) c.args.v c.args.k (omega arith) g.result es (omega arith) g.ensures.0,
       m.1
           ∙ ap turned_area
-          (Segments.first-points c.args.ring c.args.vs c.args.n c.args.v c.args.k (omega arith) g.result (omega arith) g.ensures.0),
+          (Segments.first-points c.args.ring.now c.args.vs.now (length c.args.vs.now) c.args.v c.args.k (omega arith) g.result (omega arith) g.ensures.0),
       m.2,
       m.3,
+      m.4,
     )

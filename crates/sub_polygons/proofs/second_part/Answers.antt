@@ -2,6 +2,7 @@
 use Prim.Native.Nat.{◌+◌, ◌-◌, ◌%◌}
 use native.Mathlib.Nat.{mod-lt}
 use mathlib.Core.Path.{ap, ◌∙◌}
+use lib.ListN.{length}
 use native.Mathlib.Omega.{arith}
 use borrow.Author.Rules.{rules}
 use Rattle.parts.specs.Cut.{turned_area}
@@ -17,7 +18,7 @@ make_sub_polygon-requires c = (
   omega arith,
   c.segment.ensures.1,
   c.requires.5,
-  Segments.seg_straight c.args.vs c.segment.result c.args.n ((c.args.v + c.args.k) % c.args.n) (c.args.n - c.args.k + 1)
+  Segments.seg_straight c.args.vs.now c.segment.result (length c.args.vs.now) ((c.args.v + c.args.k) % (length c.args.vs.now)) (length c.args.vs.now - c.args.k + 1)
       (omega arith) c.segment.ensures.0,
 )
 
@@ -26,12 +27,13 @@ returns c =
     let g = c.segment in
     let m = c.make_sub_polygon.ensures in (
       λ es len. m.0 es len
-          ∙ Segments.second_is c.args.ring c.args.vs c.args.n c.args.v c.args.k (omega arith) g.result es (omega arith) (omega arith)
+          ∙ Segments.second_is c.args.ring.now c.args.vs.now (length c.args.vs.now) c.args.v c.args.k (omega arith) g.result es (omega arith) (omega arith)
           g.ensures.0,
       m.1
           ∙ ap turned_area
-          (Segments.second-points c.args.ring c.args.vs c.args.n c.args.v c.args.k (omega arith) g.result (omega arith) (omega arith)
+          (Segments.second-points c.args.ring.now c.args.vs.now (length c.args.vs.now) c.args.v c.args.k (omega arith) g.result (omega arith) (omega arith)
           g.ensures.0),
       m.2,
       m.3,
+      m.4,
     )

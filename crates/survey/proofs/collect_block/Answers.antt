@@ -1,7 +1,5 @@
 -- `collect_block`: where the lists are full, nothing more goes in; where no x is in the window, or no y, no node is.
-use mathlib.Core.Path.{sym, ◌∙◌, subst}
-use lib.Dec.{T}
-use Rattle.laws.proofs.Booleans.{is_false}
+use mathlib.Core.Path.{sym, ◌∙◌}
 use Rattle.survey.proofs.Gathering as gathering
 use Rattle.survey.proofs.collect_block.Goals as goal
 
@@ -15,7 +13,7 @@ returns-then-not-any_in c =
     λ a b p q g.
     gathering.past_all x.nodes.now x.w a b x.from x.to x.n _ _ c.requires.2
     (gathering.none-across x.nodes.now x.w 64 x.from x.to c.requires.3 c.requires.4
-    (sym c.any_in.ensures ∙ is_false _ (subst T (sym c.if-not-any_in.true-raw) tt))) g
+    (sym c.any_in.ensures ∙ c.if-not-any_in.true)) g
 
 pub returns-then-not-any_in-2 : goal.returns-then-not-any_in-2
 returns-then-not-any_in-2 c =
@@ -23,4 +21,4 @@ returns-then-not-any_in-2 c =
     λ a b p q g.
     gathering.past_all x.nodes.now x.w a b x.from x.to x.n _ _ c.requires.2
     (gathering.none-along x.nodes.now x.w 64 x.from x.to c.requires.3 c.requires.4
-    (sym c.any_in-2.ensures ∙ is_false _ (subst T (sym c.if-not-any_in-2.true-raw) tt))) g
+    (sym c.any_in-2.ensures ∙ c.if-not-any_in-2.true)) g

@@ -1,6 +1,9 @@
+-- `used_nodes`: fewer than 64 nodes one by one, else by blocks.
+use Rattle.survey.proofs.Gathering as gathering
 use Rattle.survey.proofs.used_nodes.Goals as goal
 
 pub returns : goal.returns
 returns c =
-    let e = c.tally-t.ensures in
-    (λ j. record { held = e.0 j; near = record { window = c.args.w; old = c.args.old; count = e.1.count j } }, e.1.are, e.1.are_x)
+    let a = c.args in
+    let g = c.collect_in-count.ensures a.numbers.now a.xs.now c.requires.2 c.requires.3 (gathering.start _ _ _ _) in
+    (λ j. record { held = c.all_held.ensures j; near = record { window = a.w; old = a.old; count = g.count j } }, g.are, g.are_x)

@@ -1,9 +1,13 @@
 -- `node_place`: the place of a listed number, and the origin past the list.
+use mathlib.Core.Path.{ap, ◌∙◌}
+use lib.Ieee.{nan}
+use Rattle.svg.specs.Place.{place_of}
 use Rattle.svg.proofs.Places.{past-node}
 use Rattle.svg.proofs.node_place.Goals as goal
 
-pub returns-then-k-nodes : goal.returns-then-k-nodes
-returns-then-k-nodes c = c.place_of.ensures
+pub returns-in-Some : goal.returns-in-Some
+returns-in-Some c =
+    c.place_of.ensures ∙ ap place_of (c.in-Some.ensures.lookup.3.1 nan)
 
-pub returns : goal.returns
-returns c = past-node c.args.nodes.now c.args.k c.if-k-nodes.false
+pub returns-in-None : goal.returns-in-None
+returns-in-None c = past-node c.args.nodes.now c.args.k c.in-None.ensures.lookup.3

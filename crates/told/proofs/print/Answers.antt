@@ -26,4 +26,4 @@ returns-in-Block c =
     let a = c.args in
     let p = c.print_refused_block in
     printed_as (Report.holds a.text.now) a.text.now _ _ p.result p.new.out (has_room a.text.now c.requires.1)
-    (tells-block a.told a.cells.now _ _ c.in-Block.is) p.ensures
+    (tells-block a.told a.cells.now _ _ c.in-Block.is) (rw (c.from.ensures, c.from-in-Block.ensures) at p.ensures)

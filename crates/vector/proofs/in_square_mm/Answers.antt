@@ -1,14 +1,10 @@
 -- `in_square_mm`: by its definition.
 use mathlib.Core.Path.{◌∙◌, ap}
 use lib.Ieee.{of_bits, of_int, binary64}
-use lib.Dec.{lit<}
 use native.Mathlib.Omega.{arith}
 use Rattle.laws.specs.Units as Units
 use Rattle.laws.proofs.Signed as signed
 use Rattle.vector.proofs.in_square_mm.Goals as goal
-
-pub to_double-requires : goal.to_double-requires
-to_double-requires c = signed.small64 c.args.z _ (lit< tt) c.requires
 
 pub returns : goal.returns
 unfolding Units.mm² of_bits of_int

@@ -1,22 +1,17 @@
-use Prim.Native.Nat.{◌-◌}
-use mathlib.Core.Path.{◌≡◌, ap, ◌∙◌}
-use Rattle.wear.specs.Wear.{greater}
-use Rattle.wear.proofs.Laws.{highest-none, highest-next}
-use borrow.Author.Rules.{rules}
+use Prim.Native.Nat.{ℕ}
+use mathlib.Core.Path.{ap, ◌∙◌}
+use lib.ListN.{get_or}
+use Rattle.std.specs.Prelude.{max}
+use Rattle.wear.proofs.Laws.{highest-none, highest-next, max-greater, greater_comm}
 use native.Mathlib.Omega.{arith}
 use Rattle.wear.proofs.highest.Goals as goal
 
-pub loop-i-init : goal.loop-i-init
-loop-i-init c = (search rules, search rules, highest-none)
+pub loop-c-init : goal.loop-c-init
+loop-c-init c = highest-none
 
-pub loop-i-preserved : goal.loop-i-preserved
-loop-i-preserved c = (
-  search rules,
-  search rules,
-  let l = c.loop-i in
-      c.greater-most.ensures ∙ ap (greater l.most) c.wide.ensures.0
-      ∙ highest-next c.args.cuts l.i l.most (omega arith) l.invariant.2,
-)
-
-pub returns : goal.returns
-returns c = let e : c.loop-i.i ≡ c.args.n = omega arith in rw e at c.loop-i.invariant.2
+pub loop-c-preserved : goal.loop-c-preserved
+loop-c-preserved c =
+    let l = c.loop-c in
+    let x = get_or c.args.cuts.now l.c-index 0 in
+    c.max-most.ensures ∙ ap (λ (y : ℕ). max y l.most) c.from.ensures ∙ max-greater x l.most ∙ greater_comm x l.most
+    ∙ highest-next c.args.cuts.now l.c-index l.most (omega arith) l.invariant

@@ -1,0 +1,35 @@
+-- `write`: each four numbers are a cell, which goes to its place.
+use Prim.Native.Nat.{◌+◌, ◌/◌, ◌<◌}
+use Rattle.std.proofs.Common.{add-one}
+use native.Mathlib.Omega.{arith}
+use mathlib.Core.Path.{◌≡◌, ◌∙◌}
+use lib.ListN.{length, take, set, length-set}
+use lib.Seq.{length-take-le}
+use borrow.Author.Rules.{rules}
+use Rattle.call.specs.Lent.{cell_in}
+use Rattle.cell_records.specs.Records.{written}
+use Rattle.cell_records.proofs.Fours.{four_among}
+use Rattle.cell_records.proofs.write.Goals as goal
+use Rattle.cell_records.proofs.write.Goals.{After-as_chunks}
+
+-- there are fours for 124 cells, and as many are read as cells are written
+many : (c : After-as_chunks) → length c.args.numbers.now ≡ 496
+many c = search rules
+
+taken : (c : After-as_chunks) → length (take c.args.n c.as_chunks.result.0.now) ≡ c.args.n
+taken c =
+    let f : length c.as_chunks.result.0.now ≡ length c.args.numbers.now / 4 = c.as_chunks.ensures.front_len in
+    length-take-le c.args.n c.as_chunks.result.0.now (omega (arith, f, many c, c.requires.0))
+
+pub loop-k-preserved : goal.loop-k-preserved
+loop-k-preserved c =
+    let o = c.loop-k in
+    let s = (goal.at.loop-k-preserved c).After-as_chunks in
+    let l = c.args.numbers.now in
+    let n = c.args.n in
+    let b : o.k < n = omega (arith, c.loop-k-test.true, taken s) in
+    let e : c.cell.result ≡ cell_in l o.k =
+    c.cell.ensures ∙ four_among l (length l / 4) n o.k c.as_chunks.result.0.now c.as_chunks.ensures.front (omega arith) (omega (arith, many s, c.requires.0)) b in
+    let w : set o.cells (c.args.at + o.k) c.cell.result ≡ written c.args.cells.now c.args.at l (o.k + 1) =
+    rw add-one (λ j. set (o.invariant.2 j) (c.args.at + o.k) (e j)) in
+    (omega (arith, b), length-set o.cells (c.args.at + o.k) c.cell.result ∙ o.invariant.1, w)

@@ -1,2 +1,0 @@
--- Laws for the code of this crate.
-pub mod Values

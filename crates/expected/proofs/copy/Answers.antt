@@ -1,9 +1,0 @@
-use mathlib.Core.Path.{◌∙◌}
-use borrow.Author.Rules.{rules}
-use Rattle.expected.proofs.copy.Goals as goal
-
-pub loop-i-preserved : goal.loop-i-preserved
-loop-i-preserved c = (search rules, search rules, c.put_byte.auto.bytes ∙ c.loop-i.invariant.2)
-
-pub shape_of-to : goal.shape_of-to
-shape_of-to c = c.loop-i.invariant.2

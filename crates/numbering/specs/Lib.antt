@@ -1,0 +1,2 @@
+-- What a search of places finds.
+pub mod Search

@@ -1,9 +1,0 @@
--- `node_places`: by the sheet where the cuts are 32, and worked out otherwise.
-use mathlib.Core.Path.{sym, ap, ◌∙◌}
-use Rattle.reserve.specs.Reserve.{node_places}
-use Rattle.reserve.proofs.Rows.{sheet-rows}
-use Rattle.reserve.proofs.node_places.Goals as goal
-
-pub returns-then-cuts-eq32 : goal.returns-then-cuts-eq32
-returns-then-cuts-eq32 c =
-    c.node_row.ensures ∙ (sheet-rows c.args.r c.requires.0 c.requires.1).0 ∙ ap (λ k. node_places k c.args.r) (sym c.if-cuts-eq32.true)

@@ -1,0 +1,11 @@
+-- `fill`: how many bytes came is within the list, which keeps its length.
+use Rattle.std.proofs.Common.{◌-◌, ◌≤◌, ◌≡◌, length}
+use Rattle.stream.proofs.fill.Given as goal
+
+abbrev pub invariant-loop-done : goal.invariant-loop-done
+invariant-loop-done g l =
+    (l.done ≤ length l.bytes) × (length l.bytes ≡ length l.initial.bytes)
+
+abbrev pub decreases-loop-done : goal.decreases-loop-done
+decreases-loop-done g l =
+    length l.initial.bytes - l.done
