@@ -27,6 +27,7 @@ fn send<W: Write>(output: &mut W, text: &[u8], sent: &mut u64) -> Result<u64, Wr
 }
 
 // Writes the text of what a step told, after `sent` bytes.
+#[inline(never)]
 fn write_told<W: Write>(
     output: &mut W,
     told: Told,
@@ -42,9 +43,8 @@ fn write_told<W: Write>(
     send(output, &text[..n], sent)
 }
 
-// The same, and nothing where nothing was told. The text has its place in `write_told`, so that none of it is on the stack
-// while a ring is divided: a function with one call would be merged into the loop, with its places, and so it has two; and
-// both answer a number, since two calls that only say whether they failed would be made one.
+// The same, and nothing where nothing was told. The text has its place in `write_told`, which is never merged into the loop,
+// so that none of it is on the stack while a ring is divided.
 pub fn tell<W: Write>(
     output: &mut W,
     told: Told,
@@ -57,7 +57,6 @@ pub fn tell<W: Write>(
 {
     match told {
         Told::Nothing => Ok(*sent),
-        Told::Ring { .. } => write_told(output, told, cells, sent),
-        Told::Block { .. } => write_told(output, told, cells, sent),
+        Told::Ring { .. } | Told::Block { .. } => write_told(output, told, cells, sent),
     }
 }
