@@ -80,8 +80,8 @@
  * What the library takes:
  *
  *   stack      NAME_STACK bytes a call of NAME, as read from the compiled code by embed/stack (no function calls itself);
- *              what memcpy and memset take comes on top
- *   functions  memcpy and memset, and no other
+ *              what memcpy, memmove and memset take comes on top
+ *   functions  memcpy, memmove and memset, and no other
  *   data       none that is written, so it is re-entrant: calls on other lists may run at the same time or interrupt one another
  *   doubles    rounding to nearest, subnormals kept: the mode that a program starts in
  *   processor  the archive is for x86-64, its base instructions (SSE2), with the calling convention of Linux. That is the one
@@ -98,15 +98,15 @@
 extern "C" {
 #endif
 
-#define RING_DIVIDE_STACK 33544
-#define RING_DIVIDE_PRACTICE_STACK 33576
-#define RING_DIVIDE_SET_STACK 33544
-#define RING_DIVIDE_MARKED_SET_STACK 30168
-#define RING_DIVIDE_MARKED_STACK 30168
-#define SMALLEST_REFUSED_STACK 35160
+#define RING_DIVIDE_STACK 26960
+#define RING_DIVIDE_PRACTICE_STACK 27008
+#define RING_DIVIDE_SET_STACK 26960
+#define RING_DIVIDE_MARKED_SET_STACK 24592
+#define RING_DIVIDE_MARKED_STACK 24592
+#define SMALLEST_REFUSED_STACK 28576
 #define BLOCKS_WRITE_STACK 56
-#define NODE_SHEET_STACK 160
-#define WEAR_ADD_STACK 8
+#define NODE_SHEET_STACK 208
+#define WEAR_ADD_STACK 184
 #define RING_ROOT_BITS_STACK 8
 
 #define BLOCKS_WRITE_BYTES 1024
