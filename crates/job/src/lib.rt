@@ -21,7 +21,9 @@ pub struct Stepped {
     pub told: Told,
 }
 
-// Divides the ring that waits, with the first `run` points of a chain, over the node list and the empty cell list.
+// Divides the ring that waits, with the first `run` points of a chain, over the node list and the empty cell list. It is never
+// merged into the loop of a run, so that what the way of a ring needs on the stack is not there beside the text.
+#[inline(never)]
 pub fn divide_ring(
     s: State,
     ring: &[i32],
