@@ -4,7 +4,7 @@ use mathlib.Core.Path.{ap, ◌∙◌}
 use lib.ListN.{length, length-replicate, length-take}
 use Rattle.laws.proofs.Lists.{part_length}
 use Rattle.picture.proofs.Drawing.{front, owed_as}
-use Rattle.picture.proofs.Sending.{on_ok}
+use Rattle.std.proofs.lemmas.Result.{on_ok_weaker}
 use native.Mathlib.Omega.{arith}
 use Rattle.picture.proofs.draw_step.Goals as goal
 
@@ -22,7 +22,7 @@ send-requires g c =
 pub returns : goal.returns
 returns g c =
     let w = c.put_step-n in
-    on_ok c.send.result
+    on_ok_weaker c.send.result
     (λ e. record {
       count = omega (arith, e, ap length (front w.ensures.0));
       short = omega (arith, w.ensures.0.place, w.ensures.1);

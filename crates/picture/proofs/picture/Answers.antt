@@ -7,7 +7,7 @@ use borrow.Author.Tests.{not-false}
 use Rattle.laws.proofs.Lists.{part_length}
 use Rattle.frame.specs.Bounds.{frame_of}
 use Rattle.picture.proofs.Drawing.{front, owed_as, owes_head, owes_foot, foot-last}
-use Rattle.picture.proofs.Sending.{on_ok}
+use Rattle.std.proofs.lemmas.Result.{on_ok_weaker}
 use native.Mathlib.Omega.{arith}
 use Rattle.picture.proofs.picture.Goals as goal
 
@@ -47,6 +47,6 @@ send-requires-2 g c =
 pub returns : goal.returns
 returns g c =
     let p = c.put_foot-m in
-    on_ok c.send-2.result
+    on_ok_weaker c.send-2.result
     (λ e. foot-last _ _ _ c.in_ok-draw.ensures (omega (arith, e, ap length (front p.ensures.0))))
     c.send-2.ensures

@@ -1,7 +1,7 @@
 use Prim.Native.Nat.{◌-◌, ◌≤◌}
 use mathlib.Core.Path.{refl, sym, ◌∙◌}
 use lib.ListN.{length, take, length-take}
-use Rattle.std.proofs.Common.{Result, Ok, Err, IfOk}
+use Rattle.std.proofs.lemmas.Result.{IfOk-weaker}
 use borrow.Author.Tests.{not-true, not-false}
 use Rattle.laws.proofs.Lists.{part_length}
 use Rattle.run.proofs.Reaching.{begun_so, can_step, listed, falls, turned}
@@ -79,14 +79,10 @@ print_sheet-requires g c =
     let l = c.loop-ring in
     listed l.s l.ring l.nodes l.rims l.invariant.0 (not-false l.s.ended (sym c.goes_on.ensures ∙ c.loop-ring-test.false))
 
-if_ok : {A E : Type 0} {P Q : A → Type 0} (r : Result A E) → ((x : A) → P x → Q x) → IfOk r P → IfOk r Q
-if_ok (Ok x) f h = f x h
-if_ok (Err e) f h = h
-
 pub returns : goal.returns
 returns g c =
     let l = c.loop-ring in
     let w =
     listed l.s l.ring l.nodes l.rims l.invariant.0
     (not-false l.s.ended (sym c.goes_on.ensures ∙ c.loop-ring-test.false)) in
-    if_ok c.print_sheet.result (λ n e. finished l.s.used l.nodes n w e) c.print_sheet.ensures
+    IfOk-weaker c.print_sheet.result _ _ (λ n e. finished l.s.used l.nodes n w e) c.print_sheet.ensures

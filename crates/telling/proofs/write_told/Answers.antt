@@ -3,17 +3,13 @@ use Prim.Native.Nat.{ℕ}
 use mathlib.Core.Path.{sym, ap, subst}
 use mathlib.Core.List.{List}
 use lib.ListN.{length}
-use Rattle.std.proofs.Common.{Result, Ok, Err, OnOk}
+use Rattle.std.proofs.lemmas.Result.{on_ok_weaker}
 use Rattle.report.specs.Report.{most_text}
 use Rattle.laws.proofs.Lists.{part_length}
 use Rattle.told.proofs.Rows.{in_front}
 use Rattle.telling.specs.Reached.{Owed}
 use native.Mathlib.Omega.{arith}
 use Rattle.telling.proofs.write_told.Goals as goal
-
-on_ok : {A E P Q : Type 0} (r : Result A E) → (P → Q) → OnOk r P → OnOk r Q
-on_ok (Ok x) f h = f h
-on_ok (Err e) f h = h
 
 pub slice_bounds-send-end : goal.slice_bounds-send-end
 slice_bounds-send-end g c = let p = c.print-n in part_length p.result most_text _ p.auto.text p.ensures.room
@@ -28,6 +24,6 @@ pub returns-clause-sends : goal.returns-clause-sends
 returns-clause-sends g c =
     let p = c.print-n in
     let e = in_front _ _ _ _ p.ensures in
-    on_ok c.send.result
+    on_ok_weaker c.send.result
     (λ h. record { count = omega (arith, ap length e, h); short = omega (arith, p.ensures.bytes, p.ensures.room) })
     c.send.ensures.counted
