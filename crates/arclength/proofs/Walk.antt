@@ -26,6 +26,7 @@ use Rattle.vector.specs.declared.Point.{Point}
 use Rattle.vector.specs.Grid.{origin}
 use Rattle.vector.specs.Plane.{in_mm, lerp}
 use Rattle.root.specs.Norm.{grid_dist}
+use Rattle.root.proofs.Length.{grid_dist_comm}
 use Rattle.arclength.specs.Arclength as Arclength
 use Rattle.arclength.specs.Arclength.{point_at, step_to}
 
@@ -34,16 +35,20 @@ module _ (c : List GridPoint) where
   back : (i : ℕ) → 0 < i → suc (i - 1) ≡ i
   back i p = omega arith
 
-  pub arc-more : (i : ℕ) → 0 < i → (x d : Float) → x ≡ Arclength.arc c (i - 1) → d ≡ grid_dist (point_at c (i - 1)) (point_at c i)
-      → x +f d ≡ Arclength.arc c i
-  unfolding Arclength.arc
-  arc-more i p x d ex ed =
-      let f = back i p in
-      let g : d ≡ grid_dist (point_at c (i - 1)) (point_at c (suc (i - 1))) = ed ∙ ap (λ (k : ℕ). grid_dist (point_at c (i - 1)) (point_at c k)) (sym f) in
-      (λ j. ex j +f g j) ∙ ap (Arclength.arc c) f
+  -- one point more, the step to it of the length d
+  module _ (i : ℕ) (d : Float) (e : d ≡ grid_dist (point_at c (i + 1)) (point_at c i)) where
+    pub arc-next : (x : Float) → x ≡ Arclength.arc c i → x +f d ≡ Arclength.arc c (i + 1)
+    unfolding Arclength.arc
+    arc-next x f =
+        let g = e ∙ grid_dist_comm (point_at c i) (point_at c (i + 1)) ∙ ap (λ (k : ℕ). grid_dist (point_at c i) (point_at c k)) (add-one i) in
+        (λ j. f j +f g j) ∙ ap (Arclength.arc c) (sym (add-one i))
+
+    pub step-next : d ≡ step_to c (i + 1)
+    unfolding step_to
+    step-next = e ∙ ap (λ (k : ℕ). grid_dist (point_at c k) (point_at c i)) (add-one i) ∙ ap (step_to c) (sym (add-one i))
 
   -- the step to the point i, and the step after it unless it is the last
-  pub step-more : (i : ℕ) → 0 < i → (d : Float) → d ≡ grid_dist (point_at c i) (point_at c (i - 1)) → d ≡ step_to c i
+  step-more : (i : ℕ) → 0 < i → (d : Float) → d ≡ grid_dist (point_at c i) (point_at c (i - 1)) → d ≡ step_to c i
   unfolding step_to
   step-more i p d ed =
       let f = back i p in
@@ -58,6 +63,10 @@ module _ (c : List GridPoint) where
         let z : i + 1 < n = let y = eqb-false (i + 1) n k in omega arith in
         let h : i + 1 - 1 ≡ i = omega arith in
         rw (ej ∙ mod-eq_of_lt z) (step_in (i + 1) (omega arith) z ∙ ap (λ (m : ℕ). grid_dist (point_at c (i + 1)) (point_at c m)) h)
+
+-- the points after the first
+pub after-first : (c : List GridPoint) (i : ℕ) → i < length c - 1 → get_or (take (length c - 1) (drop 1 c)) i origin ≡ point_at c (i + 1)
+after-first c i h = get_or-take (length c - 1) (drop 1 c) i origin h ∙ get_or-drop 1 c i origin ∙ ap (point_at c) (omega arith)
 
 -- ---- the search for a length
 -- the first place counts on

@@ -25,7 +25,6 @@ pub struct Steps {
 }
 
 // Every step of the chain is measured once.
-// Kept: each turn reads the point and the length before its own, so that it counts places.
 pub fn measure(chain: &[GridPoint]) -> Steps
     requires { OnSheetPoints chain.now × (1 ≤ length chain.now) }
     ensures { (take (length chain.now) result.step ≡ tab (Arclength.step_to chain.now) (length chain.now))
@@ -33,10 +32,14 @@ pub fn measure(chain: &[GridPoint]) -> Steps
 {
     let mut step = [0.0; MOST_POINTS];
     let mut arc = [0.0; MOST_POINTS];
-    for i in 1..chain.len() {
-        let d = root::grid_dist(chain[i], chain[i - 1]);
-        step[i] = d;
-        arc[i] = arc[i - 1] + d;
+    let mut end = 0.0;
+    let mut last = chain[0];
+    for (i, &p) in chain[1..].iter().enumerate() {
+        let d = root::grid_dist(p, last);
+        end += d;
+        step[i + 1] = d;
+        arc[i + 1] = end;
+        last = p;
     }
     Steps { step, arc }
 }
@@ -65,11 +68,12 @@ fn between(a: GridPoint, low: f64, b: GridPoint, high: f64, s: f64) -> Point
     if span <= 0.0 {
         return Point::new(b);
     }
-    let t = vector::clamp((s - low) / span, 0.0, 1.0);
+    let t = ((s - low) / span).clamp(0.0, 1.0);
     Point::new(a).lerp(Point::new(b), t)
 }
 
 // The point of the chain at the length s, by the lengths up to its points.
+#[tactic(auto, using(crate::proofs::Walk::as_long))]
 pub fn point_at_arclength(chain: &[GridPoint], arc: &[f64], s: f64) -> Point
     requires { (2 ≤ length chain.now) × (arc.now ≡ tab (Arclength.arc chain.now) (length chain.now)) }
     ensures { result ≡ Arclength.point_at_arclength chain.now s }

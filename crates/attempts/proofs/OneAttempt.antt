@@ -10,7 +10,7 @@ use lib.ListN.{length, get_or, take}
 use lib.Seq.{get_or-take, length-take-le, take_all}
 use Rattle.std.specs.Prelude.{Option}
 use lib.Ieee.{Float}
-use Rattle.laws.specs.Bounded.{any, first}
+use Rattle.laws.specs.Bounded.{any, first, below}
 use Rattle.laws.specs.Double.{nat, ◌+f◌, ◌/f◌}
 use Rattle.vector.specs.declared.GridPoint.{GridPoint}
 use Rattle.vector.specs.declared.Point.{Point}
@@ -35,7 +35,7 @@ use Rattle.cells.specs.Asks.{Ask, asks_for, attempt_asks}
 use Rattle.cells.specs.Rims.{rims_by}
 use Rattle.cells.specs.Flat.{side_at, attempt_in, attempt_asks_in, tried_of, CanTry}
 use Rattle.piece_nodes.specs.Adding.{corner_at, CanAdd, Adds, end_at, middle_at, far_at}
-use Rattle.quads.specs.Flat.{ListedTo, over_cells, found}
+use Rattle.quads.specs.Flat.{ListedTo, over_cells}
 use Rattle.quads.proofs.CellList.{cells-length}
 use Rattle.cells.proofs.Ranges.{corner-ranged, middle-ranged, mean-ranged, edge_by}
 use Rattle.piece_nodes.proofs.Adding as adding
@@ -316,7 +316,7 @@ module _ {share : Float} {l : List Float} {u : ℕ} {ps : List GridPoint} (es : 
             -- what the function answers
             pub answer : (q : List ℕ) (bs : List Bool) (rs : List ℕ) {b : Bool} {k : Option ℕ} {q' qs : List ℕ}
                 → b ≡ any (far_at share m v ks es (length ks)) (length ks)
-                → k ≡ found (length ls) (first (λ k. not (holds (nodes_in m'' r.used)
+                → k ≡ below (length ls) (first (λ k. not (holds (nodes_in m'' r.used)
                 (get_or (cells_to r.number ls ks (length ls)) k no_cell))) (length ls) 0)
                 → q' ≡ over_cells q (cells_to r.number ls ks (length ls))
                 → qs ≡ rims_by u r.used (asks_for (take (length ls) ks) (take (length ls) ls) r.number (side_at bs)
@@ -332,8 +332,8 @@ module _ {share : Float} {l : List Float} {u : ℕ} {ps : List GridPoint} (es : 
                 let size : length ls ≡ length (A share l u ps es).cells = sym (cells-length r.number ls ks (length ls)) ∙ ap length cells_is in
                 let first-is : first (λ k. not (holds (nodes_in m'' r.used) (get_or (cells_to r.number ls ks (length ls)) k no_cell))) (length ls) 0 ≡ (A share l u ps es).fails =
                 λ j. first (λ k. not (holds (all-now j) (get_or (cells_is j) k no_cell))) (as-many j) 0 in
-                let ek' : k ≡ found (length (A share l u ps es).cells) (A share l u ps es).fails =
-                ek ∙ (λ j. found (size j) (first-is j)) in (
+                let ek' : k ≡ below (length (A share l u ps es).cells) (A share l u ps es).fails =
+                ek ∙ (λ j. below (size j) (first-is j)) in (
                   (λ j. record { used = used-is j; fails = ek' j; far = eb' j }) ∙ ap tried_of try_is,
                   nodes-is ∙ ap (λ (t : Attempt). over l t.nodes) try_is,
                   eq ∙ ap (over_cells q) cells_is ∙ ap (λ (t : Attempt). over_cells q t.cells) try_is,

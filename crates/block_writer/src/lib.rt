@@ -9,50 +9,45 @@
 ghost use Rattle.std.specs.Prelude.{◌≡◌, ◌++◌, ◌/◌, ◌≤◌, length, get_or, drop, pos};
 ghost use Rattle.blocks.specs.Writing as Writing;
 
+use blocks::Kind;
+
 // Coordinate k, zero where there is none.
 fn coordinate(points: &[i32], k: usize) -> u32
     ensures { result ≡ Writing.bits (get_or points.now k (pos 0)) }
 {
-    if k < points.len() {
-        return blocks::bits(points[k]);
-    }
-    0
+    blocks::bits(points.get(k).copied().unwrap_or(0))
 }
 
 // Kind, count and block number.
+#[tactic(auto, unfolding(blocks::specs::Writing::head_word))]
 fn head(count: usize, number: u32) -> u32
     requires { (count ≤ 60) × (number ≤ 65535) }
     ensures { result ≡ Writing.head_word count number }
 {
-    1 + number % 2 + 256 * (count as u32) + 65536 * number
+    Kind::of(number) as u32 + 256 * count as u32 + 65536 * number
 }
 
 // Word w of a block, its check aside.
+#[tactic(auto, unfolding(blocks::specs::Writing::field))]
 fn field(points: &[i32], size: u32, number: u32, w: usize) -> u32
     requires { (length points.now / 2 ≤ 60) × (number ≤ 65535) }
     ensures { result ≡ Writing.field points.now size number w }
 {
-    if w == 0 {
-        return head(points.len() / 2, number);
+    match w {
+        0 => head(points.len() / 2, number),
+        1..121 => coordinate(points, w - 1),
+        121 => size,
+        _ => 0,
     }
-    if w < 121 {
-        return coordinate(points, w - 1);
-    }
-    if w == 121 {
-        return size;
-    }
-    0
 }
 
 // Writes the four bytes of n at the front.
+#[tactic(auto, unfolding(blocks::specs::Writing::word_bytes))]
 fn put_word(out: &mut [u8], n: u32)
     requires { 4 ≤ length out.old }
     ensures { out.new ≡ Writing.word_bytes n ++ drop 4 out.old }
 {
-    out[0] = (n % 256) as u8;
-    out[1] = (n / 256 % 256) as u8;
-    out[2] = (n / 65536 % 256) as u8;
-    out[3] = (n / 16777216 % 256) as u8;
+    out[..4].copy_from_slice(&n.to_le_bytes());
 }
 
 // Writes bytes 0 to 507 of a block at the front.
@@ -60,10 +55,10 @@ fn write_body(out: &mut [u8], points: &[i32], size: u32, number: u32)
     requires { (512 ≤ length out.old) × (length points.now / 2 ≤ 60) × (number ≤ 65535) }
     ensures { out.new ≡ Writing.body_bytes points.now size number ++ drop 508 out.old }
 {
-    let mut at: usize = 0;
+    // Kept: w is counted, since the library says nothing of the bytes after a loop over their as_chunks_mut.
     for w in 0..127 {
+        let at = w * 4;
         put_word(&mut out[at..], field(points, size, number, w));
-        at += 4;
     }
 }
 

@@ -55,6 +55,7 @@ fn write(cells: &mut [Cell], at: usize, numbers: &[NodeNumber; 496], n: usize)
 
 // The answer for a ring of `own` points, over numbers that hold its cells from their first place on, for a list in which
 // they go to place `at`. After a failure the places of the reserve are written too, with zeros.
+// Kept: the numbers go in by value, since they are moved into what is returned.
 fn placed(limits: Limits, own: usize, a: Answer, numbers: [NodeNumber; 496], at: usize) -> Laid
     requires { (at + (Answers.values a).cells < 2 ^ 64) × ((Answers.values a).code ≡ 8 → (3 ≤ own) × (own ≤ 60)) }
     ensures { result ≡ laid_of (Answers.values a) numbers at (cell_reserve limits own) }

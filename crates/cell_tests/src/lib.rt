@@ -5,12 +5,12 @@
 
 #![tactic(auto)]
 
-ghost use Rattle.std.specs.Prelude.{◌≡◌, not, ◌*◌, ◌≤◌, length, get_or};
-ghost use Rattle.laws.specs.Bounded.{first};
+ghost use Rattle.std.specs.Prelude.{◌≡◌, not, ◌*◌, ◌≤◌, ◌<◌, length, get_or};
+ghost use Rattle.laws.specs.Bounded.{first, below};
 ghost use Rattle.nodes.specs.Flat.{nodes_in};
 ghost use Rattle.quads.specs.Quads as Quads;
 ghost use Rattle.quads.specs.Quads.{no_cell};
-ghost use Rattle.quads.specs.Flat.{Listed, positive, found};
+ghost use Rattle.quads.specs.Flat.{Listed, positive};
 ghost use Rattle.quads.specs.Round.{cells_of, ListedRound};
 
 use quads::{Cell, Round};
@@ -31,6 +31,7 @@ fn quad_positive(p: Point, q: Point, r: Point, s: Point) -> bool
     turns_left(p, q, r) && turns_left(q, r, s) && turns_left(r, s, p) && turns_left(s, p, q)
 }
 
+#[tactic(auto, unfolding(quads::specs::Quads::all_distinct))]
 fn all_distinct(c: Cell) -> bool
     ensures { result ≡ Quads.all_distinct c }
 {
@@ -38,6 +39,7 @@ fn all_distinct(c: Cell) -> bool
 }
 
 // Whether a cell passes both tests.
+#[tactic(auto, using(nodes::proofs::Flat::node_in), unfolding(quads::specs::Quads::holds, quads::specs::Quads::quad_positive))]
 fn holds(nodes: &[f64], used: usize, c: Cell) -> bool
     requires { (used * 2 ≤ length nodes.now) × Listed used c }
     ensures { result ≡ Quads.holds (nodes_in nodes.now used) c }
@@ -50,18 +52,16 @@ fn holds(nodes: &[f64], used: usize, c: Cell) -> bool
 }
 
 // The first of these cells that fails.
+#[tactic(auto, unfolding(laws::specs::Bounded::first))]
 pub fn first_failing(nodes: &[f64], used: usize, round: &Round<'_>) -> Option<usize>
     requires { (used * 2 ≤ length nodes.now) × ListedRound used round.now }
-    ensures { result ≡ found (length round.now.middles.now) (first
+    ensures { result ≡ below (length round.now.middles.now) (first
         (λ k. not (Quads.holds (nodes_in nodes.now used) (get_or (cells_of round.now) k no_cell)))
         (length round.now.middles.now) 0) }
 {
-    // Kept: k is counted, since cell k takes the places k and k + 1 of both lists.
-    for k in 0..round.middles.len() {
-        let c = round.cell(k);
-        if !holds(nodes, used, c) {
-            return Some(k);
-        }
-    }
-    None
+    (0..round.middles.len()).find(
+        |&k|
+            requires { (used * 2 ≤ length nodes.now) × ListedRound used round.now × (k < length round.now.middles.now) }
+        { !holds(nodes, used, round.cell(k)) },
+    )
 }

@@ -5,7 +5,7 @@ use Rattle.marks.specs.Edges.{marks_in}
 use Rattle.marks.specs.Part.{Part}
 use Rattle.nodes.specs.Nodes.{most_places}
 use Rattle.nodes.specs.Flat.{nodes_in, Usable}
-use Rattle.quads.specs.Flat.{found}
+use Rattle.laws.specs.Bounded.{below}
 use Rattle.cells.specs.declared.Piece.{Piece}
 use Rattle.cells.specs.declared.Tried.{Tried}
 use Rattle.cells.specs.Cells.{Attempt, attempt, subdivide}
@@ -27,7 +27,7 @@ attempt_in share l u p = attempt share (nodes_in l u) p.points (mark_at p)
 
 -- its answer: the cell that fails is one of its cells
 abbrev pub tried_of : Attempt → Tried
-tried_of t = record { used = length t.nodes; fails = found (length t.cells) t.fails; far = t.far }
+tried_of t = record { used = length t.nodes; fails = below (length t.cells) t.fails; far = t.far }
 
 -- what it asks for, bs saying which edges are ring edges
 abbrev pub attempt_asks_in : Float → List Float → ℕ → Part → List Bool → List Ask

@@ -14,6 +14,7 @@ ghost use Rattle.root.specs.Norm as Norm;
 ghost use Rattle.cosine.specs.Cosine as Cosine;
 ghost use Rattle.chain.specs.Kept.{Simplifies};
 
+use cosine::Side;
 use vector::{GridPoint, MOST_POINTS, Point};
 
 // A simplified chain: the points kept, in the places 0 to count, and in the places below count the snap point of the
@@ -35,11 +36,15 @@ fn stays(a: GridPoint, b: GridPoint, c: GridPoint, nu: f64, nv: f64, last: bool)
 {
     let u = b.sub(a);
     let v = c.sub(b);
-    last || u.is_zero() || v.is_zero() || cosine::cosine(u, nu, v, nv) < 0.9063077870366499
+    last || u.is_zero()
+        || v.is_zero()
+        || cosine::cosine(Side { step: u, norm: nu }, Side { step: v, norm: nv })
+            < 0.9063077870366499
 }
 
 // The points of the chain that stay, and the snap point of each stretch between them, at half its length.
-// Kept: a turn looks at three points of the chain and at four lengths, so that it counts places.
+// Kept: a turn looks at three points and at four lengths, so that it counts places. Over `windows(3)` the last point, which has
+// none after it and always stays, would be kept by a copy of the body behind the loop.
 pub fn simplify_chain(chain: &[GridPoint]) -> Simplified
     requires { OnSheetPoints chain.now }
     ensures { Simplifies chain.now result }

@@ -7,49 +7,59 @@ use native.Mathlib.Omega.{arith}
 use mathlib.Core.Path.{◌≡◌, refl, sym, ap, ◌∙◌}
 use mathlib.Core.Bool.{Bool, true, false, not, cond}
 use mathlib.Core.List.{List, [], ◌∷◌, ◌++◌, append_assoc}
-use lib.ListN.{length, get_or, set, take, length-append, length-set}
-use lib.Seq.{take-suc, take-suc-set, take-set-le}
+use lib.ListN.{length, get_or, take, drop, length-append, length-drop}
+use lib.Seq.{take-suc, get_or-take, length-take-le}
 use lib.Pow.{pow_pos}
 use lib.Dec.{eqb}
 use lib.IntN.{ℤ, pos}
 use lib.Count.{ones, ones_in, ones_cat}
+use borrow.Rule.Slice.PartMut.{put_mid}
 use borrow.Author.Tests.{eq-eqb, eqb-true, eqb-false}
+use Rattle.std.specs.Simd.{first_chunks}
+use Rattle.std.proofs.lemmas.Slice.{take-put_mid, take-put_mid_below}
 use Rattle.laws.specs.Bounded.{any}
 use Rattle.laws.proofs.Booleans.{is_true}
 use Rattle.laws.proofs.Search.{any_at}
 use Rattle.choice.specs.Choice.{chosen}
 
--- ---- a turn of the loop that chooses
-module _ (l : List ℤ) (c i : ℕ) (ps : List ℤ) (n rest : ℕ) (x y : ℤ) (h : n + 1 < length ps) (e : take n ps ≡ chosen l c i) (f : rest ≡ c / 2 ^ i)
-    (ex : x ≡ get_or l (i * 2) (pos 0)) (ey : y ≡ get_or l (i * 2 + 1) (pos 0)) where
-  both : take (suc (suc n)) (set (set ps n x) (suc n) y) ≡ chosen l c i ++ (get_or l (i * 2) (pos 0) ∷ get_or l (i * 2 + 1) (pos 0) ∷ [])
-  both =
-      let a : take (suc (suc n)) (set (set ps n x) (suc n) y) ≡ take (suc n) (set ps n x) ++ (y ∷ []) =
-      take-suc-set (set ps n x) (suc n) y (rw (length-set ps n x) (omega arith)) in
-      let b : take (suc n) (set ps n x) ≡ take n ps ++ (x ∷ []) = take-suc-set ps n x (omega arith) in
-      a ∙ ap (λ (m : List ℤ). m ++ (y ∷ [])) b ∙ append_assoc (take n ps) (x ∷ []) (y ∷ []) ∙ (λ j. e j ++ (ex j ∷ ey j ∷ []))
+-- ---- the numbers of a ring, two and two: the first r pairs are its first r points
+abbrev pub point_at : List ℤ → ℕ → List ℤ
+point_at l i = get_or l (i * 2) (pos 0) ∷ get_or l (i * 2 + 1) (pos 0) ∷ []
 
-  neither : take n (set (set ps n x) (suc n) y) ≡ chosen l c i
-  neither = take-set-le n (set ps n x) (suc n) y (omega arith) ∙ take-set-le n ps n x (omega arith) ∙ e
+pair_at : (l : List ℤ) (n i : ℕ) → n * 2 ≤ length l → i < n → get_or (first_chunks 2 n l) i [] ≡ point_at l i
+pair_at [] n i h k = absurd (omega (arith, h, k))
+pair_at (x ∷ []) n i h k = absurd (omega (arith, h, k))
+pair_at (x ∷ y ∷ l) zero i h k = absurd (omega (arith, k))
+pair_at (x ∷ y ∷ l) (suc n) zero h k = refl
+pair_at (x ∷ y ∷ l) (suc n) (suc i) h k =
+    let e : suc (suc (i * 2)) ≡ suc i * 2 = omega arith in
+    let f : suc (suc (i * 2 + 1)) ≡ suc i * 2 + 1 = omega arith in
+    pair_at l n i (omega (arith, h)) (omega (arith, k))
+    ∙ (λ j. get_or (x ∷ y ∷ l) (e j) (pos 0) ∷ get_or (x ∷ y ∷ l) (f j) (pos 0) ∷ [])
 
-  pub choose-more : take (n + rest % 2 * 2) (set (set ps n x) (n + 1) y) ≡ chosen l c (i + 1)
+pub pair-among : (l : List ℤ) (n r i : ℕ) (ps : List (List ℤ)) → ps ≡ first_chunks 2 n l → n * 2 ≤ length l → r ≤ n → i < r
+    → get_or (take r ps) i [] ≡ point_at l i
+pair-among l n r i ps e h m k =
+    get_or-take r ps i [] k ∙ ap (λ (qs : List (List ℤ)). get_or qs i []) e ∙ pair_at l n i h (omega (arith, m, k))
+
+pub length-mid : (n k : ℕ) (xs ys : List ℤ) → n + k ≤ length xs → length ys ≡ k → length (put_mid n k xs ys) ≡ length xs
+length-mid n k xs ys h e = simp length-append (omega (arith, length-take-le n xs (omega (arith, h)), length-drop n xs, length-drop k (drop n xs), h, e))
+
+-- ---- a turn of the loop that chooses: the point p goes over the places after the first n, and counts if its digit is 1
+module _ (l : List ℤ) (c i : ℕ) (ps : List ℤ) (n m rest : ℕ) (p : List ℤ) (h : n ≤ length ps) (e : take n ps ≡ chosen l c i) (f : rest ≡ c / 2 ^ i)
+    (d : p ≡ point_at l i) where
+  pub choose-more : take (n + rest % 2 * 2) (put_mid n m ps p) ≡ chosen l c (i + 1)
   unfolding chosen
-  choose-more = rw (add-one i, add-one n) (go (eqb (c / 2 ^ i % 2) 1) refl)
+  choose-more = rw (add-one i) (go (eqb (c / 2 ^ i % 2) 1) refl)
     where
-      go : (b : Bool) → eqb (c / 2 ^ i % 2) 1 ≡ b
-          → take (n + rest % 2 * 2) (set (set ps n x) (suc n) y) ≡ cond b (chosen l c i ++ (get_or l (i * 2) (pos 0) ∷ get_or l (i * 2 + 1) (pos 0) ∷ []))
-          (chosen l c i)
+      go : (b : Bool) → eqb (c / 2 ^ i % 2) 1 ≡ b → take (n + rest % 2 * 2) (put_mid n m ps p) ≡ cond b (chosen l c i ++ point_at l i) (chosen l c i)
       go true q =
-          let d = eqb-true (c / 2 ^ i % 2) 1 q in
-          let u : rest % 2 ≡ 1 = ap (λ (k : ℕ). k % 2) f ∙ d in
-          let v : n + rest % 2 * 2 ≡ suc (suc n) = omega (arith, u) in
-          rw v both
+          let u : rest % 2 ≡ 1 = ap (λ (k : ℕ). k % 2) f ∙ eqb-true (c / 2 ^ i % 2) 1 q in
+          take-put_mid n m ps p _ (omega (arith, u, ap length d)) h ∙ (λ j. e j ++ d j)
       go false q =
-          let d = eqb-false (c / 2 ^ i % 2) 1 q in
           let g : rest % 2 ≡ c / 2 ^ i % 2 = ap (λ (k : ℕ). k % 2) f in
-          let u : rest % 2 ≡ 0 = omega (arith, d, g) in
-          let v : n + rest % 2 * 2 ≡ n = omega (arith, u) in
-          rw v neither
+          let u : n + rest % 2 * 2 ≡ n = omega (arith, eqb-false (c / 2 ^ i % 2) 1 q, g) in
+          rw u (take-put_mid_below n m ps p n (omega arith) h ∙ e)
 
 pub rest_more : (c i rest : ℕ) → rest ≡ c / 2 ^ i → rest / 2 ≡ c / 2 ^ (i + 1)
 rest_more c i rest f =

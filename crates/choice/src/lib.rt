@@ -23,9 +23,9 @@ pub fn choose(ring: &[i32], r: usize, choice: u32) -> ChosenPoints
     let mut points = [0i32; 24];
     let mut count: usize = 0;
     let mut rest = choice;
-    for i in 0..r {
-        points[count] = ring[i * 2];
-        points[count + 1] = ring[i * 2 + 1];
+    let (pairs, _) = ring.as_chunks::<2>();
+    for p in &pairs[..r] {
+        points[count..count + 2].copy_from_slice(p);
         count += (rest % 2) as usize * 2;
         rest /= 2;
     }

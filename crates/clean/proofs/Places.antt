@@ -2,20 +2,21 @@
 -- So each step of a pass leaves the points at the places that it keeps.
 use Prim.Native.Nat.{ℕ, zero, suc, ◌≤◌, ◌<◌}
 use native.Mathlib.Omega.{arith}
-use mathlib.Core.Path.{◌≡◌, refl, sym, ap, ◌∙◌, subst}
+use mathlib.Core.Path.{◌≡◌, refl, ap, ◌∙◌, subst}
 use mathlib.Core.Bool.{Bool, true, false, ◌&&◌, ◌||◌, cond}
 use mathlib.Core.List.{List}
 use lib.ListN.{length, get_or, take, length-map}
 use lib.Seq.{get_or-take, length-take-le}
 use lib.Dec.{leb, ltb, eqb}
 use lib.Ieee.{Float}
+use Rattle.std.proofs.lemmas.List.{get_or-map, take-map}
 use Rattle.vector.specs.declared.GridPoint.{GridPoint}
 use Rattle.vector.specs.Grid.{origin}
 use Rattle.nearness.specs.Nearness.{tolerance}
 use Rattle.clean.specs.Clean.{opened, bent, straightened, pass, passes, clean_polygon}
 use Rattle.clean.specs.Places.{pick, among, places, spaced_places, bent_places, straightened_places, pass_places, passes_places, kept_places, Rising}
-pub use Rattle.clean_steps.proofs.Places.{map_get_d, pick-length}
-use Rattle.clean_steps.proofs.Places.{map-take, pick-among, pick_all, rising-places, spaced_image, spaced-rising, bent_image, bent-rising}
+pub use Rattle.clean_steps.proofs.Places.{pick-length}
+use Rattle.clean_steps.proofs.Places.{pick-among, pick_all, rising-places, spaced_image, spaced-rising, bent_image, bent-rising}
 use Rattle.clean.proofs.Kept.{opened-most}
 
 -- ---- lists that rise
@@ -42,7 +43,7 @@ rising-among n ks ws h g = record {
     e = length-map ws (λ (w : ℕ). get_or ks w 0)
 
     at : (i : ℕ) → i < length ws → get_or (among ks ws) i 0 ≡ get_or ks (get_or ws i 0) 0
-    at i l = map_get_d (λ (w : ℕ). get_or ks w 0) ws i 0 0 l
+    at i l = get_or-map (λ (w : ℕ). get_or ks w 0) ws i 0 0 l
 
 -- ---- the steps of a pass
 module _ (tol : Float) where
@@ -90,7 +91,7 @@ module _ (tol : Float) where
         let e = spaced_image tol r (length r) in
         (λ j. straightened tol (take (opened tol (e j) (length (e j))) (e j)))
         ∙ ap (λ (n : ℕ). straightened tol (take (opened tol (pick r first) n) (pick r first))) (pick-length r first)
-        ∙ ap (straightened tol) (sym (map-take (λ (k : ℕ). get_or r k origin) left first))
+        ∙ ap (straightened tol) (take-map (λ (k : ℕ). get_or r k origin) left first)
         ∙ straightened_image (pick r front)
         ∙ pick-among r front (straightened_places tol (pick r front)) straight-rising.below
 

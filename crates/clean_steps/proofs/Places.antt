@@ -11,6 +11,7 @@ use lib.ListN.{length, get_or, take, length-append, length-map, get_or-append}
 use lib.Seq.{get_or_at, take-length}
 use lib.Dec.{eqb}
 use lib.Ieee.{Float}
+use Rattle.std.proofs.lemmas.List.{get_or-map}
 use Rattle.laws.specs.Table.{tab}
 use Rattle.laws.proofs.Table.{take_tab}
 use Rattle.vector.specs.declared.GridPoint.{GridPoint}
@@ -18,18 +19,6 @@ use Rattle.vector.specs.Grid.{origin}
 use Rattle.nearness.specs.Nearness.{near}
 use Rattle.clean_steps.specs.Steps.{spaced, flat, bent}
 use Rattle.clean_steps.specs.Choices.{pick, among, places, spaced_places, bent_places, Rising}
-
--- ---- images of lists
-module _ {A B : Type 0} (f : A → B) where
-  pub map-take : (n : ℕ) (l : List A) → map f (take n l) ≡ take n (map f l)
-  map-take zero l = refl
-  map-take (suc n) [] = refl
-  map-take (suc n) (x ∷ l) = ap (λ (m : List B). f x ∷ m) (map-take n l)
-
-  pub map_get_d : (l : List A) (i : ℕ) (d : A) (e : B) → i < length l → get_or (map f l) i e ≡ f (get_or l i d)
-  map_get_d [] i d e h = absurd (omega arith)
-  map_get_d (x ∷ l) zero d e h = refl
-  map_get_d (x ∷ l) (suc i) d e h = map_get_d l i d e (omega arith)
 
 -- ---- what stands in a list at given places: the points of a ring, or places among places
 module _ {A : Type 0} (d : A) (l : List A) where
@@ -55,7 +44,7 @@ module _ {A : Type 0} (d : A) (l : List A) where
       → map (λ (w : ℕ). get_or (at_places ks) w d) ws ≡ at_places (among ks ws)
   choose-among ks [] h = refl
   choose-among ks (w ∷ ws) h =
-      let e = map_get_d (λ (k : ℕ). get_or l k d) ks w 0 d (h 0 (omega arith)) in
+      let e = get_or-map (λ (k : ℕ). get_or l k d) ks w 0 d (h 0 (omega arith)) in
       let m = choose-among ks ws (λ i k. h (suc i) (omega arith)) in
       λ j. e j ∷ m j
 

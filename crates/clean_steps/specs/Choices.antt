@@ -1,14 +1,13 @@
--- Which points of a ring a step of cleaning keeps, by their places, and a choice of places as the code carries it. Each
--- definition of places follows the one of specs/Steps that it has its name from: the points at these places are what that one
--- leaves (proofs/Places).
-use Rattle.std.specs.Prelude.{ℕ, zero, suc, ◌-◌, ◌≤◌, ◌<◌, ◌≡◌, ◌||◌, not, cond, List, [], ◌∷◌, ◌++◌, map, length, get_or, take, eqb, Float}
+-- Which points of a ring a step of cleaning keeps, by their places, and what a choice of places is. Each definition of places
+-- follows the one of specs/Steps that it has its name from: the points at these places are what that one leaves (proofs/Places).
+-- specs/Chosen has the words for a choice as the code carries it.
+use Rattle.std.specs.Prelude.{ℕ, zero, suc, ◌-◌, ◌≤◌, ◌<◌, ◌≡◌, ◌||◌, not, cond, List, [], ◌∷◌, ◌++◌, map, length, get_or, eqb, Float}
 use Rattle.laws.specs.Table.{tab}
 use Rattle.vector.specs.declared.GridPoint.{GridPoint}
 use Rattle.vector.specs.Grid.{origin}
 use Rattle.vector.specs.Size.{AllOnSheet}
 use Rattle.vector.specs.Rings.{most_points}
 use Rattle.nearness.specs.Nearness.{near}
-use Rattle.clean_steps.specs.declared.Choice.{Choice}
 use Rattle.clean_steps.specs.Steps.{flat}
 
 -- the points of a ring at these places
@@ -43,18 +42,11 @@ pub record Rising (n : ℕ) (ks : List ℕ) : Type 0 where
   pub below : (i : ℕ) → i < length ks → get_or ks i 0 < n
   pub rising : (i j : ℕ) → i < j → j < length ks → get_or ks i 0 < get_or ks j 0
 
--- ---- a choice of places, as the code carries it
-abbrev pub places_of : Choice → List ℕ
-places_of c = take c.count c.places
-
--- the points of the ring at the chosen places
-abbrev pub chosen : List GridPoint → Choice → List GridPoint
-chosen ring c = pick ring (places_of c)
-
--- the count fits the array, every place of it, used or not, is one of the ring's, and the ring's points are of the sheet
-pub record ValidChoice (ring : List GridPoint) (c : Choice) : Type 0 where
-  pub count : c.count ≤ most_points
-  pub size : length c.places ≡ most_points
-  pub low : (i : ℕ) → get_or c.places i 0 < most_points
+-- a choice of the ring's places, the first n of ks: n fits the array, every place in it, used or not, is one of the ring's, and the
+-- ring's points are of the sheet
+pub record ValidChoice (ring : List GridPoint) (ks : List ℕ) (n : ℕ) : Type 0 where
+  pub count : n ≤ most_points
+  pub size : length ks ≡ most_points
+  pub low : (i : ℕ) → get_or ks i 0 < most_points
   pub room : length ring ≡ most_points
   pub points : AllOnSheet ring

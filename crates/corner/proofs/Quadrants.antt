@@ -1,13 +1,20 @@
 -- The measure of a corner, by the signs of dot and cross, where no step is zero.
+use native.Mathlib.Omega.{arith}
+use borrow.Author.Tests.{le-true}
 use mathlib.Core.Bool.{Bool, true, false, ◌||◌}
 use mathlib.Core.Path.{◌≡◌, refl, sym, ap, ◌∙◌}
-use lib.IntN.{ℤ}
-use lib.Signed.{non_neg}
+use lib.IntN.{ℤ, pos, negsuc}
+use lib.Signed.{non_neg, le_z}
 use lib.Ieee.{Float}
 use Rattle.laws.specs.Double.{nat, ◌-f◌, ◌+f◌}
 use Rattle.vector.specs.declared.GridPoint.{GridPoint}
 use Rattle.vector.specs.Grid.{same, origin, cross, dot}
 use Rattle.corner.specs.Corner.{measure, by_quadrant, quotient}
+
+-- the code's test of a sign
+pub from_zero : (z : ℤ) → non_neg z ≡ le_z (pos 0) z
+from_zero (pos n) = le-true 0 n (omega arith)
+from_zero (negsuc n) = refl
 
 module _ (u v : GridPoint) (z : same u origin ≡ false) (y : same v origin ≡ false)
     (s c : ℤ) (es : s ≡ cross u v) (ec : c ≡ dot u v) (q : Float) (eq : q ≡ quotient s c) where

@@ -39,9 +39,10 @@ fn size(z: i64) -> f64
     requires { nat_abs z ≤ 2 ^ 49 }
     ensures { result ≡ nat (nat_abs z) }
 {
-    vector::magnitude(z) as f64
+    z.unsigned_abs() as f64
 }
 
+#[tactic(auto, using(laws::proofs::Signed::back), unfolding(crate::specs::Corner::quotient))]
 fn quotient(s: i64, c: i64) -> f64
     requires { (nat_abs s ≤ 2 ^ 49) × (nat_abs c ≤ 2 ^ 49) }
     ensures { result ≡ Corners.quotient s c }
@@ -54,19 +55,16 @@ fn measure(u: GridPoint, v: GridPoint) -> f64
     requires { Step u × Step v }
     ensures { result ≡ Corners.measure u v }
 {
-    if u.is_zero() {
-        return Corner::STRAIGHT;
-    }
-    if v.is_zero() {
+    if u.is_zero() || v.is_zero() {
         return Corner::STRAIGHT;
     }
     let s = u.cross(v);
     let c = u.dot(v);
     let q = quotient(s, c);
-    if vector::non_neg(c) {
+    if c >= 0 {
         return Corner::STRAIGHT - q;
     }
-    if vector::non_neg(s) {
+    if s >= 0 {
         return q;
     }
     Corner::FULL + q
@@ -81,6 +79,7 @@ fn corner_at(a: GridPoint, b: GridPoint, c: GridPoint) -> f64
 }
 
 // The worst corner of a part: of equal ones the last.
+#[tactic(auto, using(crate::proofs::Scan::by_points, crate::proofs::Scan::before, crate::proofs::Scan::taken, crate::proofs::Scan::passed, vector::proofs::Rings::at_place, vector::proofs::Rings::at_following), unfolding(crate::specs::Corner::worst))]
 pub fn worst(part: &[GridPoint]) -> Corner
     requires { OnSheetPoints part.now × (1 ≤ length part.now) }
     ensures { (result.at ≡ Corners.worst part.now) × (result.measure ≡ Corners.measure_at part.now result.at) × (result.at < length part.now) }

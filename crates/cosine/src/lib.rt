@@ -7,19 +7,39 @@
 
 ghost use Rattle.std.specs.Prelude.{◌≡◌};
 ghost use Rattle.vector.specs.Size.{Step};
-ghost use Rattle.root.specs.Norm as Norm;
+ghost use Rattle.root.specs.Norm.{grid_norm};
 ghost use Rattle.cosine.specs.Cosine as Cosine;
 
 use vector::GridPoint;
 
-// The cosine of two steps. Their norms come in, so that a caller that compares one step with several computes its norm
-// once.
-pub fn cosine(a: GridPoint, na: f64, b: GridPoint, nb: f64) -> f64
-    requires { Step a × Step b × (na ≡ Norm.grid_norm a) × (nb ≡ Norm.grid_norm b) }
-    ensures { result ≡ Cosine.cosine a b }
+// A side of an angle: a step with its norm, so that a caller that compares one step with several computes its norm once.
+#[derive(Clone, Copy)]
+pub struct Side {
+    pub step: GridPoint,
+    pub norm: f64,
+    ghost is_step: { Step step },
+    ghost is_norm: { norm ≡ grid_norm step },
+}
+
+impl Side {
+    pub fn new(step: GridPoint) -> Side
+        requires { Step step }
+        ensures { result.step ≡ step }
+    {
+        Side {
+            step,
+            norm: root::grid_norm(step),
+        }
+    }
+}
+
+// The cosine of the angle between two sides.
+pub fn cosine(a: Side, b: Side) -> f64
+    ensures { result ≡ Cosine.cosine a.step b.step }
 {
-    if a.is_zero() || b.is_zero() {
+    if a.step.is_zero() || b.step.is_zero() {
         return 1.0;
     }
-    vector::clamp(vector::in_square_mm(a.dot(b)) / (na * nb), -1.0, 1.0)
+    let c = vector::in_square_mm(a.step.dot(b.step)) / (a.norm * b.norm);
+    c.clamp(-1.0, 1.0)
 }

@@ -16,6 +16,7 @@ use std::cmp::Ordering;
 use text::Page;
 
 // A coordinate in mm as it is shown: so many ten-thousandths, with a minus or without.
+// Kept: a sign beside a number that holds with either, so no Option.
 #[derive(Clone, Copy)]
 pub struct Decimal {
     pub minus: bool,
@@ -53,6 +54,7 @@ pub fn ten_thousandths(x: f64) -> u64
 
 impl Decimal {
     // What is shown of x.
+    #[tactic(auto, using(crate::proofs::Value::no_minus, crate::proofs::Value::the_minus))]
     pub fn of(x: f64) -> Decimal
         requires { Within 1024 x }
         ensures { (result.minus ≡ Rounded.minus x) × (result.parts ≡ Rounded.ten_thousandths x) }
@@ -65,6 +67,7 @@ impl Decimal {
     }
 
     // With four decimals.
+    #[tactic(auto, unfolding(crate::specs::Shown::decimals, text::specs::Text::bytes))]
     pub fn put(self, page: &mut Page)
         requires { Room page.old (Shown.decimals self.minus self.parts) }
         ensures { Wrote page.old (Shown.decimals self.minus self.parts) page.new }

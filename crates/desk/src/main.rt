@@ -6,10 +6,8 @@
 
 mod crossings;
 
-use std::fs;
-use std::io::{Read, Write};
-use std::rt::Files;
-use words::Tally;
+use std::io::Read;
+use words::{Lists, Records, Tally, UnknownKind};
 
 // A cell sheet: the used count, the node list, the bytes of the destination.
 fn sheet<R: Read>(input: &mut R) -> bool {
@@ -27,7 +25,7 @@ fn sheet<R: Read>(input: &mut R) -> bool {
     let mut out = [0u8; 1536];
     words::fill(&mut out);
     let code = listing::node_sheet(&nodes[..n], used, &mut out[..room]);
-    let answered = code == u64::from(words::word(input));
+    let answered = words::is_word(input, code);
     answered & words::same_bytes(input, &out)
 }
 
@@ -43,10 +41,10 @@ fn wear_record<R: Read>(input: &mut R) -> bool {
         return false;
     }
     let w = wear::wear_add(&mut bytes[..n], number, cuts);
-    let code = w.code == u64::from(words::word(input));
-    let total = w.total == u64::from(words::word(input));
-    let highest = w.highest == u64::from(words::word(input));
-    let rings = w.rings == u64::from(words::word(input));
+    let code = words::is_word(input, w.code);
+    let total = words::is_word(input, w.total);
+    let highest = words::is_word(input, w.highest);
+    let rings = words::is_word(input, w.rings);
     code & total & highest & rings & words::same_bytes(input, &bytes)
 }
 
@@ -60,10 +58,10 @@ fn smallest_ring<R: Read>(input: &mut R) -> bool {
     words::read_list(input, &mut ring, r);
     words::read_list(input, &mut chain, c);
     let s = smallest::smallest_refused(&ring[..r], &chain[..c], size);
-    let code = s.code == u64::from(words::word(input));
-    let refusal = s.refusal == u64::from(words::word(input));
-    let choice = s.choice == u64::from(words::word(input));
-    let points = s.points == u64::from(words::word(input));
+    let code = words::is_word(input, s.code);
+    let refusal = words::is_word(input, s.refusal);
+    let choice = words::is_word(input, s.choice);
+    let points = words::is_word(input, s.points);
     code & refusal & choice & points
 }
 
@@ -75,10 +73,6 @@ enum Kind {
     Smallest,
     Crossing,
 }
-
-// A number that no record has.
-#[derive(Clone, Copy)]
-struct UnknownKind;
 
 impl TryFrom<u32> for Kind {
     type Error = UnknownKind;
@@ -94,53 +88,43 @@ impl TryFrom<u32> for Kind {
     }
 }
 
-fn step<R: Read>(input: &mut R, number: u32) -> bool {
-    let Ok(kind) = Kind::try_from(number) else {
-        return false;
-    };
-    match kind {
-        Kind::Sheet => sheet(input),
-        Kind::Wear => wear_record(input),
-        Kind::Smallest => smallest_ring(input),
-        Kind::Crossing => crossings::crossing(input),
-    }
-}
+// The records, of which none leaves anything to the next.
+#[derive(Drop)]
+struct Desk;
 
-// All records of a file, which has fewer than a million.
-fn records<R: Read>(input: &mut R) -> Tally {
-    let mut t = Tally::default();
-    for _ in 0u32..1000000 {
-        let number = words::word(input);
-        if number == 0 {
-            break;
-        }
-        t = t.ran(step(input, number));
-    }
-    t
-}
+impl Records for Desk {
+    type Kind = Kind;
 
-// A file that cannot be opened counts as one that differs.
-fn tally<F: Files, E: Write>(files: &F, errors: &mut E, path: &str) -> Tally {
-    match fs::open(files, path) {
-        Ok(mut list) => records(&mut list),
-        Err(error) => {
-            stream::fail(errors, path, error);
-            Tally::default().ran(false)
-        }
-    }
-}
+    // It counts as run.
+    const UNOPENED: Tally = Tally { ran: 1, differ: 1 };
 
-fn file<F: Files, W: Write, E: Write>(files: &F, output: &mut W, errors: &mut E, path: &str) {
-    tally(files, errors, path).print(output, path);
+    fn new() -> Desk {
+        Desk
+    }
+
+    fn run<R: Read>(&mut self, input: &mut R, kind: Kind) -> Option<bool> {
+        Some(match kind {
+            Kind::Sheet => sheet(input),
+            Kind::Wear => wear_record(input),
+            Kind::Smallest => smallest_ring(input),
+            Kind::Crossing => crossings::crossing(input),
+        })
+    }
 }
 
 fn main(rt: HostRuntime) {
-    let mut output = rt.stdout();
-    let mut errors = rt.stderr();
-    file(&rt, &mut output, &mut errors, "sheets.list");
-    file(&rt, &mut output, &mut errors, "wear.list");
-    file(&rt, &mut output, &mut errors, "smallest.list");
-    file(&rt, &mut output, &mut errors, "crossings.list");
-    let wrong = tally(&rt, &mut errors, "wrong.list");
-    wrong.print_told(&mut output, "wrong.list");
+    let mut lists = Lists {
+        files: &rt,
+        output: &mut rt.stdout(),
+        errors: &mut rt.stderr(),
+    };
+    for path in [
+        "sheets.list",
+        "wear.list",
+        "smallest.list",
+        "crossings.list",
+    ] {
+        lists.run::<Desk>(path);
+    }
+    lists.run_wrong::<Desk>("wrong.list");
 }

@@ -13,7 +13,7 @@ ghost use Rattle.diagonal.specs.Diagonal as Diagonals;
 ghost use Rattle.diagonal.specs.Answer.{answer};
 ghost use Rattle.diagonal.specs.Best.{wins};
 
-use judge::Side;
+use cosine::Side;
 use limits::Limits;
 use vector::GridPoint;
 

@@ -1,6 +1,5 @@
 -- The ring that a call prepares: what the code holds after cleaning and marking is the cleaned ring of the definition, with the marks that the chain gives it.
-use Prim.Native.Nat.{ℕ, ◌*◌, ◌-◌, ◌/◌, ◌≤◌}
-use native.Mathlib.Omega.{arith}
+use Prim.Native.Nat.{ℕ, ◌-◌, ◌/◌}
 use mathlib.Core.Path.{◌≡◌, sym, ap, ◌∙◌, subst}
 use mathlib.Core.List.{List, ◌++◌}
 use lib.IntN.{ℤ}
@@ -9,7 +8,6 @@ use lib.Seq.{length-take-le, take_at}
 use Rattle.laws.proofs.Table.{length_tab}
 use Rattle.vector.specs.Grid.{origin}
 use Rattle.vector.specs.declared.Ring.{Ring}
-use Rattle.vector.specs.Size.{AllOnSheet}
 use Rattle.vector.specs.Rings.{points_of}
 use Rattle.vector.proofs.Rings.{room}
 use Rattle.chain.specs.declared.Simplified.{Simplified}
@@ -23,12 +21,9 @@ use Rattle.marks.specs.Marks.{marks_to, marked}
 use Rattle.marks.specs.Edges.{marks_in, Marked}
 use Rattle.call.specs.Lent.{point_in, points_in}
 use Rattle.call.specs.Marked.{all_points}
-use Rattle.divider.specs.Steps.{OnPaper, Prepares}
+use Rattle.divider.specs.Steps.{Prepares}
 
--- what reading the points of a ring or a chain asks, and gives
-pub asks : (l : List ℤ) → OnPaper l → (length l / 2 ≤ 60) × (length l / 2 * 2 ≤ length l) × AllOnSheet (points_in l (length l / 2))
-asks l h = (h.few, omega arith, h.sheet)
-
+-- what reading the points of a ring or a chain gives
 pub read : (l : List ℤ) (r : Ring) → r ≡ record { points = points_in l (length l / 2) ++ replicate (60 - length l / 2) origin; count = length l / 2 }
     → points_of r ≡ all_points l
 read l r e =

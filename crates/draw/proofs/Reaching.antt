@@ -1,40 +1,27 @@
 -- The loop of `draw`: it begins with no byte read, a byte more keeps the invariant and brings the end nearer, and where it ends the run is finished.
 use Prim.Native.Nat.{ℕ, suc, ◌+◌, ◌-◌, ◌*◌, ◌≤◌, ◌<◌}
-use mathlib.Core.Path.{◌≡◌, refl, sym, ap, subst, ◌∙◌}
+use mathlib.Core.Path.{◌≡◌, refl, sym, ap, ◌∙◌}
 use mathlib.Core.Bool.{Bool, true, false, true≢false, not, ◌||◌, cond}
 use mathlib.Core.List.{List, [], ◌∷◌, ◌++◌}
 use native.Mathlib.Omega.{arith}
 use lib.ListN.{length, length-append}
 use lib.Dec.{eqb}
-use lib.IntN.{ℤ}
 use borrow.Author.Tests.{eqb-false}
 use Rattle.std.specs.Prelude.{Option, Some, None}
 use Rattle.std.specs.Option.{is_some}
 use Rattle.drawing.specs.declared.Wrong.{Wrong}
 use Rattle.drawing.specs.declared.Wrong.TheVariants.{LongLine, LongText}
 use Rattle.drawing.specs.declared.State.{State}
-use Rattle.drawing.specs.Page.{Page, page, gone_on, stops, line_ends, fed, ends, begun, blank_page, Run, after, onward, ran, finished, Kept, Moves}
+use Rattle.drawing.specs.declared.held.Drawing.{Drawing}
+use Rattle.drawing.specs.Page.{Page, page, page_of, gone_on, stops, line_ends, fed, ends, blank_page, Run, after, onward, ran, finished, Moves}
 use Rattle.draw.specs.declared.Ended.{Ended}
 use Rattle.draw.specs.Reached.{Reached, LineEnded, Sendable, written, ending, Ends}
 
-pub begun_so : (s : State) (text : List ℕ) (ring chain : List ℤ) (out : List ℕ) → s ≡ begun → length text ≡ 80 → length ring ≡ 120 → length chain ≡ 120
-    → length out ≡ 1024 → Reached s text ring chain out 0
+pub begun_so : (d : Drawing) → page_of d ≡ blank_page → Reached d 0
 unfolding ran
-begun_so s text ring chain out e a b c d =
-    record {
-      input = [];
-      same = ap (λ (x : State). page x text ring chain out) e;
-      kept =
-          rw e
-          (record {
-            short = omega arith;
-            lines = omega arith;
-            text_long = a;
-            fine = record { corners = omega arith; run = omega arith; block = omega arith; ring_long = b; chain_long = c; out_long = d };
-          });
-      count = refl;
-      bound = rw e (omega arith);
-    }
+begun_so d e =
+    let l : d.state.left ≡ 16777216 = ap (λ (p : Page). p.state.left) e in
+    record { input = []; same = e; count = refl; bound = omega (arith, l) }
 
 onward-as : (w : Option Wrong) (r : Run) (b : ℕ) → r.page.state.draft.wrong ≡ w → onward r b ≡ after w r (fed b r.page)
 unfolding onward
@@ -51,14 +38,18 @@ onward-stays : (r : Run) (b : ℕ) → (r.page.state.draft.wrong ≡ None → �
 unfolding onward
 onward-stays r b k = after-wrong r (fed b r.page) k
 
--- a byte does not look at what was written before
-blind : (b : ℕ) (s : State) (text : List ℕ) (ring chain : List ℤ) (out : List ℕ) → fed b (page s text ring chain []) ≡ fed b (page s text ring chain out)
-unfolding fed line_ends
-blind b s text ring chain out = refl
+-- the page as a step finds it: nothing is written yet
+abbrev found : Drawing → Page
+found d = page d.state d.text d.lists.ring d.lists.chain []
 
-blind_end : (s : State) (text : List ℕ) (ring chain : List ℤ) (out : List ℕ) → ends (page s text ring chain []) ≡ ends (page s text ring chain out)
+-- a byte does not look at what was written before
+blind : (b : ℕ) (d : Drawing) → fed b (found d) ≡ fed b (page_of d)
+unfolding fed line_ends
+blind b d = refl
+
+blind_end : (d : Drawing) → ends (found d) ≡ ends (page_of d)
 unfolding ends
-blind_end s text ring chain out = refl
+blind_end d = refl
 
 -- ---- the end comes nearer with each byte
 abbrev near_by : Option Wrong → ℕ → ℕ
@@ -66,7 +57,7 @@ near_by None n = suc n
 near_by (Some w) n = 0
 
 abbrev pub nearer : State → ℕ
-nearer s = near_by s.draft.wrong s.left
+nearer s = near_by (s.draft.wrong) s.left
 
 at_most : (w : Option Wrong) (n m : ℕ) → n < m → near_by w n < suc m
 at_most None n m h = omega arith
@@ -97,17 +88,16 @@ fed-step b p = go (eqb p.state.left 0) (eqb b 10) (p.state.comment || eqb b 35) 
         → (nearer (pages t u v w).state < suc s.left)
         × (length (pages t u v w).out ≤ 1024 → length (pages t u v w).out + 1024 * (pages t u v w).state.left ≤ 1024 * s.left)
     go true u v w e = (omega arith, λ h. omega arith)
-    go false true v w e = (at_most (line_ends p).state.draft.wrong (s.left - 1) s.left (less e), λ h. omega (arith, less e))
-    go false false true w e = (at_most s.draft.wrong (s.left - 1) s.left (less e), λ h. omega (arith, less e))
+    go false true v w e = (at_most ((line_ends p).state.draft.wrong) (s.left - 1) s.left (less e), λ h. omega (arith, less e))
+    go false false true w e = (at_most (s.draft.wrong) (s.left - 1) s.left (less e), λ h. omega (arith, less e))
     go false false false true e = (omega arith, λ h. omega arith)
-    go false false false false e = (at_most s.draft.wrong (s.left - 1) s.left (less e), λ h. omega (arith, less e))
+    go false false false false e = (at_most (s.draft.wrong) (s.left - 1) s.left (less e), λ h. omega (arith, less e))
 
-pub falls : (b : ℕ) (s r : State) {text text' : List ℕ} {ring chain ring' chain' : List ℤ} {out' : List ℕ} → s.draft.wrong ≡ None
-    → Moves (fed b) s text ring chain r text' ring' chain' out' → nearer r < nearer s
-falls b s r {text} {text'} {ring} {chain} {ring'} {chain'} {out'} w m =
-    let q : nearer s ≡ suc s.left = ap (λ (v : Option Wrong). near_by v s.left) w in
-    let a : r ≡ (fed b (page s text ring chain [])).state = ap (λ (p : Page). p.state) m.same in
-    let h : nearer r < suc s.left = rw a (fed-step b (page s text ring chain [])).0 in
+pub falls : (b : ℕ) (d r : Drawing) → d.state.draft.wrong ≡ None → Moves (fed b) d r → nearer r.state < nearer d.state
+falls b d r w m =
+    let q : nearer d.state ≡ suc d.state.left = ap (λ (v : Option Wrong). near_by v d.state.left) w in
+    let a : r.state ≡ (fed b (found d)).state = ap (λ (p : Page). p.state) m in
+    let h : nearer r.state < suc d.state.left = rw a (fed-step b (found d)).0 in
     omega (arith, q, h)
 
 -- ---- whether a run goes on
@@ -127,119 +117,110 @@ part-short : (t : Bool) (out : List ℕ) → length out ≡ 1024 → length (con
 part-short true out h = omega arith
 part-short false out h = omega arith
 
-module _ {s : State} {text : List ℕ} {ring chain : List ℤ} {out : List ℕ} {sent : ℕ} (q : Reached s text ring chain out sent) where
-  wrong_is : (ran q.input).page.state.draft.wrong ≡ s.draft.wrong
+pub one_pair : (d : Drawing) → length (written d) ≤ 1024
+one_pair d = part-short d.state.draft.wrote d.lists.out d.lists.out_long
+
+module _ {d : Drawing} {sent : ℕ} (q : Reached d sent) where
+  wrong_is : (ran q.input).page.state.draft.wrong ≡ d.state.draft.wrong
   wrong_is = ap (λ (p : Page). p.state.draft.wrong) (sym q.same)
 
-  fed_as : (b : ℕ) → fed b (page s text ring chain []) ≡ fed b (ran q.input).page
-  fed_as b = blind b s text ring chain out ∙ ap (fed b) q.same
+  fed_as : (b : ℕ) → fed b (found d) ≡ fed b (ran q.input).page
+  fed_as b = blind b d ∙ ap (fed b) q.same
 
-  pub fed-is : (b : ℕ) → s.draft.wrong ≡ None → fed b (page s text ring chain []) ≡ (ran (b ∷ q.input)).page
+  pub fed-is : (b : ℕ) → d.state.draft.wrong ≡ None → fed b (found d) ≡ (ran (b ∷ q.input)).page
   unfolding ran
   fed-is b e = fed_as b ∙ sym (ap (λ (x : Run). x.page) (onward-as None (ran q.input) b (wrong_is ∙ e)))
 
-  module _ (b : ℕ) {r : State} {text' : List ℕ} {ring' chain' : List ℤ} {out' : List ℕ} (e : s.draft.wrong ≡ None)
-      (m : Moves (fed b) s text ring chain r text' ring' chain' out') where
-    wrote : written r out' ≡ (fed b (ran q.input).page).out
-    wrote = ap (λ (p : Page). p.out) (m.same ∙ fed_as b)
+  module _ (b : ℕ) (r : Drawing) (e : d.state.draft.wrong ≡ None) (m : Moves (fed b) d r) where
+    wrote_so : written r ≡ (fed b (ran q.input).page).out
+    wrote_so = ap (λ (p : Page). p.out) (m ∙ fed_as b)
 
-    pub all : (ran (b ∷ q.input)).blocks ≡ (ran q.input).blocks ++ written r out'
+    pub all : (ran (b ∷ q.input)).blocks ≡ (ran q.input).blocks ++ written r
     unfolding ran
-    all = ap (λ (x : Run). x.blocks) (onward-as None (ran q.input) b (wrong_is ∙ e)) ∙ ap (λ (l : List ℕ). (ran q.input).blocks ++ l) (sym wrote)
+    all = ap (λ (x : Run). x.blocks) (onward-as None (ran q.input) b (wrong_is ∙ e)) ∙ ap (λ (l : List ℕ). (ran q.input).blocks ++ l) (sym wrote_so)
 
-    pub bounded : sent + length (written r out') + 1024 * r.left ≤ 17179869184
+    pub bounded : sent + length (written r) + 1024 * r.state.left ≤ 17179869184
     bounded =
-        let p : Page = page s text ring chain [] in
-        let w : written r out' ≡ (fed b p).out = ap (λ (x : Page). x.out) m.same in
-        let l : r.left ≡ (fed b p).state.left = ap (λ (x : Page). x.state.left) m.same in
-        let h : length (written r out') ≤ 1024 = part-short r.draft.wrote out' m.kept.fine.out_long in
-        let k : length (fed b p).out ≤ 1024 = rw (← w) h in
-        let z : length (written r out') ≡ length (fed b p).out = ap length w in
+        let p : Page = found d in
+        let w : written r ≡ (fed b p).out = ap (λ (x : Page). x.out) m in
+        let l : r.state.left ≡ (fed b p).state.left = ap (λ (x : Page). x.state.left) m in
+        let k : length (fed b p).out ≤ 1024 = rw (← w) (one_pair r) in
+        let z : length (written r) ≡ length (fed b p).out = ap length w in
         omega (arith, (fed-step b p).1 k, q.bound)
 
-    unfoldable pub turned : (sent' : ℕ) → sent' ≡ sent + length (written r out') → Reached r text' ring' chain' out' sent'
+    unfoldable pub turned : (sent' : ℕ) → sent' ≡ sent + length (written r) → Reached r sent'
     turned sent' z =
         record {
           input = b ∷ q.input;
-          same = m.same ∙ fed-is b e;
-          kept = m.kept;
-          count = let n = ap length all ∙ length-append (ran q.input).blocks (written r out') in omega (arith, n, q.count);
+          same = m ∙ fed-is b e;
+          count = let n = ap length all ∙ length-append (ran q.input).blocks (written r) in omega (arith, n, q.count);
           bound = omega (arith, bounded);
         }
 
     -- the byte ended the last line
-    pub line-ended : b ≡ 10 → (sent' : ℕ) → sent' ≡ sent + length (written r out') → LineEnded r text' ring' chain' out' sent'
+    pub line_ended : b ≡ 10 → (sent' : ℕ) → sent' ≡ sent + length (written r) → LineEnded r sent'
     unfolding turned
-    line-ended n sent' z = record { reached = turned sent' z; before = q.input; last = λ j. n j ∷ q.input }
+    line_ended n sent' z = record { reached = turned sent' z; before = q.input; last = λ j. n j ∷ q.input }
 
-    pub sendable : Sendable r out' sent
-    sendable =
-        record {
-          input = b ∷ q.input;
-          ended = false;
-          blocks = ap (λ (p : Page). p.out) (m.same ∙ fed-is b e);
-          long = m.kept.fine.out_long;
-          few = omega (arith, q.bound);
-        }
+    pub sendable : Sendable r sent
+    sendable = record { input = b ∷ q.input; ended = false; blocks = ap (λ (p : Page). p.out) (m ∙ fed-is b e); few = omega (arith, q.bound) }
 
-  stuck : (s.draft.wrong ≡ None → ⊥) → finished q.input ≡ ran q.input
+  stuck : (d.state.draft.wrong ≡ None → ⊥) → finished q.input ≡ ran q.input
   unfolding finished ran
   stuck k =
       let h = onward-stays (ran q.input) 10 (λ z. k (sym wrong_is ∙ z)) in
       after-wrong (onward (ran q.input) 10) (ends (onward (ran q.input) 10).page)
       (λ z. k (sym wrong_is ∙ ap (λ (x : Run). x.page.state.draft.wrong) (sym h) ∙ z)) ∙ h
 
-  pub ends_wrong : (s.draft.wrong ≡ None → ⊥) → (r : Ended) → r ≡ ending s sent → Ends r
+  pub ends_wrong : (d.state.draft.wrong ≡ None → ⊥) → (r : Ended) → r ≡ ending d.state sent → Ends r
   ends_wrong k r e =
-      let x : s ≡ (finished q.input).page.state = ap (λ (p : Page). p.state) q.same ∙ ap (λ (x : Run). x.page.state) (sym (stuck k)) in
+      let x : d.state ≡ (finished q.input).page.state = ap (λ (p : Page). p.state) q.same ∙ ap (λ (x : Run). x.page.state) (sym (stuck k)) in
       let y : sent ≡ length (finished q.input).blocks = q.count ∙ ap (λ (x : Run). length x.blocks) (sym (stuck k)) in
       record { input = q.input; said = e ∙ (λ j. ending (x j) (y j)) }
 
--- ---- the last line ended in state a, of which the bytes are sent
-module _ {a : State} {text : List ℕ} {ring chain : List ℤ} {out : List ℕ} {sent : ℕ} (bs : List ℕ) (q : Reached a text ring chain out sent)
-    (i : q.input ≡ 10 ∷ bs) where
-  last : page a text ring chain out ≡ (ran (10 ∷ bs)).page
+-- ---- the last line ended in a drawing of which the bytes are sent
+module _ {a : Drawing} {sent : ℕ} (bs : List ℕ) (q : Reached a sent) (i : q.input ≡ 10 ∷ bs) where
+  last : page_of a ≡ (ran (10 ∷ bs)).page
   last = q.same ∙ ap (λ (l : List ℕ). (ran l).page) i
 
-  last_wrong : (ran (10 ∷ bs)).page.state.draft.wrong ≡ a.draft.wrong
+  last_wrong : (ran (10 ∷ bs)).page.state.draft.wrong ≡ a.state.draft.wrong
   last_wrong = ap (λ (p : Page). p.state.draft.wrong) (sym last)
 
   counted : sent ≡ length (ran (10 ∷ bs)).blocks
   counted = q.count ∙ ap (λ (l : List ℕ). length (ran l).blocks) i
 
-  bad_last : (a.draft.wrong ≡ None → ⊥) → finished bs ≡ ran (10 ∷ bs)
+  bad_last : (a.state.draft.wrong ≡ None → ⊥) → finished bs ≡ ran (10 ∷ bs)
   unfolding finished
   bad_last k = after-wrong (ran (10 ∷ bs)) (ends (ran (10 ∷ bs)).page) (λ z. k (sym last_wrong ∙ z))
 
-  pub ends_last : (a.draft.wrong ≡ None → ⊥) → (r : Ended) → r ≡ ending a sent → Ends r
+  pub ends_last : (a.state.draft.wrong ≡ None → ⊥) → (r : Ended) → r ≡ ending a.state sent → Ends r
   ends_last k r d =
-      let x : a ≡ (finished bs).page.state = ap (λ (p : Page). p.state) last ∙ ap (λ (x : Run). x.page.state) (sym (bad_last k)) in
+      let x : a.state ≡ (finished bs).page.state = ap (λ (p : Page). p.state) last ∙ ap (λ (x : Run). x.page.state) (sym (bad_last k)) in
       let y : sent ≡ length (finished bs).blocks = counted ∙ ap (λ (x : Run). length x.blocks) (sym (bad_last k)) in
       record { input = bs; said = d ∙ (λ j. ending (x j) (y j)) }
 
-  good_last : a.draft.wrong ≡ None
+  good_last : a.state.draft.wrong ≡ None
       → record { page = ends (ran (10 ∷ bs)).page; blocks = (ran (10 ∷ bs)).blocks ++ (ends (ran (10 ∷ bs)).page).out } ≡ finished bs
   unfolding finished
   good_last k = sym (ap (λ (w : Option Wrong). after w (ran (10 ∷ bs)) (ends (ran (10 ∷ bs)).page)) (last_wrong ∙ k))
 
-  module _ {b : State} {out' : List ℕ} (k : a.draft.wrong ≡ None) (n : Moves ends a text ring chain b text ring chain out') where
-    over : page b text ring chain out' ≡ ends (ran (10 ∷ bs)).page
-    over = n.same ∙ blind_end a text ring chain out ∙ ap ends last
+  module _ (b : Drawing) (k : a.state.draft.wrong ≡ None) (n : Moves ends a b) where
+    over : page_of b ≡ ends (ran (10 ∷ bs)).page
+    over = n ∙ blind_end a ∙ ap ends last
 
-    pub sendable_last : Sendable b out' sent
+    pub sendable_last : Sendable b sent
     sendable_last =
         record {
           input = bs;
           ended = true;
           blocks = ap (λ (p : Page). p.out) over ∙ ap (λ (x : Run). x.page.out) (good_last k);
-          long = n.kept.fine.out_long;
           few = omega (arith, q.bound);
         }
 
-    pub ends_so : (sent' : ℕ) → sent' ≡ sent + length (written b out') → (r : Ended) → r ≡ ending b sent' → Ends r
+    pub ends_so : (sent' : ℕ) → sent' ≡ sent + length (written b) → (r : Ended) → r ≡ ending b.state sent' → Ends r
     ends_so sent' z r d =
-        let x : b ≡ (finished bs).page.state = ap (λ (p : Page). p.state) over ∙ ap (λ (x : Run). x.page.state) (good_last k) in
-        let w : length (written b out') ≡ length (ends (ran (10 ∷ bs)).page).out = ap (λ (p : Page). length p.out) over in
+        let x : b.state ≡ (finished bs).page.state = ap (λ (p : Page). p.state) over ∙ ap (λ (x : Run). x.page.state) (good_last k) in
+        let w : length (written b) ≡ length (ends (ran (10 ∷ bs)).page).out = ap (λ (p : Page). length p.out) over in
         let v = length-append (ran (10 ∷ bs)).blocks (ends (ran (10 ∷ bs)).page).out in
         let u = ap (λ (x : Run). length x.blocks) (good_last k) in
         let y : sent' ≡ length (finished bs).blocks = omega (arith, z, counted, w, v, u) in

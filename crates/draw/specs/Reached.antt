@@ -1,38 +1,37 @@
 -- The loop of `draw`: what holds between two bytes, what it writes, and how it ends. Of what the operating system reads and writes no contract can speak, so the input stands
 -- for the bytes that the loop stepped over, the latest first, and what was written for its length.
-use Rattle.std.specs.Prelude.{ℕ, ◌+◌, ◌*◌, ◌≤◌, ◌≡◌, Bool, cond, Option, Some, None, List, [], ◌∷◌, length, ℤ}
+use Rattle.std.specs.Prelude.{ℕ, ◌+◌, ◌*◌, ◌≤◌, ◌≡◌, Bool, cond, Option, Some, None, List, [], ◌∷◌, length}
 use Rattle.drawing.specs.declared.State.{State}
-use Rattle.drawing.specs.Page.{page, ran, finished, Kept}
+use Rattle.drawing.specs.declared.held.Drawing.{Drawing}
+use Rattle.drawing.specs.Page.{page_of, ran, finished}
 use Rattle.drawing.specs.declared.Wrong.{Wrong}
 use Rattle.drawing.specs.declared.Wrong.TheVariants.{Refused, Misread, NoRing, RingFull, ChainFull, SecondChain, LongLine, LongText}
 use Rattle.draw.specs.declared.Bad.{Bad}
 use Rattle.draw.specs.declared.Ended.{Ended}
 
 -- what a step wrote
-abbrev pub written : State → List ℕ → List ℕ
-written s out = cond s.draft.wrote out []
+abbrev pub written : Drawing → List ℕ
+written d = cond d.state.draft.wrote d.lists.out []
 
--- the state and the lists are those of a run over the input, and as many bytes were written as it has blocks for
-pub record Reached (s : State) (text : List ℕ) (ring chain : List ℤ) (out : List ℕ) (sent : ℕ) : Type 0 where
+-- the drawing is that of a run over the input, and as many bytes were written as it has blocks for
+pub record Reached (d : Drawing) (sent : ℕ) : Type 0 where
   pub input : List ℕ
-  pub same : page s text ring chain out ≡ (ran input).page
-  pub kept : Kept s text ring chain out
+  pub same : page_of d ≡ (ran input).page
   pub count : sent ≡ length (ran input).blocks
   -- a byte writes one pair at most
-  pub bound : sent + 1024 * s.left ≤ 17179869184
+  pub bound : sent + 1024 * d.state.left ≤ 17179869184
 
 -- the last of these bytes ended the last line
-pub record LineEnded (s : State) (text : List ℕ) (ring chain : List ℤ) (out : List ℕ) (sent : ℕ) : Type 0 where
-  pub reached : Reached s text ring chain out sent
+pub record LineEnded (d : Drawing) (sent : ℕ) : Type 0 where
+  pub reached : Reached d sent
   pub before : List ℕ
   pub last : reached.input ≡ 10 ∷ before
 
 -- what is written after a step are the blocks of that step, of a run that goes on or has ended
-pub record Sendable (s : State) (out : List ℕ) (sent : ℕ) : Type 0 where
+pub record Sendable (d : Drawing) (sent : ℕ) : Type 0 where
   pub input : List ℕ
   pub ended : Bool
-  pub blocks : written s out ≡ cond ended (finished input).page.out (ran input).page.out
-  pub long : length out ≡ 1024
+  pub blocks : written d ≡ cond ended (finished input).page.out (ran input).page.out
   pub few : sent ≤ 17179869184
 
 -- what is said at the end: what is wrong, with the line; of a ring as a whole, the line that it begins at

@@ -2,8 +2,8 @@
 //
 // The text is read byte by byte and stepped over by drawing, whose `drawn` says what comes out for every text. A pair of blocks
 // is written as soon as its ring is complete. Where a line is bad the run ends, and `line N: what is expected` stands on
-// standard error, in the words that `said`, in specs/Said, has for its number. The loop's invariant is that the state and the
-// lists are those of the bytes read so far.
+// standard error, in the words that `said`, in specs/Said, has for its number. The loop's invariant is that the drawing is that
+// of the bytes read so far.
 
 #![tactic(auto)]
 
@@ -14,7 +14,7 @@ ghost use Rattle.drawing.specs.declared.Wrong.TheVariants.{Refused, Misread};
 ghost use Rattle.draw.specs.Reached.{Reached, LineEnded, Sendable, Ends, ending, line_of, written};
 ghost use Rattle.draw.specs.Said.{came_to, said, number_of_cut};
 
-use drawing::{State, Wrong};
+use drawing::{Drawing, State, Wrong};
 use lines::Fault;
 use std::io;
 use std::io::{Read, Write};
@@ -29,8 +29,12 @@ enum Cut {
 }
 
 impl From<WriteFailed> for Cut {
+    ghost use Rattle.draw.specs.declared.Cut.TheVariants.{Writing};
+
+    ghost from_gives = { λ failed cut. cut ≡ Writing };
+
     fn from(_: WriteFailed) -> Cut {
-        Cut::Writing
+        Self::Writing
     }
 }
 
@@ -62,13 +66,10 @@ fn line_of(s: State, wrong: Wrong) -> u32
 fn end_of(s: State, sent: u64) -> Ended
     ensures { result ≡ ending s sent }
 {
-    let bad = match s.draft.wrong {
-        None => None,
-        Some(wrong) => Some(Bad {
-            wrong,
-            line: line_of(s, wrong),
-        }),
-    };
+    let bad = s.draft.wrong.map(|wrong| Bad {
+        wrong,
+        line: line_of(s, wrong),
+    });
     Ended { bad, sent }
 }
 
@@ -85,106 +86,74 @@ fn came_to(got: io::Result<usize>, byte: &[u8]) -> Result<Option<u8>, Cut>
 }
 
 // Reads the next byte.
-fn read_byte<R: Read>(input: &mut R, byte: &mut [u8]) -> Result<Option<u8>, Cut> {
-    let got = input.read(byte);
-    came_to(got, byte)
+fn read_byte<R: Read>(input: &mut R) -> Result<Option<u8>, Cut> {
+    let mut byte = [0u8; 1];
+    let got = input.read(&mut byte);
+    came_to(got, &byte)
 }
 
 // Writes the pair that the last step completed, if it did, after `sent` bytes.
-fn send<W: Write>(output: &mut W, s: State, out: &[u8], sent: &mut u64) -> Result<(), Cut>
-    requires { Sendable s out.now sent.old }
-    ensures { OnOk result (sent.new ≡ sent.old + length (written s out.now)) }
+fn send<W: Write>(output: &mut W, d: &Drawing, sent: &mut u64) -> Result<(), Cut>
+    requires { Sendable d.now sent.old }
+    ensures { OnOk result (sent.new ≡ sent.old + length (written d.now)) }
 {
-    if s.draft.wrote {
-        stream::write_counted(output, out, sent)?;
+    if d.state.draft.wrote {
+        stream::write_counted(output, &d.lists.out, sent)?;
     }
     Ok(())
 }
 
 // Steps over one byte, and writes the pair that it completes.
-fn take<W: Write>(
-    output: &mut W,
-    s: State,
-    b: u8,
-    text: &mut [u8],
-    ring: &mut [i32],
-    chain: &mut [i32],
-    out: &mut [u8],
-    sent: &mut u64,
-) -> Result<State, Cut>
-    requires { Reached s text.old ring.old chain.old out.old sent.old × (s.draft.wrong ≡ None) }
-    ensures steps { IfOk result (λ r. Page.Moves (Page.fed b) s text.old ring.old chain.old r text.new
-        ring.new chain.new out.new) }
-    ensures count { IfOk result (λ r. sent.new ≡ sent.old + length (written r out.new)) }
+fn take<W: Write>(output: &mut W, d: &mut Drawing, b: u8, sent: &mut u64) -> Result<(), Cut>
+    requires { Reached d.old sent.old × (d.old.state.draft.wrong ≡ None) }
+    ensures steps { OnOk result (Page.Moves (Page.fed b) d.old d.new) }
+    ensures count { OnOk result (sent.new ≡ sent.old + length (written d.new)) }
 {
-    let state = drawing::feed(s, b, text, ring, chain, out);
-    send(output, state, out, sent)?;
-    Ok(state)
+    d.feed(b);
+    send(output, d, sent)
 }
 
 // The last line has ended, and with it the text.
-fn close<W: Write>(
-    output: &mut W,
-    a: State,
-    text: &[u8],
-    ring: &[i32],
-    chain: &[i32],
-    out: &mut [u8],
-    sent: &mut u64,
-) -> Result<Ended, Cut>
-    requires { LineEnded a text.now ring.now chain.now out.old sent.old × (a.draft.wrong ≡ None) }
+fn close<W: Write>(output: &mut W, d: &mut Drawing, sent: &mut u64) -> Result<Ended, Cut>
+    requires { LineEnded d.old sent.old × (d.old.state.draft.wrong ≡ None) }
     ensures { IfOk result Ends }
 {
-    let b = drawing::finish(a, text, ring, chain, out);
-    send(output, b, out, sent)?;
-    Ok(end_of(b, *sent))
+    d.finish();
+    send(output, d, sent)?;
+    Ok(end_of(d.state, *sent))
 }
 
 // All is read: the last line ends, and then the text.
-fn finish<W: Write>(
-    output: &mut W,
-    s: State,
-    text: &mut [u8],
-    ring: &mut [i32],
-    chain: &mut [i32],
-    out: &mut [u8],
-    sent: &mut u64,
-) -> Result<Ended, Cut>
-    requires { Reached s text.old ring.old chain.old out.old sent.old × (s.draft.wrong ≡ None) }
+fn finish<W: Write>(output: &mut W, d: &mut Drawing, sent: &mut u64) -> Result<Ended, Cut>
+    requires { Reached d.old sent.old × (d.old.state.draft.wrong ≡ None) }
     ensures { IfOk result Ends }
 {
-    let a = take(output, s, b'\n', text, ring, chain, out, sent)?;
-    match a.draft.wrong {
-        None => close(output, a, text, ring, chain, out, sent),
-        Some(_) => Ok(end_of(a, *sent)),
+    take(output, d, b'\n', sent)?;
+    match d.state.draft.wrong {
+        None => close(output, d, sent),
+        Some(_) => Ok(end_of(d.state, *sent)),
     }
 }
 
 // The whole run.
+#[tactic(auto, using(crate::proofs::Reaching::begun_so, crate::proofs::Reaching::turned, crate::proofs::Reaching::falls, crate::proofs::Reaching::goes_on))]
 fn draw<R: Read, W: Write>(input: &mut R, output: &mut W) -> Result<Ended, Cut>
     ensures { IfOk result Ends }
 {
-    let mut text = [0u8; 80];
-    let mut ring = [0i32; 120];
-    let mut chain = [0i32; 120];
-    let mut out = [0u8; 1024];
-    let mut byte = [0u8; 1];
-    let mut s = State::new();
+    let mut d = Drawing::new();
     let mut sent: u64 = 0;
-    while s.draft.wrong.is_none() {
-        let Some(b) = read_byte(input, &mut byte)? else {
-            return finish(
-                output, s, &mut text, &mut ring, &mut chain, &mut out, &mut sent,
-            );
+    // Kept: the state says when the run ends; no list is gone over, but a byte is read at each turn, and a read can fail.
+    while d.state.draft.wrong.is_none() {
+        let Some(b) = read_byte(input)? else {
+            return finish(output, &mut d, &mut sent);
         };
-        s = take(
-            output, s, b, &mut text, &mut ring, &mut chain, &mut out, &mut sent,
-        )?;
+        take(output, &mut d, b, &mut sent)?;
     }
-    Ok(end_of(s, sent))
+    Ok(end_of(d.state, sent))
 }
 
 // The words for what the writer refuses. No coordinate that a line says is off the sheet, so that 2 has no words of its own.
+#[tactic(auto, unfolding(crate::specs::Said::said, crate::specs::Said::said_more, text::specs::Text::bytes))]
 fn refused_words(refusal: Refusal) -> &'static [u8]
     ensures { result.now ≡ said (number_of (Refused refusal)) }
 {
@@ -195,6 +164,7 @@ fn refused_words(refusal: Refusal) -> &'static [u8]
     }
 }
 
+#[tactic(auto, unfolding(crate::specs::Said::said, crate::specs::Said::said_more, text::specs::Text::bytes))]
 fn misread_words(fault: Fault) -> &'static [u8]
     ensures { result.now ≡ said (number_of (Misread fault)) }
 {
@@ -208,6 +178,7 @@ fn misread_words(fault: Fault) -> &'static [u8]
 }
 
 // The words for what is wrong.
+#[tactic(auto, unfolding(crate::specs::Said::said, crate::specs::Said::said_more, text::specs::Text::bytes))]
 fn words(wrong: Wrong) -> &'static [u8]
     ensures { result.now ≡ said (number_of wrong) }
 {
@@ -223,6 +194,7 @@ fn words(wrong: Wrong) -> &'static [u8]
     }
 }
 
+#[tactic(auto, unfolding(crate::specs::Said::said, crate::specs::Said::said_more, text::specs::Text::bytes))]
 fn cut_words(cut: Cut) -> &'static [u8]
     ensures { result.now ≡ said (number_of_cut cut) }
 {

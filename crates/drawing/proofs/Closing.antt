@@ -16,7 +16,7 @@ use Rattle.drawing.specs.declared.Wrong.TheVariants.{Refused}
 use Rattle.drawing.specs.declared.Phase.{Phase}
 use Rattle.drawing.specs.declared.Phase.TheVariants.{Closed, Ring, Chain}
 use Rattle.drawing.specs.declared.Draft.{Draft}
-use Rattle.drawing.specs.Drawing.{Drawn, before, failed, still, complete, closed_of, closes_at, closes, begun_of, afresh, begins, Fine, Does}
+use Rattle.drawing.specs.Drawing.{Drawn, before, failed, still, complete, closed_of, closes_at, closes, begun_of, afresh, begins, Fine, Did}
 
 -- a ring is open
 pub opened : (d : Drawn) → (d.draft.phase ≡ Closed → ⊥) → closes d ≡ complete (tested d.ring d.chain d.draft.size d.draft.block 1024) d
@@ -28,21 +28,21 @@ opened d k = go d.draft.phase k
     go Ring k = refl
     go Chain k = refl
 
-module _ (o : Draft) (ring chain : List ℤ) (out : List ℕ) (f : Fine o ring chain out) where
+module _ (o : Draft) (ring chain : List ℤ) (out : List ℕ) (f : Fine o) where
   abbrev D : Drawn
   D = before o ring chain
 
-  pub closes-none : (r : Draft) → o.phase ≡ Closed → r ≡ still o → Does closes o ring chain r ring chain out
+  pub closes_none : (r : Draft) → o.phase ≡ Closed → r ≡ still o → Did closes o ring chain r ring chain out
   unfolding closes
-  closes-none r p e =
+  closes_none r p e =
       rw e
       (record {
         same = rw p;
-        fine = record { corners = f.corners; run = f.run; block = f.block; ring_long = f.ring_long; chain_long = f.chain_long; out_long = f.out_long };
+        fine = record { corners = f.corners; run = f.run; block = f.block };
       })
 
   -- the writer was asked
-  module _ (k : o.phase ≡ Closed → ⊥) (t : Result (Unit {0}) Refusal)
+  module _ (out_long : length out ≡ 1024) (k : o.phase ≡ Closed → ⊥) (t : Result (Unit {0}) Refusal)
       (asked : t ≡ tested (take (o.corners * 2) ring) (take (o.run * 2) chain) o.size o.block (length out))
     where
       abbrev R : List ℤ
@@ -54,15 +54,15 @@ module _ (o : Draft) (ring chain : List ℤ) (out : List ℕ) (f : Fine o ring c
       answered : closes D ≡ complete t D
       answered =
           opened D k ∙ ap (λ (u : Result (Unit {0}) Refusal). complete u D)
-          (ap (λ (n : ℕ). tested R C o.size o.block n) (sym f.out_long) ∙ sym asked)
+          (ap (λ (n : ℕ). tested R C o.size o.block n) (sym out_long) ∙ sym asked)
 
-      pub closes-refused : (r : Draft) (w : Refusal) (out' : List ℕ) → t ≡ Err w → r ≡ failed o (Refused w) → length out' ≡ 1024
-          → Does closes o ring chain r ring chain out'
-      closes-refused r w out' z e l =
+      pub closes_refused : (r : Draft) (w : Refusal) (out' : List ℕ) → t ≡ Err w → r ≡ failed o (Refused w)
+          → Did closes o ring chain r ring chain out'
+      closes_refused r w out' z e =
           rw e
           (record {
             same = sym (answered ∙ ap (λ (u : Result (Unit {0}) Refusal). complete u D) z);
-            fine = record { corners = f.corners; run = f.run; block = f.block; ring_long = f.ring_long; chain_long = f.chain_long; out_long = l };
+            fine = record { corners = f.corners; run = f.run; block = f.block };
           })
 
       module _ (z : t ≡ Ok tt) where
@@ -72,12 +72,12 @@ module _ (o : Draft) (ring chain : List ℤ) (out : List ℕ) (f : Fine o ring c
         pair-alone : written R C o.size o.block out ≡ pair_bytes R C o.size o.block
         unfolding written
         pair-alone =
-            let e : drop 1024 out ≡ [] = ap (λ (n : ℕ). drop n out) (sym f.out_long) ∙ drop-length out in
+            let e : drop 1024 out ≡ [] = ap (λ (n : ℕ). drop n out) (sym out_long) ∙ drop-length out in
             rw (passes, e) (append-nil (pair_bytes R C o.size o.block))
 
-        pub closes-written : (out' : List ℕ) → out' ≡ written R C o.size o.block out → length out' ≡ 1024
-            → Does closes o ring chain (closed_of o) ring chain out'
-        closes-written out' w l =
+        pub closes_written : (out' : List ℕ) → out' ≡ written R C o.size o.block out
+            → Did closes o ring chain (closed_of o) ring chain out'
+        closes_written out' w =
             record {
               same =
                   ap (λ (b : List ℕ). record { draft = closed_of o; ring = []; chain = []; out = b }) (w ∙ pair-alone)
@@ -87,23 +87,26 @@ module _ (o : Draft) (ring chain : List ℤ) (out : List ℕ) (f : Fine o ring c
                     corners = omega arith;
                     run = omega arith;
                     block = omega (arith, low-number R C o.size o.block (length out) passes);
-                    ring_long = f.ring_long;
-                    chain_long = f.chain_long;
-                    out_long = l;
                   };
             }
 
+module _ (o : Draft) (ring chain : List ℤ) (out : List ℕ) (f : Fine o) where
+  pub closes_passed : length out ≡ 1024 → (o.phase ≡ Closed → ⊥) → (u : Unit {0})
+      → Ok u ≡ tested (take (o.corners * 2) ring) (take (o.run * 2) chain) o.size o.block (length out) → (out' : List ℕ)
+      → out' ≡ written (take (o.corners * 2) ring) (take (o.run * 2) chain) o.size o.block out → Did closes o ring chain (closed_of o) ring chain out'
+  closes_passed l k u e out' w = closes_written o ring chain out f l k (Ok u) e refl out' w
+
 -- ---- the ring that begins
-module _ (n size : ℕ) (o : Draft) (ring chain : List ℤ) (c : Draft) (out' : List ℕ) (d : Does closes o ring chain c ring chain out') where
+module _ (n size : ℕ) (o : Draft) (ring chain : List ℤ) (c : Draft) (out' : List ℕ) (d : Did closes o ring chain c ring chain out') where
   wrong_is : (w : Option Wrong) → c.wrong ≡ w → begins n size (before o ring chain) ≡ afresh w n size (closes (before o ring chain))
   unfolding begins
   wrong_is w e =
       ap (λ (v : Option Wrong). afresh v n size (closes (before o ring chain))) (ap (λ (x : Drawn). x.draft.wrong) (sym d.same) ∙ e)
 
-  pub begins-not : (w : Wrong) → c.wrong ≡ Some w → Does (begins n size) o ring chain c ring chain out'
-  begins-not w e = record { same = d.same ∙ sym (wrong_is (Some w) e); fine = d.fine }
+  pub begins_not : (w : Wrong) → c.wrong ≡ Some w → Did (begins n size) o ring chain c ring chain out'
+  begins_not w e = record { same = d.same ∙ sym (wrong_is (Some w) e); fine = d.fine }
 
-  pub begins_so : c.wrong ≡ None → Does (begins n size) o ring chain (begun_of n size c) ring chain out'
+  pub begins_so : c.wrong ≡ None → Did (begins n size) o ring chain (begun_of n size c) ring chain out'
   begins_so e =
       record {
         same = ap (afresh None n size) d.same ∙ sym (wrong_is None e);
@@ -112,8 +115,5 @@ module _ (n size : ℕ) (o : Draft) (ring chain : List ℤ) (c : Draft) (out' : 
               corners = omega arith;
               run = omega arith;
               block = d.fine.block;
-              ring_long = d.fine.ring_long;
-              chain_long = d.fine.chain_long;
-              out_long = d.fine.out_long;
             };
       }

@@ -4,62 +4,62 @@ use mathlib.Core.Path.{◌≡◌}
 use mathlib.Core.Bool.{false}
 use mathlib.Core.List.{List, ◌++◌}
 use native.Mathlib.Omega.{arith}
-use lib.ListN.{length, take}
+use lib.ListN.{take}
 use lib.IntN.{ℤ}
 use borrow.Author.Tests.{eq-eqb, ne_eqb}
 use Rattle.drawing.specs.declared.Wrong.TheVariants.{NoRing, RingFull, ChainFull}
 use Rattle.drawing.specs.declared.Phase.TheVariants.{Closed, Ring, Chain}
 use Rattle.drawing.specs.declared.Draft.{Draft}
-use Rattle.drawing.specs.Drawing.{point_of, failed, points, Fine, Does}
+use Rattle.drawing.specs.Drawing.{point_of, failed, points, Fine, Did}
 
-module _ (x y : ℤ) (o : Draft) (ring chain : List ℤ) (out : List ℕ) (f : Fine o ring chain out) where
-  pub not_open : (r : Draft) → o.phase ≡ Closed → r ≡ failed o NoRing → Does (points x y) o ring chain r ring chain out
+module _ (x y : ℤ) (o : Draft) (ring chain : List ℤ) (out : List ℕ) (f : Fine o) where
+  pub not_open : (r : Draft) → o.phase ≡ Closed → r ≡ failed o NoRing → Did (points x y) o ring chain r ring chain out
   unfolding points
   not_open r p e =
       rw e
       (record {
         same = rw p;
-        fine = record { corners = f.corners; run = f.run; block = f.block; ring_long = f.ring_long; chain_long = f.chain_long; out_long = f.out_long };
+        fine = record { corners = f.corners; run = f.run; block = f.block };
       })
 
   module _ (p : o.phase ≡ Ring) (ring' : List ℤ) where
-    pub ring_full : (r : Draft) → (o.corners ≡ 60) × (ring' ≡ ring) → r ≡ failed o RingFull → Does (points x y) o ring chain r ring' chain out
+    pub ring_full : (r : Draft) → (o.corners ≡ 60) × (ring' ≡ ring) → r ≡ failed o RingFull → Did (points x y) o ring chain r ring' chain out
     unfolding points
     ring_full r q e =
         rw (e, q.1)
         (record {
           same = rw (p, eq-eqb o.corners 60 q.0);
-          fine = record { corners = f.corners; run = f.run; block = f.block; ring_long = f.ring_long; chain_long = f.chain_long; out_long = f.out_long };
+          fine = record { corners = f.corners; run = f.run; block = f.block };
         })
 
-    pub ring-more : (m : ℕ) → (o.corners < 60) × (m ≡ o.corners + 1) × (take ((o.corners + 1) * 2) ring' ≡ take (o.corners * 2) ring ++ point_of x y)
-        → length ring' ≡ 120 → Does (points x y) o ring chain (record o { corners = m; wrote = false }) ring' chain out
+    pub ring_more : (m : ℕ) → (o.corners < 60) × (m ≡ o.corners + 1) × (take ((o.corners + 1) * 2) ring' ≡ take (o.corners * 2) ring ++ point_of x y)
+        → Did (points x y) o ring chain (record o { corners = m; wrote = false }) ring' chain out
     unfolding points
-    ring-more m q l =
+    ring_more m q =
         rw q.1
         (record {
           same = rw (p, ne_eqb o.corners 60 (λ z. omega (arith, z, q.0)), q.2);
           fine =
-              record { corners = omega (arith, q.0); run = f.run; block = f.block; ring_long = l; chain_long = f.chain_long; out_long = f.out_long };
+              record { corners = omega (arith, q.0); run = f.run; block = f.block };
         })
 
   module _ (p : o.phase ≡ Chain) (chain' : List ℤ) where
-    pub chain_full : (r : Draft) → (o.run ≡ 60) × (chain' ≡ chain) → r ≡ failed o ChainFull → Does (points x y) o ring chain r ring chain' out
+    pub chain_full : (r : Draft) → (o.run ≡ 60) × (chain' ≡ chain) → r ≡ failed o ChainFull → Did (points x y) o ring chain r ring chain' out
     unfolding points
     chain_full r q e =
         rw (e, q.1)
         (record {
           same = rw (p, eq-eqb o.run 60 q.0);
-          fine = record { corners = f.corners; run = f.run; block = f.block; ring_long = f.ring_long; chain_long = f.chain_long; out_long = f.out_long };
+          fine = record { corners = f.corners; run = f.run; block = f.block };
         })
 
     pub chain_more : (m : ℕ) → (o.run < 60) × (m ≡ o.run + 1) × (take ((o.run + 1) * 2) chain' ≡ take (o.run * 2) chain ++ point_of x y)
-        → length chain' ≡ 120 → Does (points x y) o ring chain (record o { run = m; wrote = false }) ring chain' out
+        → Did (points x y) o ring chain (record o { run = m; wrote = false }) ring chain' out
     unfolding points
-    chain_more m q l =
+    chain_more m q =
         rw q.1
         (record {
           same = rw (p, ne_eqb o.run 60 (λ z. omega (arith, z, q.0)), q.2);
           fine =
-              record { corners = f.corners; run = omega (arith, q.0); block = f.block; ring_long = f.ring_long; chain_long = l; out_long = f.out_long };
+              record { corners = f.corners; run = omega (arith, q.0); block = f.block };
         })

@@ -29,8 +29,8 @@ use Rattle.drawing.proofs.Closing.{opened}
 
 -- what the blocks of a complete ring read as
 pub record ReadsAs (d : Drawn) (bytes : List ℕ) : Type 0 where
-  pub ring_read : read_block (take 512 bytes) d.draft.block ≡ record { block = Ring (length d.ring / 2) d.draft.size; points = padded d.ring }
-  pub chain_read : read_block (take 512 (drop 512 bytes)) (d.draft.block + 1) ≡ record { block = Chain (length d.chain / 2); points = padded d.chain }
+  pub ring_read : read_block (take 512 bytes) d.draft.block ≡ Ok (record { block = Ring (length d.ring / 2) d.draft.size; points = padded d.ring })
+  pub chain_read : read_block (take 512 (drop 512 bytes)) (d.draft.block + 1) ≡ Ok (record { block = Chain (length d.chain / 2); points = padded d.chain })
   pub ring_same : take (2 * (length d.ring / 2)) (padded d.ring) ≡ d.ring
   pub chain_same : take (2 * (length d.chain / 2)) (padded d.chain) ≡ d.chain
 

@@ -1,5 +1,5 @@
 -- A drawing line by line: what a line adds to the ring that is open, and the blocks of a ring that is complete. Definitions only.
-use Rattle.std.specs.Prelude.{ℕ, ◌+◌, ◌*◌, ◌≤◌, ◌<◌, ◌≡◌, true, false, cond, Option, Some, None, Ok, Err, List, [], ◌∷◌, ◌++◌, length, take, eqb, ℤ}
+use Rattle.std.specs.Prelude.{ℕ, ◌+◌, ◌*◌, ◌≤◌, ◌<◌, ◌≡◌, true, false, cond, Option, Some, None, Ok, Err, List, [], ◌∷◌, ◌++◌, take, eqb, ℤ}
 use Rattle.std.specs.declared.result.Result.{Result}
 use Rattle.lines.specs.declared.Line.{Line}
 use Rattle.lines.specs.declared.Line.TheVariants.{Nothing, Ring as RingLine, Chain as ChainLine, Point}
@@ -13,6 +13,7 @@ use Rattle.drawing.specs.declared.Wrong.TheVariants.{Refused, Misread, NoRing, R
 use Rattle.drawing.specs.declared.Phase.{Phase}
 use Rattle.drawing.specs.declared.Phase.TheVariants.{Closed, Ring, Chain}
 use Rattle.drawing.specs.declared.Draft.{Draft}
+use Rattle.drawing.specs.declared.held.Lists.{Lists}
 
 -- the number that is said of what is wrong; 0 where nothing is
 abbrev pub number_of : Wrong → ℕ
@@ -36,7 +37,7 @@ pub record Drawn : Type 0 where
   pub chain : List ℤ
   pub out : List ℕ
 
--- what is kept as numbers and in lent lists, as such a record: so many points of the places, and the pair where one was written
+-- what is kept as numbers and in lists, as such a record: so many points of the places, and the pair where one was written
 abbrev pub shows : Draft → List ℤ → List ℤ → List ℕ → Drawn
 shows o ring chain out = record { draft = o; ring = take (o.corners * 2) ring; chain = take (o.run * 2) chain; out = cond o.wrote out [] }
 
@@ -129,19 +130,19 @@ takes n (Ok (RingLine size)) d = begins n size d
 takes n (Ok ChainLine) d = chains d
 takes n (Ok (Point x y)) d = points x y d
 
--- what the code's numbers and lists keep to
-pub record Fine (o : Draft) (ring chain : List ℤ) (out : List ℕ) : Type 0 where
+-- what the code's numbers keep to
+pub record Fine (o : Draft) : Type 0 where
   pub corners : o.corners ≤ 60
   pub run : o.run ≤ 60
   pub block : o.block ≤ 65536
-  pub ring_long : length ring ≡ 120
-  pub chain_long : length chain ≡ 120
-  pub out_long : length out ≡ 1024
 
--- a step of the code did f
-pub record Does (f : Drawn → Drawn) (o : Draft) (ring chain : List ℤ) (r : Draft) (ring' chain' : List ℤ) (out' : List ℕ) : Type 0 where
+-- a step of the code did f, from some lists to others
+pub record Did (f : Drawn → Drawn) (o : Draft) (ring chain : List ℤ) (r : Draft) (ring' chain' : List ℤ) (out' : List ℕ) : Type 0 where
   pub same : shows r ring' chain' out' ≡ f (before o ring chain)
-  pub fine : Fine r ring' chain' out'
+  pub fine : Fine r
+
+abbrev pub Does : (Drawn → Drawn) → Draft → Lists → Draft → Lists → Type 0
+Does f o l r l' = Did f o l.ring l.chain r l'.ring l'.chain l'.out
 
 -- a point was put behind n others, or there was no room
 abbrev pub Puts : ℕ → ℤ → ℤ → List ℤ → Option ℕ → List ℤ → Type 0

@@ -1,12 +1,13 @@
 -- A drawing byte by byte, and as a whole: from the bytes of a text to those of its blocks. Definitions only.
-use Rattle.std.specs.Prelude.{ℕ, ◌+◌, ◌-◌, ◌*◌, ◌≤◌, ◌≡◌, Bool, true, false, ◌||◌, cond, Option, Some, None, List, [], ◌∷◌, ◌++◌, length, take, eqb, ℤ}
+use Rattle.std.specs.Prelude.{ℕ, ◌+◌, ◌-◌, ◌*◌, ◌≡◌, Bool, true, false, ◌||◌, cond, Option, Some, None, List, [], ◌∷◌, ◌++◌, take, eqb, ℤ}
 use Rattle.lines.specs.Line.{heard}
 use Rattle.drawing.specs.declared.Wrong.{Wrong}
 use Rattle.drawing.specs.declared.Wrong.TheVariants.{LongLine, LongText}
 use Rattle.drawing.specs.declared.Phase.TheVariants.{Closed}
 use Rattle.drawing.specs.declared.Draft.{Draft}
+use Rattle.drawing.specs.declared.held.Drawing.{Drawing}
 use Rattle.drawing.specs.declared.State.{State}
-use Rattle.drawing.specs.Drawing.{Drawn, said_of, failed, still, closes, takes, Fine}
+use Rattle.drawing.specs.Drawing.{Drawn, said_of, failed, still, closes, takes}
 
 -- what stands between two bytes: the numbers, the bytes of the line so far, the points of the open ring and of its chain, and the blocks that the last byte
 -- wrote
@@ -26,6 +27,9 @@ page s text ring chain out =
       chain = take (s.draft.run * 2) chain;
       out = cond s.draft.wrote out [];
     }
+
+abbrev pub page_of : Drawing → Page
+page_of d = page d.state d.text d.lists.ring d.lists.chain d.lists.out
 
 abbrev pub drawn_of : Page → Drawn
 drawn_of p = record { draft = p.state.draft; ring = p.ring; chain = p.chain; out = [] }
@@ -132,15 +136,9 @@ drawn t = (finished (latest_first [] t)).blocks
 unfoldable pub wrong_with : List ℕ → ℕ
 wrong_with t = said_of (finished (latest_first [] t)).page.state.draft.wrong
 
--- what the code's numbers and lists keep to
-pub record Kept (s : State) (text : List ℕ) (ring chain : List ℤ) (out : List ℕ) : Type 0 where
-  pub short : s.length ≤ 80
-  pub lines : s.line + s.left ≤ 16777217
-  pub text_long : length text ≡ 80
-  pub fine : Fine s.draft ring chain out
+-- a step of the code did f, from some lists to others
+abbrev pub Moved : (Page → Page) → State → List ℕ → List ℤ → List ℤ → State → List ℕ → List ℤ → List ℤ → List ℕ → Type 0
+Moved f s text ring chain r text' ring' chain' out' = page r text' ring' chain' out' ≡ f (page s text ring chain [])
 
--- a step of the code did f
-pub record Moves (f : Page → Page) (s : State) (text : List ℕ) (ring chain : List ℤ) (r : State) (text' : List ℕ) (ring' chain' : List ℤ) (out' : List ℕ) :
-    Type 0 where
-  pub same : page r text' ring' chain' out' ≡ f (page s text ring chain [])
-  pub kept : Kept r text' ring' chain' out'
+abbrev pub Moves : (Page → Page) → Drawing → Drawing → Type 0
+Moves f d r = Moved f d.state d.text d.lists.ring d.lists.chain r.state r.text r.lists.ring r.lists.chain r.lists.out

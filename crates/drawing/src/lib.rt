@@ -2,15 +2,18 @@
 // front of the way of a ring, and below the program `draw` that reads and writes.
 //
 // specs/Drawing says what comes out as one definition, `fed`, from a byte to what is kept and written. A ring is complete where
-// the next one begins or the text ends; only then is its pair of blocks written. The points of the open ring and of its chain
-// stand in lists that the caller lends, 60 places each, x and y in turn, and so do the bytes of the line and of the pair.
+// the next one begins or the text ends; only then is its pair of blocks written. A `Drawing` holds the points of the open ring
+// and of its chain, the bytes of the line and those of the pair.
 
 #![tactic(auto)]
 
-ghost use Rattle.std.specs.Prelude.{◌≡◌, [], ◌∷◌, ◌++◌, ◌+◌, ◌*◌, ◌≤◌, ◌<◌, length, take};
-ghost use Rattle.drawing.specs.Drawing as Drawing;
+ghost use Rattle.std.specs.Prelude.{◌≡◌, ◌+◌, ◌*◌, ◌≤◌, ◌<◌, length};
+ghost use Rattle.drawing.specs.Drawing as Draws;
 ghost use Rattle.drawing.specs.Page as Page;
 
+mod held;
+
+pub use held::{Drawing, Lists};
 use lines::{Fault, Line};
 use writer::Refusal;
 
@@ -28,14 +31,14 @@ pub enum Wrong {
     LongText,
 }
 
-impl Wrong {
-    // The number that is said of it.
-    pub fn number(self) -> u32
-        ensures { result ≡ Drawing.number_of self }
-    {
-        match self {
-            Wrong::Refused(refusal) => refusal.number() as u32,
-            Wrong::Misread(fault) => fault.number(),
+// The number that is said of it.
+impl From<Wrong> for u32 {
+    ghost from_gives = { λ wrong n. n ≡ Draws.number_of wrong };
+
+    fn from(wrong: Wrong) -> u32 {
+        match wrong {
+            Wrong::Refused(refusal) => u64::from(refusal) as u32,
+            Wrong::Misread(fault) => u32::from(fault),
             Wrong::NoRing => 24,
             Wrong::RingFull => 25,
             Wrong::ChainFull => 26,
@@ -81,6 +84,7 @@ pub enum Phase {
 
 // The ring that is open: the line that it begins at; its sheet size and how many points there are of it and of its chain; the
 // number of its block; what is wrong, if something is; and whether the last step wrote a pair.
+// Kept: a step from a drawing with something wrong may write a pair too, so that one enum for `wrong` and `wrote` would say less.
 #[derive(Clone, Copy)]
 pub struct Draft {
     pub began: u32,
@@ -96,7 +100,7 @@ pub struct Draft {
 impl Draft {
     // What is wrong is said; nothing is written.
     fn fails(self, wrong: Wrong) -> Draft
-        ensures { result ≡ Drawing.failed self wrong }
+        ensures { result ≡ Draws.failed self wrong }
     {
         Draft {
             wrong: Some(wrong),
@@ -107,7 +111,7 @@ impl Draft {
 
     // The same, and nothing written.
     fn quiet(self) -> Draft
-        ensures { result ≡ Drawing.still self }
+        ensures { result ≡ Draws.still self }
     {
         Draft {
             wrote: false,
@@ -119,7 +123,7 @@ impl Draft {
 // Puts a point behind `count` others, if there is room for one more, and says how many there are then.
 fn put_point(places: &mut [i32], count: usize, x: i32, y: i32) -> Option<usize>
     requires { (count ≤ 60) × (length places.old ≡ 120) }
-    ensures { Drawing.Puts count x y places.old result places.new }
+    ensures { Draws.Puts count x y places.old result places.new }
 {
     if count == 60 {
         return None;
@@ -130,52 +134,97 @@ fn put_point(places: &mut [i32], count: usize, x: i32, y: i32) -> Option<usize>
     Some(count + 1)
 }
 
-// Writes the pair of the open ring, where one is open.
-fn close(o: Draft, ring: &[i32], chain: &[i32], out: &mut [u8]) -> Draft
-    requires { Drawing.Fine o ring.now chain.now out.old }
-    ensures { Drawing.Does Drawing.closes o ring.now chain.now result ring.now chain.now out.new }
-{
-    if let Phase::Closed = o.phase {
-        return o.quiet();
+// Kept: as ghost fields of `Draft`, what `Fine` says would forbid `..o`, by which a step names what it changes and no more.
+impl Lists {
+    // Writes the pair of the open ring, where one is open.
+    #[tactic(auto, using(crate::proofs::Closing::closes_none, crate::proofs::Closing::closes_refused))]
+    fn close(&mut self, o: Draft) -> Draft
+        requires { Draws.Fine o }
+        ensures does { Draws.Does Draws.closes o self.old result self.new }
+        ensures points { (self.new.ring ≡ self.old.ring) × (self.new.chain ≡ self.old.chain) }
+    {
+        if let Phase::Closed = o.phase {
+            return o.quiet();
+        }
+        let ring = &self.ring[..o.corners * 2];
+        let chain = &self.chain[..o.run * 2];
+        match writer::save(ring, chain, o.size, o.block, &mut self.out) {
+            Err(refusal) => o.fails(refusal.into()),
+            Ok(()) => Draft {
+                phase: Phase::Closed,
+                corners: 0,
+                run: 0,
+                block: o.block + 2,
+                wrote: true,
+                ..o
+            },
+        }
     }
-    let end = o.corners * 2;
-    let stop = o.run * 2;
-    match writer::save(&ring[..end], &chain[..stop], o.size, o.block, out) {
-        Err(refusal) => o.fails(refusal.into()),
-        Ok(()) => Draft {
-            phase: Phase::Closed,
-            corners: 0,
-            run: 0,
-            block: o.block + 2,
-            wrote: true,
-            ..o
-        },
-    }
-}
 
-// A ring begins: the one before it is complete.
-fn begin(o: Draft, line: u32, size: u32, ring: &[i32], chain: &[i32], out: &mut [u8]) -> Draft
-    requires { Drawing.Fine o ring.now chain.now out.old }
-    ensures { Drawing.Does (Drawing.begins line size) o ring.now chain.now result ring.now chain.now
-        out.new }
-{
-    let c = close(o, ring, chain, out);
-    match c.wrong {
-        Some(_) => c,
-        None => Draft {
-            began: line,
-            phase: Phase::Ring,
-            size,
-            corners: 0,
-            run: 0,
-            ..c
-        },
+    // A ring begins: the one before it is complete.
+    #[tactic(auto, using(crate::proofs::Closing::begins_not, crate::proofs::Closing::begins_so))]
+    fn begin(&mut self, o: Draft, line: u32, size: u32) -> Draft
+        requires { Draws.Fine o }
+        ensures { Draws.Does (Draws.begins line size) o self.old result self.new }
+    {
+        let c = self.close(o);
+        match c.wrong {
+            Some(_) => c,
+            None => Draft {
+                began: line,
+                phase: Phase::Ring,
+                size,
+                corners: 0,
+                run: 0,
+                ..c
+            },
+        }
+    }
+
+    // A point of the open ring, or of its chain.
+    fn point(&mut self, o: Draft, x: i32, y: i32) -> Draft
+        requires { Draws.Fine o }
+        ensures { Draws.Does (Draws.points x y) o self.old result self.new }
+    {
+        match o.phase {
+            Phase::Closed => o.fails(Wrong::NoRing),
+            Phase::Ring => match put_point(&mut self.ring, o.corners, x, y) {
+                None => o.fails(Wrong::RingFull),
+                Some(corners) => Draft {
+                    corners,
+                    wrote: false,
+                    ..o
+                },
+            },
+            Phase::Chain => match put_point(&mut self.chain, o.run, x, y) {
+                None => o.fails(Wrong::ChainFull),
+                Some(run) => Draft {
+                    run,
+                    wrote: false,
+                    ..o
+                },
+            },
+        }
+    }
+
+    // What was heard of line `number`.
+    fn take_heard(&mut self, o: Draft, number: u32, heard: Result<Line, Fault>) -> Draft
+        requires { Draws.Fine o }
+        ensures { Draws.Does (Draws.takes number heard) o self.old result self.new }
+    {
+        match heard {
+            Err(fault) => o.fails(fault.into()),
+            Ok(Line::Nothing) => o.quiet(),
+            Ok(Line::Ring { size }) => self.begin(o, number, size),
+            Ok(Line::Chain) => chain_line(o),
+            Ok(Line::Point { x, y }) => self.point(o, x, y),
+        }
     }
 }
 
 // The open ring's chain begins.
 fn chain_line(o: Draft) -> Draft
-    ensures { result ≡ Drawing.chain_of o }
+    ensures { result ≡ Draws.chain_of o }
 {
     match o.phase {
         Phase::Closed => o.fails(Wrong::NoRing),
@@ -188,56 +237,9 @@ fn chain_line(o: Draft) -> Draft
     }
 }
 
-// A point of the open ring, or of its chain.
-fn point(o: Draft, x: i32, y: i32, ring: &mut [i32], chain: &mut [i32], out: &[u8]) -> Draft
-    requires { Drawing.Fine o ring.old chain.old out.now }
-    ensures { Drawing.Does (Drawing.points x y) o ring.old chain.old result ring.new chain.new out.now }
-{
-    match o.phase {
-        Phase::Closed => o.fails(Wrong::NoRing),
-        Phase::Ring => match put_point(ring, o.corners, x, y) {
-            None => o.fails(Wrong::RingFull),
-            Some(corners) => Draft {
-                corners,
-                wrote: false,
-                ..o
-            },
-        },
-        Phase::Chain => match put_point(chain, o.run, x, y) {
-            None => o.fails(Wrong::ChainFull),
-            Some(run) => Draft {
-                run,
-                wrote: false,
-                ..o
-            },
-        },
-    }
-}
-
-// What was heard of line `number`.
-fn take_heard(
-    o: Draft,
-    number: u32,
-    heard: Result<Line, Fault>,
-    ring: &mut [i32],
-    chain: &mut [i32],
-    out: &mut [u8],
-) -> Draft
-    requires { Drawing.Fine o ring.old chain.old out.old }
-    ensures { Drawing.Does (Drawing.takes number heard) o ring.old chain.old result ring.new chain.new
-        out.new }
-{
-    match heard {
-        Err(fault) => o.fails(fault.into()),
-        Ok(Line::Nothing) => o.quiet(),
-        Ok(Line::Ring { size }) => begin(o, number, size, ring, chain, out),
-        Ok(Line::Chain) => chain_line(o),
-        Ok(Line::Point { x, y }) => point(o, x, y, ring, chain, out),
-    }
-}
-
 // The state between two bytes: how many may still come, the number of the line from 1, its bytes so far, whether its comment
 // has begun, and the open ring.
+// Kept: a comment begins after any number of bytes, which stay those of the line.
 #[derive(Clone, Copy)]
 pub struct State {
     pub left: u32,
@@ -305,60 +307,71 @@ fn next_line(line: u32, o: Draft) -> u32
     }
 }
 
-// The end of a line.
-fn end_line(s: State, text: &[u8], ring: &mut [i32], chain: &mut [i32], out: &mut [u8]) -> State
-    requires { Page.Kept s text.now ring.old chain.old out.old × (0 < s.left) }
-    ensures { Page.Moves Page.line_ends s text.now ring.old chain.old result text.now ring.new
-        chain.new out.new }
-{
-    let heard = lines::hear(&text[..s.length]);
-    let draft = take_heard(s.draft, s.line, heard, ring, chain, out);
-    State {
-        left: s.left - 1,
-        line: next_line(s.line, draft),
-        length: 0,
-        comment: false,
-        draft,
+impl Drawing {
+    // Before the first byte.
+    pub fn new() -> Drawing
+        ensures { Page.page_of result ≡ Page.blank_page }
+    {
+        Drawing {
+            state: State::new(),
+            text: [0; 80],
+            lists: Lists {
+                ring: [0; 120],
+                chain: [0; 120],
+                out: [0; 1024],
+            },
+        }
     }
-}
 
-// One byte of the text.
-pub fn feed(
-    s: State,
-    b: u8,
-    text: &mut [u8],
-    ring: &mut [i32],
-    chain: &mut [i32],
-    out: &mut [u8],
-) -> State
-    requires { Page.Kept s text.old ring.old chain.old out.old }
-    ensures { Page.Moves (Page.fed b) s text.old ring.old chain.old result text.new ring.new
-        chain.new out.new }
-{
-    if s.left == 0 {
-        return s.stops(Wrong::LongText);
+    // The end of a line.
+    #[tactic(auto, using(crate::proofs::Feeding::line_ends_so))]
+    fn end_line(&mut self)
+        requires { 0 < self.old.state.left }
+        ensures { Page.Moves Page.line_ends self.old self.new }
+    {
+        let s = self.state;
+        let heard = lines::hear(&self.text[..s.length]);
+        let draft = self.lists.take_heard(s.draft, s.line, heard);
+        self.state = State {
+            left: s.left - 1,
+            line: next_line(s.line, draft),
+            length: 0,
+            comment: false,
+            draft,
+        };
     }
-    if b == b'\n' {
-        return end_line(s, text, ring, chain, out);
-    }
-    if s.comment || b == b'#' {
-        return s.goes(s.length, true);
-    }
-    if s.length == MOST_LINE {
-        return s.stops(Wrong::LongLine);
-    }
-    text[s.length] = b;
-    s.goes(s.length + 1, false)
-}
 
-// The end of the text, after its last line.
-pub fn finish(s: State, text: &[u8], ring: &[i32], chain: &[i32], out: &mut [u8]) -> State
-    requires { Page.Kept s text.now ring.now chain.now out.old }
-    ensures { Page.Moves Page.ends s text.now ring.now chain.now result text.now ring.now
-        chain.now out.new }
-{
-    State {
-        draft: close(s.draft, ring, chain, out),
-        ..s
+    // One byte of the text.
+    #[tactic(auto, using(crate::proofs::Feeding::fed_too_long, crate::proofs::Feeding::fed_line, crate::proofs::Feeding::fed_comment, crate::proofs::Feeding::fed_full, crate::proofs::Feeding::fed_byte))]
+    pub fn feed(&mut self, b: u8)
+        ensures { Page.Moves (Page.fed b) self.old self.new }
+    {
+        let s = self.state;
+        if s.left == 0 {
+            self.state = s.stops(Wrong::LongText);
+        } else if b == b'\n' {
+            self.end_line();
+        } else if s.comment || b == b'#' {
+            self.state = s.goes(s.length, true);
+        } else if s.length == MOST_LINE {
+            self.state = s.stops(Wrong::LongLine);
+        } else {
+            self.text[s.length] = b;
+            self.state = s.goes(s.length + 1, false);
+        }
+    }
+
+    // The end of the text, after its last line.
+    #[tactic(auto, using(crate::proofs::Feeding::text_ends))]
+    pub fn finish(&mut self)
+        ensures moves { Page.Moves Page.ends self.old self.new }
+        ensures text { self.new.text ≡ self.old.text }
+        ensures points { (self.new.lists.ring ≡ self.old.lists.ring) × (self.new.lists.chain ≡ self.old.lists.chain) }
+    {
+        let draft = self.lists.close(self.state.draft);
+        self.state = State {
+            draft,
+            ..self.state
+        };
     }
 }

@@ -106,6 +106,7 @@ pub fn points_refusal(limits: Limits, ring: &[i32], chain: &[i32], size: u32) ->
 
 // The first refusal of the lists for a ring of `own` points, 3 and 4, or the nodes that were collected. Of the cell list only
 // the number of its places is looked at. Where the counts fit, the used nodes in the window are collected.
+#[tactic(auto, using(crate::proofs::Tests::counts_hold, crate::proofs::Tests::over))]
 pub fn lists_refusal(
     limits: Limits,
     own: usize,

@@ -5,27 +5,22 @@
 
 mod pairs;
 
-use blocks::{Block, Reading};
+use blocks::{Block, Kind, Reading, Refused};
 pub use pairs::same_pair;
 use std::io::Read;
 use table::Row;
 use words::Field;
 
-// Whether a value is the next word of the file.
-fn is_word<R: Read>(input: &mut R, x: u64) -> bool {
-    x == u64::from(words::word(input))
-}
-
 fn same_row<R: Read>(input: &mut R, v: Row) -> bool {
-    let mut same = is_word(input, v.code);
+    let mut same = words::is_word(input, v.code);
     for x in [v.corners, v.k, v.marked, v.cuts, v.pieces] {
-        same &= is_word(input, x);
+        same &= words::is_word(input, x);
     }
     for x in [v.turned, v.area] {
         same &= x == words::long(input);
     }
     for x in [v.nodes, v.cells] {
-        same &= is_word(input, x);
+        same &= words::is_word(input, x);
     }
     same
 }
@@ -93,7 +88,7 @@ pub fn same_left<R: Read>(
     marks: &[u8],
 ) -> bool {
     let row = same_row(input, v);
-    let listed = same_nodes(input, nodes, before, words::doubled(used));
+    let listed = same_nodes(input, nodes, before, used.saturating_mul(2));
     let laid = same_cells(input, cells);
     row & listed & laid & same_rims(input, rims, marks)
 }
@@ -106,18 +101,21 @@ fn same_points<R: Read>(input: &mut R, points: &[i32]) -> bool {
     same
 }
 
-fn same_reading<R: Read>(input: &mut R, kind: u32, n: usize, size: u32, points: &[i32]) -> bool {
+fn same_reading<R: Read>(input: &mut R, r: &Reading) -> bool {
+    let (kind, count, size) = match r.block {
+        Block::Ring { count, size } => (Kind::Ring, count, size),
+        Block::Chain { count } => (Kind::Chain, count, 0),
+    };
     let mut same = words::word(input) == 0;
-    same &= words::word(input) == kind;
-    same &= words::count(input) == n;
+    same &= words::word(input) == kind as u32;
+    same &= words::count(input) == count;
     same &= words::word(input) == size;
-    same & same_points(input, points)
+    same & same_points(input, &r.points)
 }
 
-pub fn same_block<R: Read>(input: &mut R, number: u32, r: Reading) -> bool {
-    match r.block {
-        Block::Refused { code, block } => (block == number) & (words::word(input) == code),
-        Block::Ring { count, size } => same_reading(input, 1, count, size, &r.points),
-        Block::Chain { count } => same_reading(input, 2, count, 0, &r.points),
+pub fn same_block<R: Read>(input: &mut R, number: u32, r: Result<Reading, Refused>) -> bool {
+    match r {
+        Ok(reading) => same_reading(input, &reading),
+        Err(refused) => { (refused.block == number) & (words::word(input) == refused.why.number()) }
     }
 }

@@ -191,7 +191,7 @@ pub fn smallest_refused(ring: &[i32], chain: &[i32], size: u32) -> Smallest
     smallest::smallest_refused(ring, chain, size)
 }
 
-// A ring and its chain saved as blocks `number` and `number + 1`: 0, or the refusal 1, 2 or 12.
+// A ring and its chain saved as blocks `number` and `number + 1`: 0, or the refusal 1, 2 or 12. Kept: a number, which C reads.
 pub fn blocks_write(ring: &[i32], chain: &[i32], size: u32, number: u32, out: &mut [u8]) -> u64
     ensures { (result ≡ Write.refusal ring.now chain.now size number (length out.old))
         × (out.new ≡ Write.written ring.now chain.now size number out.old) }
@@ -199,7 +199,7 @@ pub fn blocks_write(ring: &[i32], chain: &[i32], size: u32, number: u32, out: &m
     writer::blocks_write(ring, chain, size, number, out)
 }
 
-// The cell sheet of the first `node_count` nodes: 0, or the refusal 3 or 17.
+// The cell sheet of the first `node_count` nodes: 0, or the refusal 3 or 17. Kept: a number, which C reads.
 pub fn node_sheet(nodes: &[f64], node_count: usize, out: &mut [u8]) -> u64
     ensures { (result ≡ Sheet.answer nodes.now node_count out.old)
         × (out.new ≡ Sheet.left nodes.now node_count out.old) }
@@ -208,6 +208,7 @@ pub fn node_sheet(nodes: &[f64], node_count: usize, out: &mut [u8]) -> u64
 }
 
 // A divider call's answer, its number and its cuts, into the record of the last 32 rings, in 34 bytes: the three values, or 20.
+// Kept: the number is the one that C read of the call's row.
 pub fn wear_add(record: &mut [u8], code: u64, cuts: u64) -> Wear
     ensures { (result ≡ Bytes.returned «record».old code cuts) × («record».new ≡ Bytes.left «record».old code cuts) }
 {

@@ -7,9 +7,8 @@
 
 #![tactic(auto)]
 
-ghost use Rattle.std.specs.Prelude.{◌+◌, ◌*◌, ◌/◌, ◌≤◌, length};
+ghost use Rattle.std.specs.Prelude.{◌+◌, ◌*◌, ◌≤◌, length};
 ghost use Rattle.laws.specs.Within.{Within};
-ghost use Rattle.vector.specs.Rings.{most_points};
 ghost use Rattle.nodes.specs.Nearby.{Framed};
 
 use nodes::Window;
@@ -164,7 +163,6 @@ pub fn window(ring: &[i32], chain: &[i32]) -> Window
 
 // The window over a ring whose edges have given marks, and take snap points up to this share of their chord.
 pub fn window_with_marks(ring: &[i32], share: f64) -> Window
-    requires { length ring.now / 2 ≤ most_points }
     ensures { Framed result }
 {
     framed(of_ring(ring, share))

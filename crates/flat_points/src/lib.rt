@@ -6,33 +6,33 @@
 #![tactic(auto)]
 
 ghost use Rattle.std.specs.Prelude.{◌≡◌};
-ghost use Rattle.clean_steps.specs.Choices.{among, bent_places, places_of, chosen, ValidChoice};
+ghost use Rattle.clean_steps.specs.Choices.{bent_places};
+ghost use Rattle.clean_steps.specs.Chosen.{chosen, Leaves};
 
 use clean_steps::Choice;
-use vector::{GridPoint, MOST_POINTS};
 
 // The choice without the points that are flat in it, each judged in the ring as it stands.
-pub fn bent(ring: &[GridPoint; MOST_POINTS], r: &Choice, tol: f64) -> Choice
-    requires { ValidChoice ring.now r.now }
-    ensures { ValidChoice ring.now result
-        × (places_of result ≡ among (places_of r.now) (bent_places tol (chosen ring.now r.now) r.now.count)) }
+#[tactic(auto, unfolding(clean_steps::specs::Choices::bent_places))]
+pub fn bent<'a>(r: &Choice<'a>) -> Choice<'a>
+    ensures { Leaves r.now (bent_places r.now.tol (chosen r.now) r.now.count) result }
 {
     let n = r.count;
     let mut out = *r;
-    let mut k: usize = 0;
+    let places = &mut out.places;
+    let mut count: usize = 0;
     for (i, &here) in r.places[..n].iter().enumerate() {
         let before = r.places[vector::prev(i, n)];
         let after = r.places[vector::next(i, n)];
         if !nearness::flat(
-            ring[before as usize],
-            ring[here as usize],
-            ring[after as usize],
-            tol,
+            r.ring[before as usize],
+            r.ring[here as usize],
+            r.ring[after as usize],
+            r.tol,
         ) {
-            out.places[k] = here;
-            k += 1;
+            places[count] = here;
+            count += 1;
         }
     }
-    out.count = k;
+    out.count = count;
     out
 }

@@ -1,21 +1,20 @@
 -- Claim: a list of 4,096 bytes holds the head of every picture, the line of a refused block, and the end.
-use Prim.Native.Nat.{ℕ, zero, suc, ◌+◌, ◌-◌, ◌*◌, ◌≤◌, ◌<◌}
-use mathlib.Core.Path.{◌≡◌, ap, ◌∙◌}
+use Prim.Native.Nat.{ℕ, zero, suc, ◌+◌, ◌-◌, ◌*◌, ◌≤◌}
 use mathlib.Core.Bool.{Bool, true, false, cond}
 use mathlib.Core.List.{List, [], ◌∷◌}
 use native.Mathlib.Omega.{arith}
 use lib.ListN.{length, length-append}
 use lib.Dec.{ltb}
-use borrow.Author.Tests.{lt-ltb, le-ltb}
 use Rattle.text.specs.Text.{bytes, marks}
 use Rattle.svg.specs.Form.{formed, takes}
 use Rattle.svg.proofs.Forms.{length-formed}
-use Rattle.frame.specs.declared.Frame.{Frame}
+use Rattle.frame.specs.Seen.{Layout}
+use Rattle.frame.specs.declared.Edges.{Edges}
 use Rattle.frame.specs.declared.View.{View}
 use Rattle.frame.specs.declared.Axes.{Axes}
 use Rattle.frame.specs.Bounds.{upside_down}
 use Rattle.frame.specs.Head.{box_text, looks_form, looks, axes_form, axes_text, head_text, ended_text, foot_text, view_of, axes_of, most_head}
-use Rattle.frame.specs.Head.{multiple_from, multiple_to, eastward, below_text, northward, beside_text, tick_text, ticks_text}
+use Rattle.frame.specs.Head.{eastward, below_text, northward, beside_text, tick_text, ticks_text}
 
 pub box_length : (v : View) → length (box_text v) ≤ 298
 unfolding box_text bytes marks takes
@@ -27,7 +26,7 @@ looks-length : length looks ≤ 1055
 unfolding looks looks_form bytes marks takes
 looks-length = length-formed looks_form []
 
-axes_length : (f : Frame) (a : Axes) → length (axes_text f a) ≤ 1299
+axes_length : (f : Layout) (a : Axes) → length (axes_text f a) ≤ 1299
 unfolding axes_text axes_form bytes marks takes
 axes_length f a =
     length-formed axes_form
@@ -37,40 +36,22 @@ axes_length f a =
     ∷ f.left ∷ a.foot ∷ a.bar ∷ a.tip ∷ a.foot ∷ a.bar
     ∷ a.key ∷ a.above ∷ [])
 
-pub ended-length : (f : Frame) (block code : ℕ) → length (ended_text f block code) ≤ 192
+pub ended-length : (f : Edges) (block code : ℕ) → length (ended_text f block code) ≤ 192
 unfolding ended_text bytes marks takes
 ended-length f block code =
     length-formed (bytes "<text class='ended' transform='matrix(.01 0 0 -.01 @ @)' y='4.8em'>block # refused #</text>\n")
     (f.left ∷ f.bottom ∷ block ∷ code ∷ [])
 
-pub foot-length : length foot_text ≤ 12
+pub foot_length : length foot_text ≤ 12
 unfolding foot_text bytes marks takes
-foot-length = length-formed (bytes "</g>\n</svg>\n") []
+foot_length = length-formed (bytes "</g>\n</svg>\n") []
 
 -- ---- the numbers at the ticks
-module _ (f : Frame) (i : ℕ) where
-  pub eastward-at : (m : ℕ) → m ≡ multiple_from f.left f.step → m + i * f.step ≡ eastward f i
-  unfolding eastward
-  eastward-at m e = ap (λ (n : ℕ). n + i * f.step) e
-
-  pub below_none : (x : ℕ) → x ≡ eastward f i → f.right < x → [] ≡ below_text f i
-  unfolding below_text
-  below_none x e h = rw (lt-ltb f.right (eastward f i) (omega (arith, e, h)))
-
+module _ (f : Layout) (i : ℕ) where
   abbrev below_label : List ℕ
   below_label =
       formed (bytes "<text class='label below' transform='matrix(.01 0 0 .01 @ @)' y='1.4em'>~</text>\n")
       (eastward f i ∷ (f.low + f.em) ∷ eastward f i ∷ [])
-
-  below_on : eastward f i ≤ f.right → below_label ≡ below_text f i
-  unfolding below_text
-  below_on h = rw (le-ltb f.right (eastward f i) h)
-
-  pub below-some : (x : ℕ) → x ≡ eastward f i → x ≤ f.right
-      → formed (bytes "<text class='label below' transform='matrix(.01 0 0 .01 @ @)' y='1.4em'>~</text>\n") (x ∷ (f.low + f.em) ∷ x ∷ []) ≡ below_text f i
-  below-some x e h =
-      (λ j. formed (bytes "<text class='label below' transform='matrix(.01 0 0 .01 @ @)' y='1.4em'>~</text>\n") (e j ∷ (f.low + f.em) ∷ e j ∷ []))
-      ∙ below_on (omega (arith, e, h))
 
   below_length : length (below_text f i) ≤ 156
   unfolding below_text bytes marks takes
@@ -82,29 +63,10 @@ module _ (f : Frame) (i : ℕ) where
           length-formed (bytes "<text class='label below' transform='matrix(.01 0 0 .01 @ @)' y='1.4em'>~</text>\n")
           (eastward f i ∷ (f.low + f.em) ∷ eastward f i ∷ [])
 
-  pub northward-at : (m : ℕ) → m ≡ multiple_to f.low f.step → m - i * f.step ≡ northward f i
-  unfolding northward
-  northward-at m e = ap (λ (n : ℕ). n - i * f.step) e
-
-  pub beside_none : (y : ℕ) → y ≡ northward f i → y < f.high → [] ≡ beside_text f i
-  unfolding beside_text
-  beside_none y e h = rw (lt-ltb (northward f i) f.high (omega (arith, e, h)))
-
   abbrev beside_label : List ℕ
   beside_label =
       formed (bytes "<text class='label beside' transform='matrix(.01 0 0 .01 @ @)' x='-.6em' y='.35em'>~</text>\n")
       ((f.left - f.em) ∷ northward f i ∷ upside_down (northward f i) ∷ [])
-
-  beside_on : f.high ≤ northward f i → beside_label ≡ beside_text f i
-  unfolding beside_text
-  beside_on h = rw (le-ltb (northward f i) f.high h)
-
-  pub beside-some : (x y z : ℕ) → x ≡ f.left - f.em → y ≡ northward f i → z ≡ upside_down y → f.high ≤ y
-      → formed (bytes "<text class='label beside' transform='matrix(.01 0 0 .01 @ @)' x='-.6em' y='.35em'>~</text>\n") (x ∷ y ∷ z ∷ []) ≡ beside_text f i
-  beside-some x y z a e b h =
-      let d = b ∙ ap upside_down e in
-      (λ j. formed (bytes "<text class='label beside' transform='matrix(.01 0 0 .01 @ @)' x='-.6em' y='.35em'>~</text>\n") (a j ∷ e j ∷ d j ∷ []))
-      ∙ beside_on (omega (arith, e, h))
 
   beside-length : length (beside_text f i) ≤ 167
   unfolding beside_text bytes marks takes
@@ -120,12 +82,12 @@ module _ (f : Frame) (i : ℕ) where
   unfolding tick_text
   tick_length = rw length-append (omega (arith, below_length, beside-length))
 
-ticks_length : (f : Frame) (n : ℕ) → length (ticks_text f n) ≤ 323 * n
+ticks_length : (f : Layout) (n : ℕ) → length (ticks_text f n) ≤ 323 * n
 unfolding ticks_text
 ticks_length f zero = omega arith
 ticks_length f (suc n) = rw length-append (omega (arith, ticks_length f n, tick_length f n))
 
-pub head-length : (f : Frame) → length (head_text f) ≤ most_head
+pub head-length : (f : Layout) → length (head_text f) ≤ most_head
 unfolding head_text
 head-length f =
     rw (length-append, length-append, length-append)

@@ -1,13 +1,13 @@
 -- Claim: neither axis has a tenth tick (`no_tenth_below`, `no_tenth_beside`), so that the numbers of nine are those of every tick. For eight steps are more
 -- than the size (`eight_steps`).
-use Prim.Native.Nat.{ℕ, zero, suc, ◌+◌, ◌-◌, ◌*◌, ◌/◌, ◌%◌, ◌^◌, ◌≤◌, ◌<◌, max}
-use mathlib.Core.Path.{◌≡◌, refl, sym, ◌∙◌}
+use Prim.Native.Nat.{ℕ, zero, suc, ◌+◌, ◌-◌, ◌*◌, ◌^◌, ◌≤◌, ◌<◌, max}
+use mathlib.Core.Path.{◌≡◌, refl}
 use mathlib.Core.Logic.{◌⊎◌, inl, inr, ⊎_elim}
 use native.Mathlib.Nat.{pow-succ', div-add-mod', mod-lt, div-mul-le_self}
 use native.Mathlib.Omega.{arith}
 use native.Mathlib.Decide.{dec_le}
-use Rattle.frame.specs.declared.Extent.{Extent}
-use Rattle.frame.specs.Bounds.{grown, decade_to, step_for, framed, Small}
+use Rattle.frame.specs.Seen.{Reach, Small}
+use Rattle.frame.specs.Bounds.{grown, decade_to, step_for, framed}
 use Rattle.frame.specs.Head.{multiple_from, multiple_to, eastward}
 use Rattle.frame.proofs.Cases.{grown-stays, grown-more, step-one, step-two, step_five}
 
@@ -37,7 +37,7 @@ from-least : (x step : ℕ) → 0 < step → x ≤ multiple_from x step
 unfolding multiple_from
 from-least x step h = omega (arith, div-add-mod' (x + step - 1) step, mod-lt (x + step - 1) h)
 
-module _ (e : Extent) (h : Small e) where
+module _ (e : Reach) (h : Small e) where
   abbrev size : ℕ
   size = max (e.right - e.left) (e.top - e.bottom)
 

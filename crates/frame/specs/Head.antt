@@ -4,13 +4,14 @@ use Rattle.std.specs.Prelude.{ℕ, zero, suc, ◌+◌, ◌-◌, ◌*◌, ◌/◌
 use Rattle.text.specs.Text.{bytes}
 use Rattle.svg.specs.Place.{origin}
 use Rattle.svg.specs.Form.{formed}
-use Rattle.frame.specs.declared.Frame.{Frame}
+use Rattle.frame.specs.Seen.{Layout}
+use Rattle.frame.specs.declared.Edges.{Edges}
 use Rattle.frame.specs.declared.View.{View}
 use Rattle.frame.specs.declared.Axes.{Axes}
 use Rattle.frame.specs.Bounds.{upside_down}
 
 -- "prints to scale": width and height in mm, and the same in the units of the drawing
-unfoldable pub view_of : Frame → View
+unfoldable pub view_of : Layout → View
 view_of f =
     record {
       wide = origin + (f.right - f.left) + f.margin * 2;
@@ -51,7 +52,7 @@ unfoldable pub multiple_to : ℕ → ℕ → ℕ
 multiple_to x step = x / step * step
 
 -- the axis below begins at the first multiple of the step, the one beside at the last, since an SVG counts downward
-unfoldable pub axes_of : Frame → Axes
+unfoldable pub axes_of : Layout → Axes
 axes_of f =
     record {
       under = f.low + f.em;
@@ -70,29 +71,29 @@ axes_of f =
     }
 
 -- tick i of the axis below and of the one beside, each with its number in mm; none beyond the end
-unfoldable pub eastward : Frame → ℕ → ℕ
+unfoldable pub eastward : Layout → ℕ → ℕ
 eastward f i = multiple_from f.left f.step + i * f.step
 
-unfoldable pub below_text : Frame → ℕ → List ℕ
+unfoldable pub below_text : Layout → ℕ → List ℕ
 below_text f i =
     cond (ltb f.right (eastward f i)) []
     (formed (bytes "<text class='label below' transform='matrix(.01 0 0 .01 @ @)' y='1.4em'>~</text>\n")
     (eastward f i ∷ (f.low + f.em) ∷ eastward f i ∷ []))
 
-unfoldable pub northward : Frame → ℕ → ℕ
+unfoldable pub northward : Layout → ℕ → ℕ
 northward f i = multiple_to f.low f.step - i * f.step
 
-unfoldable pub beside_text : Frame → ℕ → List ℕ
+unfoldable pub beside_text : Layout → ℕ → List ℕ
 beside_text f i =
     cond (ltb (northward f i) f.high) []
     (formed (bytes "<text class='label beside' transform='matrix(.01 0 0 .01 @ @)' x='-.6em' y='.35em'>~</text>\n")
     ((f.left - f.em) ∷ northward f i ∷ upside_down (northward f i) ∷ []))
 
-unfoldable pub tick_text : Frame → ℕ → List ℕ
+unfoldable pub tick_text : Layout → ℕ → List ℕ
 tick_text f i = below_text f i ++ beside_text f i
 
 -- of the first i ticks of both
-unfoldable pub ticks_text : Frame → ℕ → List ℕ
+unfoldable pub ticks_text : Layout → ℕ → List ℕ
 ticks_text f zero = []
 ticks_text f (suc i) = ticks_text f i ++ tick_text f i
 
@@ -109,7 +110,7 @@ axes_form =
     ++ bytes "<circle class='snapped' cx='.7em' cy='3.6em' r='.5em'/><text x='1.7em' y='3.9em'>snapped</text></g>\n"
     ++ bytes "<g transform='scale(1 -1)'>\n"
 
-unfoldable pub axes_text : Frame → Axes → List ℕ
+unfoldable pub axes_text : Layout → Axes → List ℕ
 axes_text f a =
     formed axes_form
     (f.left ∷ a.under ∷ f.right ∷ a.beside ∷ f.low ∷ f.high
@@ -118,11 +119,14 @@ axes_text f a =
     ∷ f.left ∷ a.foot ∷ a.bar ∷ a.tip ∷ a.foot ∷ a.bar
     ∷ a.key ∷ a.above ∷ [])
 
-unfoldable pub head_text : Frame → List ℕ
+unfoldable pub head_text : Layout → List ℕ
 head_text f = box_text (view_of f) ++ looks ++ ticks_text f 9 ++ axes_text f (axes_of f)
 
--- a refused block ends the run: its line, at the foot
-unfoldable pub ended_text : Frame → ℕ → ℕ → List ℕ
+-- a refused block ends the run: its line, at the foot, by two edges of the picture
+abbrev pub edges_of : Layout → Edges
+edges_of f = record { left = f.left; bottom = f.bottom }
+
+unfoldable pub ended_text : Edges → ℕ → ℕ → List ℕ
 ended_text f block code =
     formed (bytes "<text class='ended' transform='matrix(.01 0 0 -.01 @ @)' y='4.8em'>block # refused #</text>\n")
     (f.left ∷ f.bottom ∷ block ∷ code ∷ [])

@@ -7,7 +7,7 @@ use mathlib.Core.Path.{◌≡◌, refl, sym, ap, ◌∙◌}
 use mathlib.Core.Bool.{Bool, true, false, cond}
 use mathlib.Core.List.{List, ◌∷◌, [], ◌++◌, map}
 use lib.Ieee.{Float}
-use lib.ListN.{length, get_or, set, replicate, take, length-set}
+use lib.ListN.{length, get_or, set, replicate, length-set}
 use lib.Dec.{eqb}
 use borrow.Author.Tests.{eq-eqb, eqb-true}
 use lib.Seq.{length-take-le, get_or-take, take-set-le, get_or-set_same, get_or-set_other}
@@ -32,7 +32,7 @@ use Rattle.survivors.proofs.Survivors.{surviving-many, surviving-at, survives-ne
 use Rattle.outline.specs.Outline.{Segment}
 use Rattle.nodes.specs.Flat.{node_in_of}
 use Rattle.call.specs.Marked.{Marking, mark_of, lead_point, lead_line, given_mark, called_for}
-use Rattle.given.specs.declared.LeadLine.{LeadLine}
+use Rattle.given.specs.declared.lead.LeadLine.{LeadLine}
 use Rattle.given.specs.Steps.{sought, OutlineRead, places_in, MarksOf, mark_left, Laid, Survive}
 
 -- a kept place is one of the ring's
@@ -61,17 +61,16 @@ laid_more f i es e so l q =
       places = length-set es i e ∙ so.places;
     }
 
--- the mark that the code lays, with the next places and the given point that it found
-pub mark-next : (ring : Ring) (c : CleanedRing) (kinds : List ℕ) (snaps : List Float) (ss : List Segment) (j m after : ℕ) (p : Point)
-    → m ≡ (j + 1) % c.ring.count → after ≡ (get_or c.places j 0 + 1) % ring.count → p ≡ node_in_of snaps (get_or c.places j 0)
-    → (let k = get_or c.places j 0 in
-    cond (eqb (get_or c.places m 0) after)
-    (mark_of (get_or kinds k 0) p (lead_point ss (get_or ring.points k origin) (get_or ring.points after origin))) Straight)
+-- the mark that the code lays, with the two kept places, the place after the first and the given point that it found
+pub mark-next : (ring : Ring) (c : CleanedRing) (kinds : List ℕ) (snaps : List Float) (ss : List Segment) (j k kept after : ℕ) (p : Point)
+    → k ≡ get_or c.places j 0 → kept ≡ get_or c.places ((j + 1) % c.ring.count) 0 → after ≡ (k + 1) % ring.count → p ≡ node_in_of snaps k
+    → cond (eqb kept after) (mark_of (get_or kinds k 0) p (lead_point ss (get_or ring.points k origin) (get_or ring.points after origin))) Straight
     ≡ mark_left ring c kinds snaps ss j
-mark-next ring c kinds snaps ss j m after p d e f =
-    let k = get_or c.places j 0 in
-    λ i. cond (eqb (get_or c.places (d i) 0) (e i))
-    (mark_of (get_or kinds k 0) (f i) (lead_point ss (get_or ring.points k origin) (get_or ring.points (e i) origin))) Straight
+mark-next ring c kinds snaps ss j k kept after p a b d e =
+    let f : after ≡ (get_or c.places j 0 + 1) % ring.count = d ∙ ap (λ (k : ℕ). (k + 1) % ring.count) a in
+    let g : p ≡ node_in_of snaps (get_or c.places j 0) = e ∙ ap (node_in_of snaps) a in
+    λ i. cond (eqb (b i) (f i))
+    (mark_of (get_or kinds (a i) 0) (g i) (lead_point ss (get_or ring.points (a i) origin) (get_or ring.points (f i) origin))) Straight
 
 -- the outline's nearest point is looked at where the kind is 2 alone
 mark-same : (kind : ℕ) (p q u : Point) → (kind ≡ 2 → q ≡ u) → mark_of kind p q ≡ mark_of kind p u

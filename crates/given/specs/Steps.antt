@@ -8,27 +8,22 @@ use Rattle.vector.specs.Rings.{most_points, OnSheetRing}
 use Rattle.clean.specs.declared.CleanedRing.{CleanedRing}
 use Rattle.clean.specs.Places.{Rising}
 use Rattle.survivors.specs.Survivors.{surviving}
-use Rattle.outline.specs.Outline.{Segment, segments, total}
+use Rattle.outline.specs.Outline.{Segment, segments}
 use Rattle.marks.specs.declared.Edge.{Edge}
 use Rattle.marks.specs.declared.EdgeMark.{EdgeMark}
 use Rattle.marks.specs.declared.EdgeMark.TheVariants.{Straight}
 use Rattle.marks.specs.Edges.{marks_in, straight_edge}
 use Rattle.nodes.specs.Flat.{node_in_of}
 use Rattle.call.specs.Marked.{Marking, all_points, mark_of, lead_point, given_mark, called_for}
-use Rattle.given.specs.declared.LeadLine.{LeadLine}
+use Rattle.given.specs.declared.lead.LeadLine.{LeadLine}
 
 -- ---- the outline
--- its loops fit the arrays, and the segments that are sought
-pub record Fits (o : LeadLine) : Type 0 where
-  pub few : o.count ≤ 20
-  pub points : total (take o.count o.loops) ≤ most_points
-
+-- the segments that are sought
 abbrev pub sought : LeadLine → List Segment
 sought o = segments o.points (take o.count o.loops)
 
 -- they are those of the outline that was lent, where some mark calls for it
 pub record OutlineRead (kinds : List ℕ) (outline : List ℤ) (loops : List ℕ) (o : LeadLine) : Type 0 where
-  pub fits : Fits o
   pub is : called_for kinds ≡ true → sought o ≡ segments (all_points outline) loops
 
 -- ---- the marks

@@ -7,21 +7,26 @@
 #![tactic(auto)]
 
 ghost use Rattle.std.specs.Prelude.{◌≡◌, false, cond, ◌≤◌, length, take};
-ghost use Rattle.vector.specs.Rings.{most_points, points_of};
+ghost use Rattle.vector.specs.Rings.{points_of};
 ghost use Rattle.marks.specs.declared.EdgeMark.TheVariants.{Straight};
 ghost use Rattle.call.specs.Marked as Marked;
-ghost use Rattle.given.specs.Steps.{Fits, sought, OutlineRead, places_in, MarksOf, mark_left, Laid, Survive};
+ghost use Rattle.outline.specs.Outline.{nearest_boundary_point};
+ghost use Rattle.given.specs.Steps.{sought, OutlineRead, places_in, MarksOf, mark_left, Laid, Survive};
+
+mod lead;
 
 use clean::CleanedRing;
+use lead::LeadLine;
 use marks::{Edge, EdgeMark};
 use vector::{GridPoint, MOST_POINTS, Point, Ring};
 
-// An outline as it is sought: the points of its loops one after the other, and how many each of the first count loops has.
-#[derive(Clone, Copy)]
-struct LeadLine {
-    points: [GridPoint; MOST_POINTS],
-    loops: [usize; 20],
-    count: usize,
+impl LeadLine {
+    // The point of the outline that is nearest to p.
+    fn nearest(&self, p: Point) -> Point
+        ensures { result ≡ nearest_boundary_point p (sought self.now) }
+    {
+        outline::nearest_boundary_point(p, &self.points, &self.loops[..self.count])
+    }
 }
 
 // How many points each loop has, in the first places.
@@ -58,25 +63,23 @@ fn lead_line(kinds: &[u8], outline: &[i32], loops: &[u32]) -> LeadLine
 }
 
 // The mark of the edge from a to b, of a kind and with its given point.
+// Kept: the kinds are the bytes of the C interface, and this is the one `match` on them.
+#[tactic(auto, unfolding(call::specs::Marked::mark_of, call::specs::Marked::lead_point))]
 fn given_mark(kind: u8, p: Point, a: GridPoint, b: GridPoint, lead: &LeadLine) -> EdgeMark
-    requires { Fits lead.now }
     ensures { result ≡ Marked.mark_of kind p (Marked.lead_point (sought lead.now) a b) }
 {
     match kind {
         1 => EdgeMark::Snap(p),
         2 => {
             let m = quads::halfway(Point::new(a), Point::new(b));
-            EdgeMark::Snap(outline::nearest_boundary_point(
-                m,
-                &lead.points,
-                &lead.loops[..lead.count],
-            ))
+            EdgeMark::Snap(lead.nearest(m))
         }
         _ => EdgeMark::Straight,
     }
 }
 
 // The same where the edge stays, and else straight: it joins two kept points over dropped ones.
+// Kept: the kind is handed on as the byte that the caller lent.
 fn surviving_mark(
     stays: bool,
     kind: u8,
@@ -85,7 +88,6 @@ fn surviving_mark(
     b: GridPoint,
     lead: &LeadLine,
 ) -> EdgeMark
-    requires { Fits lead.now }
     ensures { result ≡ cond stays (Marked.mark_of kind p (Marked.lead_point (sought lead.now) a b)) Straight }
 {
     if stays {
@@ -97,7 +99,6 @@ fn surviving_mark(
 
 // The marks of the ring after cleaning. The edge from a kept place stays exactly if the next kept place is the next place of
 // the ring.
-// Kept: an edge looks at two kept places, this one and the next round the ring, so that it counts places.
 fn marks_left(
     ring: &Ring,
     clean: &CleanedRing,
@@ -105,17 +106,16 @@ fn marks_left(
     snaps: &[f64],
     lead: &LeadLine,
 ) -> [Edge; MOST_POINTS]
-    requires { Fits lead.now × MarksOf ring.now kinds.now snaps.now clean.now }
+    requires { MarksOf ring.now kinds.now snaps.now clean.now }
     ensures { Laid (mark_left ring.now clean.now kinds.now snaps.now (sought lead.now)) clean.now.ring.count result }
 {
-    let n = ring.count;
-    let count = clean.ring.count;
+    let places = &clean.places[..clean.ring.count];
     let mut edges = [Edge::STRAIGHT; MOST_POINTS];
-    for j in 0..count {
-        let k = clean.places[j] as usize;
-        let after = vector::next(k, n);
-        let kept = clean.places[vector::next(j, count)] as usize;
-        let p = given_tests::snap_at(snaps, k);
+    for (j, place) in places.iter().enumerate() {
+        let k = usize::from(*place);
+        let after = vector::next(k, ring.count);
+        let kept = usize::from(places[vector::next(j, places.len())]);
+        let p = nodes::point_at(snaps, k);
         let mark = surviving_mark(
             kept == after,
             kinds[k],

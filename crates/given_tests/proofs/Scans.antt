@@ -1,16 +1,15 @@
 -- The scans of refusals 13 and 14, place by place: kinds, given points and loops. The sum of the loops stops past 60, where the outline has too few points
 -- for it.
-use Prim.Native.Nat.{ℕ, zero, suc, ◌+◌, ◌*◌, ◌≤◌, ◌<◌}
+use Prim.Native.Nat.{ℕ, ◌+◌, ◌*◌, ◌≤◌, ◌<◌}
 use native.Mathlib.Omega.{arith}
-use mathlib.Core.Path.{◌≡◌, refl, sym, ap, ◌∙◌}
+use mathlib.Core.Path.{◌≡◌, sym, ap, ◌∙◌}
 use mathlib.Core.Bool.{Bool, true, false, not, ◌||◌}
-use mathlib.Core.List.{List, [], ◌∷◌}
+use mathlib.Core.List.{List, []}
 use lib.ListN.{length, get_or, take}
 use lib.Seq.{take-length}
 use lib.Dec.{ltb, eqb}
 use lib.Ieee.{Float}
 use borrow.Author.Tests.{lt-ltb, ltb-false, ne_eqb, eqb-true}
-use Rattle.std.specs.List.{list_any}
 use Rattle.laws.specs.Bounded.{any}
 use Rattle.laws.proofs.Booleans.{is_true, is_false, not-of, neither, or-true}
 use Rattle.laws.proofs.Search.{any_hit, any_none}
@@ -25,48 +24,29 @@ calls kinds i = eqb (get_or kinds i 0) 2
 abbrev pub out_at : List ℕ → List Float → ℕ → Bool
 out_at kinds snaps i = mark_out (get_or kinds i 0) (node_in_of snaps i)
 
--- ---- the library's search over the elements is the one over their places
-any-first : (p : ℕ → Bool) (n : ℕ) → any p (suc n) ≡ (p 0 || any (λ i. p (suc i)) n)
-unfolding any
-any-first p zero = last (p 0)
-  where
-    last : (b : Bool) → (false || b) ≡ (b || false)
-    last true = refl
-    last false = refl
-any-first p (suc n) = ap (λ (b : Bool). b || p (suc n)) (any-first p n) ∙ apart (p 0) (any (λ i. p (suc i)) n) (p (suc n))
-  where
-    apart : (a b d : Bool) → (a || b || d) ≡ (a || (b || d))
-    apart true b d = refl
-    apart false b d = refl
-
-pub list-any-is : (p : ℕ → Bool) (l : List ℕ) → list_any p l ≡ any (λ i. p (get_or l i 0)) (length l)
-unfolding any
-list-any-is p [] = refl
-list-any-is p (x ∷ l) = ap (λ (b : Bool). p x || b) (list-any-is p l) ∙ sym (any-first (λ i. p (get_or (x ∷ l) i 0)) (length l))
-
 -- ---- loops
 abbrev pub short : List ℕ → ℕ → Bool
 short ms i = ltb (get_or ms i 0) 3
 
 module _ (ms : List ℕ) (n : ℕ) where
-  pub loop-short : (i : ℕ) → i < length ms → get_or ms i 0 < 3 → true ≡ loops_out ms n
+  pub loop_short : (i : ℕ) → i < length ms → get_or ms i 0 < 3 → true ≡ loops_out ms n
   unfolding loops_out
-  loop-short i l h = sym (ap (λ (b : Bool). b || not (eqb (total ms) n)) (any_hit (short ms) i (length ms) l (lt-ltb (get_or ms i 0) 3 h)))
+  loop_short i l h = sym (ap (λ (b : Bool). b || not (eqb (total ms) n)) (any_hit (short ms) i (length ms) l (lt-ltb (get_or ms i 0) 3 h)))
 
-  pub sum-next : (i t : ℕ) → i < length ms → t ≡ total (take i ms) → t + get_or ms i 0 ≡ total (take (i + 1) ms)
-  sum-next i t l e = omega (arith, e, sum_more [] ms i (length ms) l (omega arith))
+  pub sum_next : (i t : ℕ) → i < length ms → t ≡ total (take i ms) → t + get_or ms i 0 ≡ total (take (i + 1) ms)
+  sum_next i t l e = omega (arith, e, sum_more [] ms i (length ms) l (omega arith))
 
-  pub loops-over : (i : ℕ) → n ≤ 60 → 60 < total (take i ms) → i ≤ length ms → true ≡ loops_out ms n
+  pub loops_over : (i : ℕ) → n ≤ 60 → 60 < total (take i ms) → i ≤ length ms → true ≡ loops_out ms n
   unfolding loops_out
-  loops-over i k h l =
+  loops_over i k h l =
       let a = total_up ms i (length ms) l in
       let b : total (take (length ms) ms) ≡ total ms = ap total (take-length ms) in
       sym
       (ap (λ (b : Bool). any (short ms) (length ms) || not b) (ne_eqb (total ms) n (λ e. omega (arith, a, b, h, k, e))) ∙ or-true (any (short ms) (length ms)))
 
-  pub loops-sum : (i t : ℕ) → i ≡ length ms → any (short ms) i ≡ false → t ≡ total (take i ms) → not (eqb t n) ≡ loops_out ms n
+  pub loops_sum : (i t : ℕ) → i ≡ length ms → any (short ms) i ≡ false → t ≡ total (take i ms) → not (eqb t n) ≡ loops_out ms n
   unfolding loops_out
-  loops-sum i t e a s =
+  loops_sum i t e a s =
       let b : t ≡ total ms = s ∙ ap (λ (k : ℕ). total (take k ms)) e ∙ ap total (take-length ms) in
       ap (λ (k : ℕ). not (eqb k n)) b ∙ sym (ap (λ (b : Bool). b || not (eqb (total ms) n)) (ap (any (short ms)) (sym e) ∙ a))
 

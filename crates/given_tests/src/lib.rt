@@ -5,33 +5,23 @@
 
 #![tactic(auto)]
 
-ghost use Rattle.std.specs.Prelude.{◌≡◌, ◌+◌, ◌*◌, ◌≤◌, length};
+ghost use Rattle.std.specs.Prelude.{◌≡◌, ◌+◌, ◌*◌, ◌≤◌};
 ghost use Rattle.vector.specs.Rings.{most_points};
-ghost use Rattle.nodes.specs.Flat.{node_in_of};
 ghost use Rattle.call.specs.Marked as Marked;
 
 use vector::{MOST_POINTS, Point};
 
 // A mark that is of no kind, or whose given point is out of limits.
 // Kept: the kinds are the bytes of the C interface, and an enum for them would only be matched back to these two tests.
+#[tactic(auto, unfolding(call::specs::Marked::mark_out))]
 fn mark_out(kind: u8, p: Point) -> bool
     ensures { result ≡ Marked.mark_out kind p }
 {
     2 < kind || kind == 1 && !(nodes::is_held(p.x) && nodes::is_held(p.y))
 }
 
-// The point that is given with mark i.
-pub fn snap_at(snaps: &[f64], i: usize) -> Point
-    requires { i * 2 + 2 ≤ length snaps.now }
-    ensures { result ≡ node_in_of snaps.now i }
-{
-    Point {
-        x: snaps[i * 2],
-        y: snaps[i * 2 + 1],
-    }
-}
-
 // 13: the marks of a ring of n points. The given point of a mark that is not of kind 1 may be anything.
+#[tactic(auto, unfolding(call::specs::Marked::marks_out))]
 pub fn marks_out(n: usize, kinds: &[u8], snaps: &[f64]) -> bool
     requires { n ≤ most_points }
     ensures { result ≡ Marked.marks_out kinds.now snaps.now n }
@@ -40,7 +30,7 @@ pub fn marks_out(n: usize, kinds: &[u8], snaps: &[f64]) -> bool
         return true;
     }
     for (i, kind) in kinds.iter().enumerate() {
-        if mark_out(*kind, snap_at(snaps, i)) {
+        if mark_out(*kind, nodes::point_at(snaps, i)) {
             return true;
         }
     }
@@ -55,6 +45,7 @@ pub fn called_for(kinds: &[u8]) -> bool
 }
 
 // Loops that have under 3 points, or do not add up to n, at most 60. The sum stops past 60, so that it does not wrap.
+#[tactic(auto, using(crate::proofs::Scans::loop_short, crate::proofs::Scans::sum_next, crate::proofs::Scans::loops_over, crate::proofs::Scans::loops_sum))]
 fn loops_out(loops: &[u32], n: usize) -> bool
     requires { n ≤ most_points }
     ensures { result ≡ Marked.loops_out loops.now n }
@@ -73,6 +64,7 @@ fn loops_out(loops: &[u32], n: usize) -> bool
 }
 
 // 14: the outline, where it is called for. Where it is not, it may be anything.
+#[tactic(auto, unfolding(call::specs::Marked::outline_out))]
 pub fn outline_out(kinds: &[u8], outline: &[i32], loops: &[u32]) -> bool
     ensures { result ≡ Marked.outline_out kinds.now outline.now loops.now }
 {

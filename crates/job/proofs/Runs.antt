@@ -12,15 +12,18 @@ use lib.Seq.{take_all, take-append-le, drop-append-le, drop_at, get_or-take, get
 use lib.Dec.{eqb}
 use lib.IntN.{ℤ, pos}
 use lib.Ieee.{Float}
-use Rattle.blocks.proofs.Accepted.{allowed, refused_it, reads_it}
+use Rattle.std.specs.Prelude.{Result, Ok, Err}
+use Rattle.blocks.proofs.Accepted.{was_allowed}
 use Rattle.blocks.proofs.Counts.{points, few-points, all-places}
 use Rattle.blocks.specs.declared.Block.{Block}
-use Rattle.blocks.specs.declared.Block.TheVariants.{Ring, Chain, Refused}
+use Rattle.blocks.specs.declared.Block.TheVariants.{Ring, Chain}
+use Rattle.blocks.specs.declared.Reading.{Reading}
+use Rattle.blocks.specs.declared.Refused.{Refused}
 use Rattle.blocks.specs.Fields.{pair}
-use Rattle.blocks.specs.Blocks.{count_of, size_of, refusal, refused_block, accepted_block, read_block}
+use Rattle.blocks.specs.Blocks.{read_block}
 use Rattle.state.specs.declared.State.{State}
 use Rattle.told.specs.declared.Told.{Told}
-use Rattle.job.specs.Step.{Step, text_of, ends, waits, divides, taken, step_of}
+use Rattle.job.specs.Step.{Step, text_of, ends, waits, divides, taken, answered, step_of}
 use Rattle.job.specs.Run.{Bytes, Course, onward, ran, block_at, read_to}
 
 -- ---- a step
@@ -42,16 +45,10 @@ either p false x y a b = b
 
 module _ (s : State) (ps : List ℤ) (l : List Float) (rs : List ℕ) where
   -- an accepted block: a ring that waits, or one that is divided
-  accepted : (t : Bool) (count size : ℕ) (qs : List ℤ)
-      → ((taken s ps l rs qs (cond t (Ring count size) (Chain count))).state.block ≡ s.block + 1)
-      × ((taken s ps l rs qs (cond t (Ring count size) (Chain count))).state.ended ≡ false)
+  accepted : (qs : List ℤ) (a : Block) → ((taken s ps l rs qs a).state.block ≡ s.block + 1) × ((taken s ps l rs qs a).state.ended ≡ false)
   unfolding taken waits divides
-  accepted true count size qs = (refl, refl)
-  accepted false count size qs = (refl, refl)
-
-  refused-ends : (k n : ℕ) (qs : List ℤ) → (taken s ps l rs qs (Refused k n)).state.ended ≡ true
-  unfolding taken ends
-  refused-ends k n qs = refl
+  accepted qs (Ring count size) = (refl, refl)
+  accepted qs (Chain count) = (refl, refl)
 
   ends-ended : (t : Told) → (ends s ps l rs t).state.ended ≡ true
   unfolding ends
@@ -63,39 +60,41 @@ module _ (s : State) (ps : List ℤ) (l : List Float) (rs : List ℕ) where
     ends_held t = record { few = few; long = long }
 
     taken-held : (qs : List ℤ) (a : Block) → points a ≤ 60 → length qs ≡ 120 → Held (taken s ps l rs qs a).state (taken s ps l rs qs a).points
-    unfolding taken waits divides ends
+    unfolding taken waits divides
     taken-held qs (Ring count size) f g = record { few = f; long = g }
     taken-held qs (Chain count) f g = record { few = few; long = long }
-    taken-held qs (Refused code n) f g = record { few = few; long = long }
 
   module _ (b : List ℕ) where
-    abbrev goes_on_of : Step
-    goes_on_of = taken s ps l rs (read_block b s.block).points (read_block b s.block).block
-
-    by_answer : Dec (refusal b s.block ≤ 0) → (goes_on_of.state.ended ≡ true) ⊎ Went s b goes_on_of
-    unfolding accepted_block refused_block
-    by_answer (yes h) =
-        let f = allowed b s.block (omega arith) in
-        rw (reads_it b s.block f) (
-        let a = accepted (eqb (s.block % 2) 0) (count_of b) (size_of b) _ in
+    by_answer : (a : Result Reading Refused) → read_block b s.block ≡ a
+        → ((answered s ps l rs a).state.ended ≡ true) ⊎ Went s b (answered s ps l rs a)
+    unfolding answered
+    by_answer (Ok r) e =
+        let f = was_allowed b s.block r e in
+        let a = accepted r.points r.block in
         inr (record { whole = f.whole; number = f.number; next = a.0; going = a.1 })
-        )
-    by_answer (no h) = rw (refused_it b s.block (λ q. h (omega arith))) (inl (refused-ends _ _ _))
+    by_answer (Err e) d = inl (ends-ended (Told.Block e))
 
     pub outcome : ((step_of s ps l rs b).state.ended ≡ true) ⊎ Went s b (step_of s ps l rs b)
     unfolding step_of
     outcome =
-        either (λ (e : Step). (e.state.ended ≡ true) ⊎ Went s b e) (eqb (s.block % 2) 0 && eqb (length b) 0) (ends s ps l rs Told.Nothing) goes_on_of
+        either (λ (e : Step). (e.state.ended ≡ true) ⊎ Went s b e) (eqb (s.block % 2) 0 && eqb (length b) 0) (ends s ps l rs Told.Nothing)
+        (answered s ps l rs (read_block b s.block))
         (inl (ends-ended Told.Nothing))
-        (by_answer (dec_le (refusal b s.block) 0))
+        (by_answer (read_block b s.block) refl)
+
+    answered-held : s.count ≤ 60 → length ps ≡ 120 → (a : Result Reading Refused) → read_block b s.block ≡ a
+        → Held (answered s ps l rs a).state (answered s ps l rs a).points
+    unfolding answered
+    answered-held f g (Ok r) e = taken-held f g r.points r.block (few-points b s.block r e) (all-places b s.block r e)
+    answered-held f g (Err e) d = ends_held f g (Told.Block e)
 
     pub step-held : s.count ≤ 60 → length ps ≡ 120 → Held (step_of s ps l rs b).state (step_of s ps l rs b).points
     unfolding step_of
     step-held f g =
-        either (λ (e : Step). Held e.state e.points) (eqb (s.block % 2) 0 && eqb (length b) 0) (ends s ps l rs Told.Nothing) goes_on_of
+        either (λ (e : Step). Held e.state e.points) (eqb (s.block % 2) 0 && eqb (length b) 0) (ends s ps l rs Told.Nothing)
+        (answered s ps l rs (read_block b s.block))
         (ends_held f g Told.Nothing)
-        (taken-held f g (read_block b s.block).points (read_block b s.block).block (few-points b s.block (read_block b s.block) refl)
-        (all-places b s.block (read_block b s.block) refl))
+        (answered-held f g (read_block b s.block) refl)
 
     -- a number of two bytes
     pub number-below : Bytes b → Went s b (step_of s ps l rs b) → s.block < 65536

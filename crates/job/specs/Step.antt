@@ -1,11 +1,13 @@
 -- 01, Job blocks, program, and What is returned: one step of a run, from the bytes of a block to what is told of it and what is kept. Definitions only.
-use Rattle.std.specs.Prelude.{ℕ, ◌+◌, ◌*◌, ◌/◌, ◌%◌, ◌≤◌, ◌≡◌, true, false, ◌&&◌, cond, List, length, take, replicate, eqb, ℤ, Float}
+use Rattle.std.specs.Prelude.{ℕ, ◌+◌, ◌*◌, ◌/◌, ◌%◌, ◌≤◌, ◌≡◌, true, false, ◌&&◌, cond, List, length, take, replicate, eqb, ℤ, Float, Result, Ok, Err}
 use Rattle.limits.specs.Limits.{delivered}
 use Rattle.nodes.specs.Flat.{over}
 use Rattle.quads.specs.Flat.{over_cells}
 use Rattle.call.specs.Lent.{Lent, divide_lent}
 use Rattle.blocks.specs.declared.Block.{Block}
-use Rattle.blocks.specs.declared.Block.TheVariants.{Ring, Chain, Refused}
+use Rattle.blocks.specs.declared.Block.TheVariants.{Ring, Chain}
+use Rattle.blocks.specs.declared.Reading.{Reading}
+use Rattle.blocks.specs.declared.Refused.{Refused}
 use Rattle.blocks.specs.Blocks.{read_block}
 use Rattle.told.specs.declared.Told.{Told}
 use Rattle.told.specs.Text.{told_text, CanTell}
@@ -67,18 +69,21 @@ divides s ps l rs chain =
       told = Told.Ring (s.block / 2) s.used a.row;
     }
 
--- a block with the points qs, as it was read. "A block refusal ends the run with `block NUMBER refused CODE`"
+-- a block with the points qs, as it was read
 unfoldable pub taken : State → List ℤ → List Float → List ℕ → List ℤ → Block → Step
 taken s ps l rs qs (Ring count size) = waits s l rs count size qs
 taken s ps l rs qs (Chain count) = divides s ps l rs (take (count * 2) qs)
-taken s ps l rs qs (Refused code n) = ends s ps l rs (Told.Block n code)
+
+-- a block that was read, or was refused: "A block refusal ends the run with `block NUMBER refused CODE`"
+unfoldable pub answered : State → List ℤ → List Float → List ℕ → Result Reading Refused → Step
+answered s ps l rs (Ok r) = taken s ps l rs r.points r.block
+answered s ps l rs (Err e) = ends s ps l rs (Told.Block e)
 
 -- the step over the bytes b of the next block: 512 of them, or what is left of the input, or none where it has ended. "part of a block, or the input ends
 -- after a ring block" is 9, with the number "of the missing chain block"; where the input ends after a chain block, or is empty, nothing is printed
 unfoldable pub step_of : State → List ℤ → List Float → List ℕ → List ℕ → Step
 step_of s ps l rs b =
-    let r = read_block b s.block in
-    cond (eqb (s.block % 2) 0 && eqb (length b) 0) (ends s ps l rs Told.Nothing) (taken s ps l rs r.points r.block)
+    cond (eqb (s.block % 2) 0 && eqb (length b) 0) (ends s ps l rs Told.Nothing) (answered s ps l rs (read_block b s.block))
 
 -- the code's step answered r, and left the points q, the nodes m, the rim marks w and the cells p; and what it tells can be printed
 pub record Steps (e : Step) (r : Stepped) (q : List ℤ) (m : List Float) (w p : List ℕ) : Type 0 where

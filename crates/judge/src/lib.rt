@@ -5,20 +5,15 @@
 
 #![tactic(auto)]
 
-ghost use Rattle.std.specs.Prelude.{◌≡◌};
-ghost use Rattle.vector.specs.Size.{OnSheet, Step};
-ghost use Rattle.root.specs.Norm.{grid_norm};
+ghost use Rattle.std.specs.Prelude.{◌≡◌, ◌&&◌};
+ghost use Rattle.vector.specs.Size.{OnSheet};
+ghost use Rattle.vector.specs.Grid.{sub};
+ghost use Rattle.cosine.specs.Cosine.{cosine};
 ghost use Rattle.judge.specs.Judge as Judge;
 
+use cosine::Side;
 use limits::Limits;
 use vector::GridPoint;
-
-#[tactic(auto, unfolding(crate::specs::Judge::in_range))]
-fn in_range(limits: Limits, c: f64) -> bool
-    ensures { result ≡ Judge.in_range limits c }
-{
-    c <= limits.greatest && limits.least <= c
-}
 
 // Kept: f64::max takes the other number where one is no number, and of two zeros either; this is the comparison alone.
 #[tactic(auto, unfolding(crate::specs::Judge::larger))]
@@ -28,29 +23,48 @@ fn larger(x: f64, y: f64) -> f64
     if x < y { y } else { x }
 }
 
-// A step from the corner where a diagonal begins, with its norm, which all diagonals from there share.
-#[derive(Clone, Copy)]
-pub struct Side {
-    pub step: GridPoint,
-    pub norm: f64,
-    ghost is_step: { Step step },
-    ghost is_norm: { norm ≡ grid_norm step },
+#[tactic(auto, unfolding(crate::specs::Judge::in_range))]
+fn in_range(limits: Limits, c: f64) -> bool
+    ensures { result ≡ Judge.in_range limits c }
+{
+    c <= limits.greatest && limits.least <= c
 }
 
-impl Side {
-    pub fn new(step: GridPoint) -> Side
-        requires { Step step }
-        ensures { result.step ≡ step }
+// The cosines of the diagonal from o to q with the two sides at o.
+#[derive(Clone, Copy)]
+pub struct Cosines {
+    pub next: f64,
+    pub prev: f64,
+}
+
+impl Cosines {
+    pub fn of(o: GridPoint, q: GridPoint, next: Side, prev: Side) -> Cosines
+        requires { OnSheet o × OnSheet q }
+        ensures { result ≡ record { next = cosine next.step (sub q o); prev = cosine prev.step (sub q o) } }
     {
-        Side {
-            step,
-            norm: root::grid_norm(step),
+        let d = Side::new(q.sub(o));
+        Cosines {
+            next: cosine::cosine(next, d),
+            prev: cosine::cosine(prev, d),
         }
+    }
+
+    // The larger of the two, by which the best diagonal is chosen.
+    pub fn larger(self) -> f64
+        ensures { result ≡ Judge.larger self.next self.prev }
+    {
+        larger(self.next, self.prev)
+    }
+
+    fn between(self, limits: Limits) -> bool
+        ensures { result ≡ (Judge.in_range limits self.next && Judge.in_range limits self.prev) }
+    {
+        in_range(limits, self.next) && in_range(limits, self.prev)
     }
 }
 
-// The larger cosine of the diagonal from o to q, by which the best is chosen, if it may be taken: its ends differ, and both cosines
-// are between the limits. The sides are the steps from o to the next corner and to the one before.
+// The larger cosine of the diagonal from o to q, if it may be taken: its ends differ, and both cosines are between the limits.
+// The sides are the steps from o to the next corner and to the one before.
 pub fn judge(limits: Limits, o: GridPoint, q: GridPoint, next: Side, prev: Side) -> Option<f64>
     requires { OnSheet o × OnSheet q }
     ensures { result ≡ Judge.judged limits o q next.step prev.step }
@@ -58,9 +72,6 @@ pub fn judge(limits: Limits, o: GridPoint, q: GridPoint, next: Side, prev: Side)
     if o == q {
         return None;
     }
-    let d = q.sub(o);
-    let nd = root::grid_norm(d);
-    let x = cosine::cosine(next.step, next.norm, d, nd);
-    let y = cosine::cosine(prev.step, prev.norm, d, nd);
-    (in_range(limits, x) && in_range(limits, y)).then_some(larger(x, y))
+    let c = Cosines::of(o, q, next, prev);
+    c.between(limits).then_some(c.larger())
 }

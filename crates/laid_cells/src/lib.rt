@@ -27,7 +27,7 @@ pub fn put_cells(cells: &mut [NodeNumber], round: &Round<'_>)
     requires { length round.now.middles.now * 4 ≤ length cells.old }
     ensures { cells.new ≡ over_cells cells.old (cells_of round.now) }
 {
-    // Kept: k is counted, since a chunk's writes are not known after a loop over chunks_exact_mut.
+    // Kept: k is counted, since the library does not say what a list ends as after `as_chunks_mut` or `chunks_exact_mut`.
     for k in 0..round.middles.len() {
         let at = k * 4;
         put_cell(&mut cells[at..], round.cell(k));

@@ -6,64 +6,62 @@
 
 #![tactic(auto)]
 
-ghost use Rattle.std.specs.Prelude.{◌≡◌, ◌*◌, ◌≤◌, length};
-ghost use Rattle.choice.specs.Search as Search;
+ghost use Rattle.std.specs.Prelude.{◌≡◌, ◌*◌, ◌^◌, ◌≤◌, ◌<◌, length, MatchOption};
+ghost use Rattle.choice.specs.Search as Rule;
 ghost use Rattle.least.specs.Trial.{trial_of, choice_of};
 
-// The number of a choice among the first r points.
-fn trial(ring: &[i32], r: usize, chain: &[i32], size: u32, choice: u32) -> u64
-    requires { (r ≤ 12) × (r * 2 ≤ length ring.now) }
-    ensures { result ≡ trial_of ring.now chain.now size r choice }
-{
-    let p = choice::choose(ring, r, choice);
-    let points = p.points;
-    let n = p.count;
-    lone_ring::number(&points[..n], chain, size)
+// The choices among the first points of a ring, of which one is wanted whose own ring gets a number.
+// Kept: the number is that of a row, by which a ring's own run and those of its choices are compared, and which C is answered.
+#[derive(Clone, Copy)]
+pub struct Search<'a> {
+    pub ring: &'a [i32],
+    pub points: usize,
+    pub chain: &'a [i32],
+    pub size: u32,
+    pub wanted: u64,
+    ghost few: { points ≤ 12 },
+    ghost in_ring: { points * 2 ≤ length ring.now },
 }
 
-// Whether a choice has k points and gets the number.
-fn hits(ring: &[i32], r: usize, chain: &[i32], size: u32, wanted: u64, k: u32, choice: u32) -> bool
-    requires { (r ≤ 12) × (r * 2 ≤ length ring.now) }
-    ensures { result ≡ Search.hits (trial_of ring.now chain.now size r) wanted k choice }
-{
-    if u32::count_ones(choice) != k {
-        return false;
+impl Search<'_> {
+    // The number of a choice.
+    fn trial(&self, choice: u32) -> u64
+        ensures { result ≡ trial_of self.now.ring.now self.now.chain.now self.now.size self.now.points choice }
+    {
+        let p = choice::choose(self.ring, self.points, choice);
+        lone_ring::number(&p.points[..p.count], self.chain, self.size)
     }
-    trial(ring, r, chain, size, choice) == wanted
-}
 
-// The first choice of k points that gets the number, of the n = 2^r choices; n if none does.
-fn first_of_count(
-    ring: &[i32],
-    r: usize,
-    chain: &[i32],
-    size: u32,
-    wanted: u64,
-    n: u32,
-    k: u32,
-) -> u32
-    requires { (r ≤ 12) × (r * 2 ≤ length ring.now) }
-    ensures { result ≡ Search.first_of_count (trial_of ring.now chain.now size r) wanted n k }
-{
-    for c in 0..n {
-        if hits(ring, r, chain, size, wanted, k, c) {
-            return c;
+    // Whether a choice has k points and gets the number.
+    fn hits(&self, k: u32, choice: u32) -> bool
+        ensures { result ≡ Rule.hits (trial_of self.now.ring.now self.now.chain.now self.now.size self.now.points) self.now.wanted k choice }
+    {
+        choice.count_ones() == k && self.trial(choice) == self.wanted
+    }
+
+    // The first choice of k points that gets the number.
+    fn first_of_count(&self, k: u32) -> Option<u32>
+        ensures { MatchOption result
+            (Rule.first_of_count (trial_of self.now.ring.now self.now.chain.now self.now.size self.now.points) self.now.wanted (2 ^ self.now.points) k
+            ≡ 2 ^ self.now.points)
+            (λ c. (c < 2 ^ self.now.points)
+            × (Rule.first_of_count (trial_of self.now.ring.now self.now.chain.now self.now.size self.now.points) self.now.wanted (2 ^ self.now.points) k ≡ c)) }
+    {
+        (0..choice::power(self.points)).find(|c| self.hits(k, *c))
+    }
+
+    // The first choice by rising count, of 3 points or more, then by rising number, that gets the number.
+    pub fn least(&self) -> Option<u32>
+        ensures { MatchOption result
+            (choice_of self.now.ring.now self.now.chain.now self.now.size self.now.points self.now.wanted ≡ 2 ^ self.now.points)
+            (λ c. (c < 2 ^ self.now.points)
+            × (choice_of self.now.ring.now self.now.chain.now self.now.size self.now.points self.now.wanted ≡ c)) }
+    {
+        for k in 3..self.points + 1 {
+            if let Some(c) = self.first_of_count(k as u32) {
+                return Some(c);
+            }
         }
+        None
     }
-    n
-}
-
-// The first choice by rising count, then by rising number, that gets the number; 2^r if none does.
-pub fn least(ring: &[i32], r: usize, chain: &[i32], size: u32, wanted: u64) -> u32
-    requires { (r ≤ 12) × (r * 2 ≤ length ring.now) }
-    ensures { result ≡ choice_of ring.now chain.now size r wanted }
-{
-    let n = choice::power(r);
-    for k in 3..r + 1 {
-        let c = first_of_count(ring, r, chain, size, wanted, n, k as u32);
-        if c < n {
-            return c;
-        }
-    }
-    n
 }

@@ -3,13 +3,13 @@ use Prim.Native.Nat.{ℕ, zero, suc, ◌+◌, ◌-◌, ◌*◌, ◌≤◌, ◌<�
 use native.Mathlib.Omega.{arith}
 use native.Mathlib.Numerals.{unary_clauses}
 use mathlib.Core.Path.{◌≡◌, refl, sym, ap, ◌∙◌}
-use mathlib.Core.Bool.{Bool, ◌||◌, or-false, or_assoc}
+use mathlib.Core.Bool.{Bool}
 use mathlib.Core.List.{List, [], ◌∷◌, ◌++◌}
 use lib.IntN.{ℤ, pos}
 use lib.ListN.{length, get_or, set, take, drop, replicate, take-append-drop}
 use lib.Seq.{drop-set-lt, drop-drop, get_or-take}
 use Rattle.laws.specs.Bounded.{any}
-use Rattle.laws.proofs.Search.{any_ext}
+use Rattle.laws.proofs.Search.{any_ext, any_listed}
 use Rattle.std.specs.List.{list_any}
 use Rattle.std.specs.Simd.{first_chunks}
 use Rattle.laws.specs.Table.{tab}
@@ -28,17 +28,6 @@ unfolding any_outside
 any-outside-is l n =
     ap (λ (k : ℕ). any (λ i. outside (get_or (points_in l n) i origin)) k) (length_tab (point_in l) n)
     ∙ any_ext (λ i. outside (get_or (points_in l n) i origin)) (outside_at l) n (λ i h. ap outside (get_d_tab (point_in l) n i origin h))
-
--- std's `list_any` tests the elements of a list, and `any` their places
-any_first : (p : ℕ → Bool) (n : ℕ) → any p (suc n) ≡ (p 0 || any (λ i. p (suc i)) n)
-unfolding any
-any_first p zero = sym (or-false (p 0))
-any_first p (suc n) = ap (λ b. b || p (suc n)) (any_first p n) ∙ or_assoc (p 0) (any (λ i. p (suc i)) n) (p (suc n))
-
-pub any_listed : {A : Type 0} (p : A → Bool) (d : A) (l : List A) → list_any p l ≡ any (λ i. p (get_or l i d)) (length l)
-unfolding any
-any_listed p d [] = refl
-any_listed p d (x ∷ l) = ap (λ b. p x || b) (any_listed p d l) ∙ sym (any_first (λ i. p (get_or (x ∷ l) i d)) (length l))
 
 -- ---- the numbers of a ring, two and two
 -- pair i has the numbers of point i

@@ -29,10 +29,6 @@ pub zero_is : (b : ℕ) → b ≡ 0 → of_bits binary64 b ≡ nat 0
 unfolding of_bits of_int round
 zero_is b e = ap (of_bits binary64) e
 
-pub one_is : (b : ℕ) → b ≡ 0x3FF0_0000_0000_0000 → of_bits binary64 b ≡ nat 1
-unfolding of_bits of_int round
-one_is b e = ap (of_bits binary64) e
-
 pub two_is : (b : ℕ) → b ≡ 0x4000_0000_0000_0000 → of_bits binary64 b ≡ nat 2
 unfolding of_bits of_int round
 two_is b e = ap (of_bits binary64) e

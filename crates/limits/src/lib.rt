@@ -47,6 +47,7 @@ impl Limits {
     };
 
     // The set on delivery.
+    #[tactic(auto, using(crate::proofs::Delivered::code_is))]
     pub fn on_delivery() -> Limits
         ensures { result ≡ delivered }
     {
@@ -63,7 +64,7 @@ fn between(low: f64, high: f64, x: f64) -> bool
 }
 
 // The cosines of a diagonal: each between -1 and 1, and the least not above the greatest.
-#[tactic(auto, using(crate::proofs::Literals::one_is, crate::proofs::Literals::minus_one_is), unfolding(crate::specs::Sets::cosines_out))]
+#[tactic(auto, using(laws::proofs::Constants::one_is, crate::proofs::Literals::minus_one_is), unfolding(crate::specs::Sets::cosines_out))]
 fn cosines_out(least: f64, greatest: f64) -> bool
     ensures { result ≡ Sets.cosines_out least greatest }
 {
@@ -71,7 +72,7 @@ fn cosines_out(least: f64, greatest: f64) -> bool
 }
 
 // 15: the set of limits.
-#[tactic(auto, using(crate::proofs::Literals::zero_is, crate::proofs::Literals::one_is, crate::proofs::Literals::two_is), unfolding(crate::specs::Sets::limits_out))]
+#[tactic(auto, using(crate::proofs::Literals::zero_is, laws::proofs::Constants::one_is, crate::proofs::Literals::two_is), unfolding(crate::specs::Sets::limits_out))]
 pub fn limits_out(limits: Limits) -> bool
     ensures { result ≡ Sets.limits_out limits }
 {

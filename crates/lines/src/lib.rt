@@ -29,11 +29,11 @@ pub enum Fault {
     Beyond = 23,
 }
 
-impl Fault {
-    pub fn number(self) -> u32
-        ensures { result ≡ Says.number_of self }
-    {
-        self as u32
+impl From<Fault> for u32 {
+    ghost from_gives = { λ f n. n ≡ Says.number_of f };
+
+    fn from(f: Fault) -> u32 {
+        f as u32
     }
 }
 
@@ -107,6 +107,7 @@ fn hear_chain(more: &[u8]) -> Result<Line, Fault>
     }
 }
 
+#[tactic(auto, using(crate::proofs::Sheet::abs_signed))]
 fn coordinate(n: Said) -> Result<i32, Fault>
     requires { Scaled n }
     ensures said { result ≡ Says.coordinate n }
@@ -128,6 +129,7 @@ fn hear_point(first: &[u8], second: &[u8]) -> Result<Line, Fault>
 }
 
 // A line of one word, or of two.
+#[tactic(auto, unfolding(crate::specs::Line::words, text::specs::Text::bytes))]
 fn hear_words(first: &[u8], second: &[u8]) -> Result<Line, Fault>
     ensures said { result ≡ Says.words first.now second.now }
     ensures on_sheet { IfOk result Says.HeardOnSheet }
@@ -142,6 +144,7 @@ fn hear_words(first: &[u8], second: &[u8]) -> Result<Line, Fault>
 }
 
 // What the line says.
+#[tactic(auto, unfolding(crate::specs::Line::heard))]
 pub fn hear(line: &[u8]) -> Result<Line, Fault>
     ensures said { result ≡ Says.heard line.now }
     ensures on_sheet { IfOk result Says.HeardOnSheet }

@@ -15,12 +15,12 @@ module _ {p : Page} (w k : ℕ) (t : List ℕ) (e : k ≡ length t) (h : Room p 
   unfolding right
   both = subst (λ (n : ℕ). Room p (spaces (w - n) ++ t)) (sym e) h
 
-  pub right-spaces : Room p (spaces (w - k))
-  right-spaces = room-one (spaces (w - k)) t both
+  pub right_spaces : Room p (spaces (w - k))
+  right_spaces = room-one (spaces (w - k)) t both
 
   module _ {q : Page} (a : Wrote p (spaces (w - k)) q) where
-    pub right-room : Room q t
-    right-room = room-two (spaces (w - k)) t both a
+    pub right_room : Room q t
+    right_room = room-two (spaces (w - k)) t both a
 
     pub right-wrote : {r : Page} → Wrote q t r → Wrote p (right w t) r
     unfolding right

@@ -24,7 +24,7 @@ use Rattle.decimals.proofs.Texts.{sign, decimals-is, shown-most}
 use Rattle.listing.specs.Read.{is_digit_of, read_from, RightAligned}
 use Rattle.listing.specs.Sheet.{right, line, lines, answer, left, nodes_out}
 use Rattle.listing.specs.Claim.{ShownAs, LineOf, SheetIs}
-use Rattle.listing.proofs.Texts.{spaces, number-most, right-long, line-long, lines_long}
+use Rattle.listing.proofs.Texts.{spaces, number_most, right-long, line-long, lines_long}
 use Rattle.listing.proofs.Tests.{usable}
 use Rattle.listing.proofs.Reading.{is_digit, read-decimal, read_right, has_right, aligned, read-decimals, has-decimals, no_space}
 
@@ -100,7 +100,7 @@ unfolding line
 line_of l i h u v =
     let x = get_or l (i * 2) nan in
     let y = get_or l (i * 2 + 1) nan in
-    let a = right-long 8 (decimal i) (number-most i h) in
+    let a = right-long 8 (decimal i) (number_most i h) in
     let b = right-long 28 (shown x) (shown-most x) in
     let c = right-long 28 (shown y) (shown-most y) in
     let k = cut-three (right 8 (decimal i)) (right 28 (shown x)) (right 28 (shown y)) (10 ∷ []) 8 28 28 a b c in

@@ -38,8 +38,8 @@ spaces n = replicate n 32
 pub more-spaces : (i : ℕ) → spaces (suc i) ≡ spaces i ++ (32 ∷ [])
 more-spaces i = ap spaces (sym (add-one i)) ∙ sym (replicate-append-replicate {A = ℕ} i 1 32)
 
-pub number-most : (i : ℕ) → i < 1000000 → length (decimal i) ≤ 8
-number-most i h = omega (arith, at_most 5 i h)
+pub number_most : (i : ℕ) → i < 1000000 → length (decimal i) ≤ 8
+number_most i h = omega (arith, at_most 5 i h)
 
 -- ---- columns
 pub right-long : (w : ℕ) (t : List ℕ) → length t ≤ w → length (right w t) ≡ w
@@ -49,7 +49,7 @@ right-long w t h = length-append (spaces (w - length t)) t ∙ omega (arith, len
 pub line-long : (l : List Float) (i : ℕ) → i < 1000000 → length (line l i) ≡ 65
 unfolding line
 line-long l i h =
-    let a = right-long 8 (decimal i) (number-most i h) in
+    let a = right-long 8 (decimal i) (number_most i h) in
     let x = right-long 28 (shown (get_or l (i * 2) nan)) (shown-most (get_or l (i * 2) nan)) in
     let y = right-long 28 (shown (get_or l (i * 2 + 1) nan)) (shown-most (get_or l (i * 2 + 1) nan)) in
     simp length-append (omega arith)

@@ -37,6 +37,7 @@ fn put_spaces(page: &mut Page, n: usize)
 }
 
 // A node's number, in 8 columns.
+#[tactic(auto, using(crate::proofs::Texts::number_most, crate::proofs::Aligned::right_spaces, crate::proofs::Aligned::right_room))]
 fn put_number(page: &mut Page, i: u64)
     requires { (i < 1000000) × Room page.old (Sheet.right 8 (decimal i)) }
     ensures { Wrote page.old (Sheet.right 8 (decimal i)) page.new }
@@ -90,7 +91,7 @@ fn put_lines(out: &mut [u8], nodes: &[f64], count: usize) -> usize
     ensures { Written out.old 0 (Sheet.lines nodes.now count) result out.new }
 {
     let mut page = Page { out, at: 0 };
-    // Kept: the count is of nodes, whose numbers stand in their lines; chunks of two coordinates would need it beside them.
+    // Kept: a node's number stands in its line, so that `line` has the nodes and a number, as the sheet's one line alone has.
     for i in 0..count {
         line(&mut page, nodes, i);
     }
@@ -98,6 +99,7 @@ fn put_lines(out: &mut [u8], nodes: &[f64], count: usize) -> usize
 }
 
 // 3: the used count, the number of places, or a used node.
+#[tactic(auto, unfolding(crate::specs::Sheet::nodes_out))]
 pub fn nodes_out(nodes: &[f64], count: usize) -> bool
     ensures { result ≡ Sheet.nodes_out nodes.now count }
 {
@@ -108,7 +110,7 @@ pub fn nodes_out(nodes: &[f64], count: usize) -> bool
     !nodes::all_held(nodes, count * 2)
 }
 
-// The sheet of the first `node_count` nodes: 0, or 3 or 17 and no byte written.
+// The sheet of the first `node_count` nodes: 0, or 3 or 17 and no byte written. Kept: a number, which C reads.
 pub fn node_sheet(nodes: &[f64], node_count: usize, out: &mut [u8]) -> u64
     ensures { (result ≡ Sheet.answer nodes.now node_count out.old)
         × (out.new ≡ Sheet.left nodes.now node_count out.old) }

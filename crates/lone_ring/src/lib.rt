@@ -13,6 +13,7 @@ use table::Row;
 
 // The number that a ring gets on an empty node list. The lists have the full reserve of 12 points, and each trial gets new ones.
 // Kept: the number itself, 0 for a ring that is divided, as the search compares and returns it.
+#[tactic(auto, unfolding(crate::specs::Number::number_of))]
 pub fn number(ring: &[i32], chain: &[i32], size: u32) -> u64
     ensures { result ≡ number_of ring.now chain.now size }
 {

@@ -39,6 +39,7 @@ fn units_out(ring: &[i32], size: u32) -> bool
 }
 
 // The first refusal of what is not a list: 1 and 2 of the ring, 13 and 14 of its marks, 15 of the set.
+#[tactic(auto, using(crate::proofs::Refusing::no_chain), unfolding(crate::specs::Steps::early_refusal))]
 fn early_refusal(
     limits: Limits,
     ring: &[i32],

@@ -33,7 +33,7 @@ fn near_segment(p: GridPoint, a: GridPoint, b: GridPoint, tol: f64) -> bool
     }
     let ab = b.sub(a);
     let along = vector::to_double(p.sub(a).dot(ab)) / vector::to_double(ab.dot(ab));
-    let foot = Point::new(a).lerp(Point::new(b), vector::clamp(along, 0.0, 1.0));
+    let foot = Point::new(a).lerp(Point::new(b), along.clamp(0.0, 1.0));
     root::dist_at_most(Point::new(p), foot, tol)
 }
 

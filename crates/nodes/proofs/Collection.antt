@@ -177,9 +177,6 @@ module _ (l : List Float) (used : ℕ) (c : Nearby) (numbers : List ℕ) (xs : L
   pub searchable : Usable l c.old × NearbyLists l c.old numbers xs c.count
   searchable = (fewer l c.old used h.old u, lists l c.window c.old c.count numbers xs all)
 
-  pub room_at : (j : ℕ) → j < c.count → (j < length numbers) × (j < most_nearby)
-  room_at j k = (omega (arith, k, all.places, all.few), omega (arith, k, all.few))
-
   module _ (j : ℕ) (g : j ≡ first (has_listed l numbers (key_of a) (key_of b)) c.count 0) where
     pub found : j < c.count → get_or numbers j 0 ≡ number (nodes_in l used) p
     found k = decided l c.window c.old used c.count numbers xs (key_of a) (key_of b) all u h.old h.framed within j g k ∙ found-is l used p a b e f

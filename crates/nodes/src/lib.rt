@@ -7,17 +7,32 @@
 
 #![tactic(auto)]
 
+ghost use Rattle.std.specs.Prelude.{◌≡◌, ◌+◌, ◌*◌, ◌≤◌, length};
+ghost use Rattle.nodes.specs.Flat.{node_in_of};
+
 mod held;
 mod nearby;
 
 pub use held::{all_held, any_out, is_held};
 pub use nearby::{Collected, MOST_NEARBY, Nearby, Span, Window, block_end};
+use vector::Point;
 
 // The number of a node: its place in the list.
 pub type NodeNumber = u32;
 
 // A node list has no more places than this, so that every place is a number.
 pub const MOST_PLACES: usize = 1000000;
+
+// The point in place i of a list of points, x and y in turn: a node, or a snap point that is lent.
+pub fn point_at(points: &[f64], i: usize) -> Point
+    requires { i * 2 + 2 ≤ length points.now }
+    ensures { result ≡ node_in_of points.now i }
+{
+    Point {
+        x: points[i * 2],
+        y: points[i * 2 + 1],
+    }
+}
 
 // A point's number, and how many places are then used.
 #[derive(Clone, Copy)]

@@ -8,7 +8,7 @@ ghost use Rattle.laws.specs.Within.{Within};
 ghost use Rattle.nodes.specs.Nearby.{most_nearby, span, Spans, in_span, Framed, in_window, well_in, well_inside};
 
 use super::NodeNumber;
-use keys::{SoughtKey, SoughtPoint};
+use keys::SoughtKey;
 
 // So many nodes are collected at most.
 pub const MOST_NEARBY: usize = 256;
@@ -95,22 +95,23 @@ impl Window {
         a.holds(x) & b.holds(y)
     }
 
-    pub fn strict(self, key: SoughtPoint) -> bool
-        ensures { result ≡ well_inside self key.x.scaled key.y.scaled }
+    // Kept: two keys and no SoughtPoint, whose ghost field would ask what is not asked here.
+    pub fn strict(self, kx: SoughtKey, ky: SoughtKey) -> bool
+        ensures { result ≡ well_inside self kx.scaled ky.scaled }
     {
         let a = self.x;
         let b = self.y;
-        a.strict(key.x) && b.strict(key.y)
+        a.strict(kx) && b.strict(ky)
     }
 }
 
 impl Nearby {
     // Whether a point with these keys is among the collected nodes, if it is among the first `old` at all.
-    pub fn decides(self, key: SoughtPoint) -> bool
-        ensures { result ≡ (leb self.count most_nearby && well_inside self.window key.x.scaled key.y.scaled) }
+    pub fn decides(self, kx: SoughtKey, ky: SoughtKey) -> bool
+        ensures { result ≡ (leb self.count most_nearby && well_inside self.window kx.scaled ky.scaled) }
     {
         let w = self.window;
-        self.count <= MOST_NEARBY && w.strict(key)
+        self.count <= MOST_NEARBY && w.strict(kx, ky)
     }
 }
 
@@ -119,8 +120,5 @@ pub fn block_end(i: usize, size: usize, last: usize) -> usize
     requires { (0 < size) × (i < last) }
     ensures { (i < result) × (result ≤ last) × (result ≤ i + size) × (size ≤ last → size ≤ result) × (result < last → result ≡ i + size) }
 {
-    if last - i < size {
-        return last;
-    }
-    i + size
+    i + size.min(last - i)
 }

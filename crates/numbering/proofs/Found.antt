@@ -2,15 +2,12 @@
 use mathlib.Core.Path.{◌≡◌, refl, sym, ◌∙◌, subst}
 use Prim.Native.Nat.{ℕ, ◌+◌, ◌-◌, ◌≤◌, ◌<◌}
 use native.Mathlib.Omega.{arith}
-use mathlib.Core.Bool.{Bool, true, false, ◌&&◌, cond}
-use lib.Dec.{ltb}
+use mathlib.Core.Bool.{Bool, true, false, ◌&&◌}
 use lib.Ieee.{Float}
-use borrow.Author.Tests.{ltb-true, ltb-false}
 use Rattle.std.specs.Prelude.{Some, None}
-use Rattle.std.proofs.lemmas.Bool.Decides.{nat_tests}
 use Rattle.laws.specs.Integer.{eq_z}
 use Rattle.laws.specs.Bounded.{any, first}
-use Rattle.laws.proofs.Search.{any_at, first_hit, first-pass, first-end, first-none}
+use Rattle.laws.proofs.Search.{any_at, first-end, first-none, below-some, below-none, below-given, below-absent}
 use Rattle.vector.specs.declared.Point.{Point}
 use Rattle.keys.specs.declared.SoughtPoint.{SoughtPoint}
 use Rattle.keys.specs.Keys.{key, key_of, near}
@@ -18,39 +15,12 @@ use Rattle.keys.proofs.Skip.{other}
 use Rattle.nodes.specs.Nodes.{has_key}
 use Rattle.nodes.specs.Growth.{InRange}
 use Rattle.nodes.proofs.Scan.{part_hit, part-pass}
-use Rattle.numbering.specs.Search.{below, found}
-
--- ---- a place, if there is one
-pub some : (n k i : ℕ) → k ≡ i → i < n → Some i ≡ below n k
-some n k i e h = grind (arith, nat_tests)
-
-pub none : (n k : ℕ) → k ≡ n → None ≡ below n k
-none n k e = grind (arith, nat_tests)
-
-pub given : (n k i : ℕ) → Some i ≡ below n k → (i ≡ k) × (i < n)
-given n k i e = go (ltb k n) refl e
-  where
-    go : (b : Bool) → ltb k n ≡ b → Some i ≡ cond b (Some k) None → (i ≡ k) × (i < n)
-    go true t q = let s : i ≡ k = cc in (s, omega (arith, ltb-true k n t))
-    go false t q = absurd (cc)
-
-pub absent : (n k : ℕ) → None ≡ below n k → n ≤ k
-absent n k e = go (ltb k n) refl e
-  where
-    go : (b : Bool) → ltb k n ≡ b → None ≡ cond b (Some k) None → n ≤ k
-    go true t q = absurd (cc)
-    go false t q = ltb-false k n t
+use Rattle.numbering.specs.Search.{found}
 
 -- ---- a turn, where what is left of the search is the whole of it
 module _ (p : ℕ → Bool) (f n i : ℕ) (e : first p (n - i) i ≡ first p (n - f) f) where
-  pub hit : i < n → p i ≡ true → Some i ≡ found p f n
-  hit h t = some n (first p (n - f) f) i (sym e ∙ first_hit p n i h t) h
-
-  pub pass : i < n → p i ≡ false → first p (n - (i + 1)) (i + 1) ≡ first p (n - f) f
-  pass h t = sym (first-pass p n i h t) ∙ e
-
   pub ends : i ≡ n → None ≡ found p f n
-  ends h = none n (first p (n - f) f) (sym e ∙ first-end p n i h)
+  ends h = below-none n (first p (n - f) f) (sym e ∙ first-end p n i h)
 
 -- ---- what is tested of a point q with the coordinates x and y
 pub keyed : (w : SoughtPoint) (q : Point) (x y : Float) → x ≡ q.x → y ≡ q.y
@@ -68,7 +38,7 @@ pub none_near : (w : SoughtPoint) (at : ℕ → Point) (i t : ℕ) → i ≤ t �
     → any (λ j. near w.x.scaled (at (t - 16 + j)).x) 16 ≡ false → None ≡ found (λ k. has_key (key_of w.x) (key_of w.y) (at k)) i t
 none_near w at i t a b d r e =
     let z : i + (t - i) ≡ t = omega arith in
-    none t _ (first-none (λ k. has_key (key_of w.x) (key_of w.y) (at k)) (t - i) i (λ k x y. far w (at k) (r k (omega (arith, y, z))) (clear k x (omega (arith, y, z)))) ∙ z)
+    below-none t _ (first-none (λ k. has_key (key_of w.x) (key_of w.y) (at k)) (t - i) i (λ k x y. far w (at k) (r k (omega (arith, y, z))) (clear k x (omega (arith, y, z)))) ∙ z)
   where
     clear : (k : ℕ) → i ≤ k → k < t → near w.x.scaled (at k).x ≡ false
     clear k x y =
@@ -79,8 +49,8 @@ none_near w at i t a b d r e =
 module _ (p : ℕ → Bool) (f n i t : ℕ) (h : i ≤ t) (k : t ≤ n) (e : first p (n - i) i ≡ first p (n - f) f) where
   pub block_hit : (j : ℕ) → Some j ≡ found p i t → Some j ≡ found p f n
   block_hit j o =
-      let v = given t (first p (t - i) i) j o in
-      some n (first p (n - f) f) j (sym (part_hit p n i t j h k v.0 v.1 ∙ e)) (omega (arith, v.1))
+      let v = below-given t (first p (t - i) i) j o in
+      below-some n (first p (n - f) f) j (sym (part_hit p n i t j h k v.0 v.1 ∙ e)) (omega (arith, v.1))
 
   pub block_pass : None ≡ found p i t → first p (n - t) t ≡ first p (n - f) f
-  block_pass o = part-pass p n i t (first p (t - i) i) h k refl (absent t (first p (t - i) i) o) ∙ e
+  block_pass o = part-pass p n i t (first p (t - i) i) h k refl (below-absent t (first p (t - i) i) o) ∙ e

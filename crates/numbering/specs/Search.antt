@@ -1,10 +1,6 @@
 -- A search of places in each of which a point stands. Definitions only.
-use Rattle.std.specs.Prelude.{ℕ, ◌-◌, Bool, cond, ltb, Option, Some, None}
-use Rattle.laws.specs.Bounded.{first}
-
--- k, where that is below n
-abbrev pub below : ℕ → ℕ → Option ℕ
-below n k = cond (ltb k n) (Some k) None
+use Rattle.std.specs.Prelude.{ℕ, ◌-◌, Bool, Option}
+use Rattle.laws.specs.Bounded.{first, below}
 
 -- the first of i, i + 1 .. n - 1 at which p holds, if there is one
 abbrev pub found : (ℕ → Bool) → ℕ → ℕ → Option ℕ

@@ -5,14 +5,14 @@
 
 #![tactic(auto)]
 
-mod search;
+pub mod search;
 
 ghost use Rattle.std.specs.Prelude.{◌≡◌, ◌*◌, ◌≤◌, length};
 ghost use Rattle.nodes.specs.Nodes.{number, add_node};
 ghost use Rattle.nodes.specs.Growth.{InRange};
 ghost use Rattle.nodes.specs.Flat.{nodes_in, over, Usable, placed};
 ghost use Rattle.nodes.specs.Nearby.{ValidCollected};
-ghost use Rattle.numbering.specs.Search.{below};
+ghost use Rattle.laws.specs.Bounded.{below};
 
 use keys::SoughtPoint;
 use nodes::{Collected, NodeNumber, Placed};
@@ -28,7 +28,7 @@ fn find_nearby(nodes: &[f64], used: usize, p: Point, found: Collected<'_>) -> Op
     let near = found.near;
     let key = SoughtPoint::new(p.x, p.y);
     let mut from = 0;
-    if near.decides(key) {
+    if near.decides(key.x, key.y) {
         let numbers = found.numbers;
         let listed = Listed {
             nodes,

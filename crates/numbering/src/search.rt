@@ -2,7 +2,7 @@
 //
 // The places are those of the node list, or those of the nodes that were collected.
 
-ghost use Rattle.std.specs.Prelude.{◌≡◌, ℕ, ◌+◌, ◌-◌, ◌*◌, ◌≤◌, ◌<◌, ◌||◌, length, get_or};
+ghost use Rattle.std.specs.Prelude.{◌≡◌, ℕ, ◌+◌, ◌-◌, ◌*◌, ◌≤◌, ◌<◌, ◌||◌, get_or};
 ghost use Rattle.laws.specs.Bounded.{any};
 ghost use Rattle.vector.specs.declared.Point as Spot;
 ghost use Rattle.keys.specs.Keys.{key_of, near};
@@ -96,20 +96,27 @@ impl<'a> Places for Listed<'a> {
     ghost ranged = { λ s i h. s.usable.ranged (get_or s.numbers.now i 0) (s.lists.low i h) };
 }
 
+// Whether the point in place i has the two keys.
+fn stands<P: Places>(places: P, i: usize, key: SoughtPoint) -> bool
+    requires { i < P.count places }
+    ensures { result ≡ has_key (key_of key.x) (key_of key.y) (P.at places i) }
+{
+    let x = places.x(i);
+    let kx = key.x;
+    kx.is_near(x) && key.has_key(x, places.y(i))
+}
+
 // The first place with the two keys among those from `from` on and before `to`.
-// Kept: a `find` over the places was tried, and the check did not find that it answers `found`.
 fn find_in<P: Places>(places: P, from: usize, to: usize, key: SoughtPoint) -> Option<usize>
     requires { (from ≤ to) × (to ≤ P.count places) }
     ensures { result ≡ found (λ i. has_key (key_of key.x) (key_of key.y) (P.at places i)) from to }
 {
-    let kx = key.x;
-    for i in from..to {
-        let x = places.x(i);
-        if kx.is_near(x) && key.has_key(x, places.y(i)) {
-            return Some(i);
-        }
-    }
-    None
+    (from..to).find(
+        |&i: &usize| -> bool
+            requires { i < P.count places }
+            ensures { result ≡ has_key (key_of key.x) (key_of key.y) (P.at places i) }
+        { stands(places, i, key) },
+    )
 }
 
 // Whether one of the 16 points before place `to` is near the first key. Nothing ends the pass, so that two are judged at

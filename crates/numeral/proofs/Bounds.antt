@@ -126,13 +126,13 @@ module _ (n : ℕ) (h : n ≤ 8388608) where
   plain zero = refl
   plain (suc k) = refl
 
-  pub plus-is : (m : Bool) → m ≡ false → to_z w32 n ≡ signed m n
-  plus-is m e = to_z_pos w32 n (omega arith) ∙ plain n ∙ ap (λ (b : Bool). signed b n) (sym e)
+  pub plus_is : (m : Bool) → m ≡ false → to_z w32 n ≡ signed m n
+  plus_is m e = to_z_pos w32 n (omega arith) ∙ plain n ∙ ap (λ (b : Bool). signed b n) (sym e)
 
 -- ---- what `behind` and `read` answer
-pub few-met : (w : List ℕ) (s : Met) → length w ≤ 19 → s ≡ scanned w → s.digits + s.points ≤ 100
+pub few_met : (w : List ℕ) (s : Met) → length w ≤ 19 → s ≡ scanned w → s.digits + s.points ≤ 100
 unfolding scanned
-few-met w s h a = rw a (omega (arith, (below w (length w)).few))
+few_met w s h a = rw a (omega (arith, (below w (length w)).few))
 
 pub said_so : (m q : Bool) (w : List ℕ) (s : Met) → length w ≤ 19 → s ≡ scanned w → q ≡ whole s (length w)
     → then_some {T = Said} q (record { minus = m; value = s.value; scale = s.scale }) ≡ behind m w

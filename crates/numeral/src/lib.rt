@@ -10,6 +10,7 @@ ghost use Rattle.std.specs.Prelude.{◌≡◌, ◌+◌, ◌^◌, ◌≤◌, ◌<
 ghost use Rattle.numeral.specs.Numeral as Numeral;
 
 // What a number says: its sign, the digits as one number, and ten to the number of decimals.
+// Kept: every number has a sign, a zero too, and its digits hold with either.
 #[derive(Clone, Copy, Debug, PartialEq, Eq)]
 pub struct Said {
     pub minus: bool,
@@ -28,6 +29,7 @@ pub struct Met {
 
 impl Met {
     // One byte more. A digit after the point is a decimal.
+    #[tactic(auto, unfolding(crate::specs::Numeral::more, crate::specs::Numeral::scaled))]
     fn more(self, b: u8) -> Met
         requires { Numeral.Small self }
         ensures { result ≡ Numeral.more self b }
@@ -52,6 +54,7 @@ impl Met {
     }
 
     // Nothing but digits and a point in n bytes, one digit at least, and no more decimals than 14.
+    #[tactic(auto, unfolding(crate::specs::Numeral::whole))]
     fn whole(self, n: usize) -> bool
         requires { self.digits + self.points ≤ 100 }
         ensures { result ≡ Numeral.whole self n }
@@ -63,7 +66,9 @@ impl Met {
     }
 }
 
-fn scan(body: &[u8]) -> Met
+// What was met in a word's bytes behind its sign, also where they are no number.
+#[tactic(auto, unfolding(crate::specs::Numeral::scan_to, crate::specs::Numeral::scanned), using(crate::proofs::Bounds::small))]
+pub fn scan(body: &[u8]) -> Met
     requires { length body.now ≤ 19 }
     ensures { result ≡ Numeral.scanned body.now }
 {
@@ -80,6 +85,7 @@ fn scan(body: &[u8]) -> Met
 }
 
 // The number of a word's bytes behind its sign.
+#[tactic(auto, unfolding(crate::specs::Numeral::behind), using(crate::proofs::Bounds::few_met, crate::proofs::Bounds::said_so, crate::proofs::Bounds::scaled_so))]
 fn behind(minus: bool, body: &[u8]) -> Option<Said>
     ensures said { result ≡ Numeral.behind minus body.now }
     ensures scaled { IfSome result Numeral.Scaled }
@@ -97,6 +103,7 @@ fn behind(minus: bool, body: &[u8]) -> Option<Said>
 }
 
 // Reads a word.
+#[tactic(auto, unfolding(crate::specs::Numeral::read), using(crate::proofs::Bounds::front_is))]
 pub fn read(word: &[u8]) -> Option<Said>
     ensures said { result ≡ Numeral.read word.now }
     ensures scaled { IfSome result Numeral.Scaled }
@@ -108,6 +115,7 @@ pub fn read(word: &[u8]) -> Option<Said>
 }
 
 // The nearest count of units, halves up; none beyond 1,024 mm. In two steps, so that nothing is too large for 64 bits.
+#[tactic(auto, unfolding(crate::specs::Numeral::within), using(crate::proofs::Bounds::far, crate::proofs::Bounds::two_steps))]
 pub fn units(value: u64, scale: u64) -> Option<u64>
     requires { (0 < scale) × (scale ≤ 10 ^ 14) }
     ensures value { result ≡ Numeral.within value scale }
@@ -122,6 +130,8 @@ pub fn units(value: u64, scale: u64) -> Option<u64>
 }
 
 // The coordinate of so many units with its sign.
+// Kept: std makes no number of a sign and a size.
+#[tactic(auto, using(crate::proofs::Bounds::minus_is, crate::proofs::Bounds::plus_is))]
 pub fn signed(minus: bool, n: u64) -> i32
     requires { n ≤ 8388608 }
     ensures { result ≡ Numeral.signed minus n }

@@ -1,15 +1,15 @@
 -- An edge that a diagonal crosses, a corner that it runs over, and a diagonal that nothing obstructs, by the places of the list of
--- points; and a test of each element of a list, as std and as the definitions have it.
+-- points.
 use Prim.Native.Nat.{ℕ, zero, suc, ◌+◌, ◌%◌, ◌<◌}
 use native.Mathlib.Omega.{arith}
-use mathlib.Core.Bool.{Bool, true, false, ◌&&◌, ◌||◌, not}
+use mathlib.Core.Bool.{◌&&◌, not}
 use mathlib.Core.Path.{◌≡◌, refl, sym, ap, subst, ◌∙◌}
 use mathlib.Core.List.{List, [], ◌∷◌}
 use lib.ListN.{length, get_or}
 use Rattle.std.specs.List.{list_any}
 use Rattle.laws.specs.Double.{lit}
 use Rattle.laws.specs.Bounded.{any}
-use Rattle.laws.proofs.Search.{any_ext}
+use Rattle.laws.proofs.Search.{any_ext, any_listed}
 use Rattle.vector.specs.declared.GridPoint.{GridPoint}
 use Rattle.vector.specs.declared.Point.{Point}
 use Rattle.vector.specs.Grid.{origin, at}
@@ -20,25 +20,6 @@ use Rattle.segments.specs.Segments.{segments_cross}
 use Rattle.segments.specs.Meeting.{strictly_between}
 use Rattle.simple.specs.Simple.{point_in_polygon}
 use Rattle.obstacles.specs.Obstacles.{clear_of, blocks, runs_over, unobstructed}
-
--- ---- a test of each element of a list
-any-first : (p : ℕ → Bool) (n : ℕ) → any p (suc n) ≡ (p 0 || any (λ i. p (suc i)) n)
-unfolding any
-any-first p zero = go (p 0)
-  where
-    go : (a : Bool) → (false || a) ≡ (a || false)
-    go true = refl
-    go false = refl
-any-first p (suc n) = rw (any-first p n) (go (p 0) (any (λ i. p (suc i)) n) (p (suc n)))
-  where
-    go : (a b c : Bool) → ((a || b) || c) ≡ (a || (b || c))
-    go true b c = refl
-    go false b c = refl
-
-pub any_element : (t : GridPoint → Bool) (l : List GridPoint) → list_any t l ≡ any (λ i. t (get_or l i origin)) (length l)
-unfolding any
-any_element t [] = refl
-any_element t (x ∷ l) = ap (λ (b : Bool). t x || b) (any_element t l) ∙ sym (any-first (λ i. t (get_or (x ∷ l) i origin)) (length l))
 
 default : (l : List GridPoint) (k : ℕ) (d e : GridPoint) → k < length l → get_or l k d ≡ get_or l k e
 default [] k d e h = absurd (omega (arith, h))
@@ -67,7 +48,7 @@ module _ (l : List GridPoint) (k : ℕ) (lk : k < length l) where
   -- the corners
   pub over : list_any (strictly_between (get_or l 0 origin) (get_or l k origin)) l ≡ any (runs_over l k) (length l)
   unfolding runs_over
-  over = any_element (strictly_between (get_or l 0 origin) (get_or l k origin)) l ∙ any_ext _ _ (length l) same
+  over = any_listed (strictly_between (get_or l 0 origin) (get_or l k origin)) origin l ∙ any_ext _ _ (length l) same
     where
       same : (i : ℕ) → i < length l → strictly_between (get_or l 0 origin) (get_or l k origin) (get_or l i origin) ≡ strictly_between (at l 0) (at l k) (at l i)
       same i h = let c = at_place l i h in λ j. strictly_between (sym first j) (sym last j) (sym c j)

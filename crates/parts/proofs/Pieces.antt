@@ -37,10 +37,6 @@ module _ (p : PartList) (i : ℕ) (l : i < p.count) where
   pub piece-nth : (ring : List GridPoint) (es : List EdgeMark) → piece_in ring es p i ≡ nth ring es p i
   piece-nth ring es = get_d_tab (nth ring es p) p.count i no_part l
 
-  pub piece-length : (ring : List GridPoint) (es : List EdgeMark) → size p i ≡ length (piece_in ring es p i).points
-  piece-length ring es =
-      sym (ap (λ (q : Part). length q.points) (piece-nth ring es) ∙ length_tab (λ j. corner_point ring p.corners (end p i + j)) (size p i))
-
   -- where the piece stands, as the code reads it
   pub placed : ValidParts p → (end p i + 3 ≤ end p (i + 1)) × (end p (i + 1) ≤ end p i + 60) × (end p (i + 1) ≤ 124) × (end p (i + 1) - end p i ≡ size p i)
   placed k =

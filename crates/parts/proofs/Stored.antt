@@ -7,18 +7,19 @@ use mathlib.Core.Bool.{Bool, true, false}
 use mathlib.Core.Path.{subst}
 use mathlib.Core.List.{List, [], ◌∷◌, ◌++◌, reverse}
 use lib.Dec.{lit<}
-use lib.ListN.{length, get_or, take, drop, set, length-set, length-append, length-take, length-drop, get_or-append}
+use lib.ListN.{length, get_or, take, drop, set, replicate, length-set, length-append, length-take, length-drop, get_or-append}
 use lib.Seq.{take-length, get_or-set_same, get_or-set_other, get_or-take, get_or-drop, get_or-append-add, length-take-le}
 use borrow.Rule.Slice.PartMut.{put_mid}
 use lib.Dec.{ltb}
 use borrow.Author.Tests.{ltb-true, ltb-false}
 use Rattle.laws.specs.Table.{tab}
+use Rattle.laws.proofs.Lists.{all_same, all_set}
 use Rattle.laws.proofs.Table.{tab_ext, take_tab, rotation_of, reverse_of, get_d_tab}
 use Rattle.vector.specs.declared.GridPoint.{GridPoint}
 use Rattle.marks.specs.declared.EdgeMark.{EdgeMark}
 use Rattle.parts.specs.declared.Vertex.{Vertex}
 use Rattle.parts.specs.declared.PartList.{PartList}
-use Rattle.parts.specs.Vertices.{no_vertex, vertex, corner_point, edge_at, part_of, Below}
+use Rattle.parts.specs.Vertices.{no_vertex, blank, vertex, corner_point, edge_at, part_of, Below}
 use Rattle.parts.specs.Layout.{end, part_at, nth, stack_of, list_of, ValidParts, Packed, Stored, Pushed}
 use Rattle.parts.proofs.Segments.{read, point-of, edge_of}
 
@@ -99,6 +100,12 @@ pub below-append : (vs ws : List Vertex) → Below vs → Below ws → Below (vs
 below-append [] ws b c i = c i
 below-append (v ∷ vs) ws b c zero = b zero
 below-append (v ∷ vs) ws b c (suc i) = below-append vs ws (λ j. b (suc j)) c i
+
+pub blank_below : (n : ℕ) → Below (replicate n blank)
+blank_below n = all_same (λ (v : Vertex). v.at < 60) no_vertex n blank (lit< tt) (lit< tt)
+
+pub set_below : (vs : List Vertex) (i : ℕ) (c : Vertex) → Below vs → c.at < 60 → Below (set vs i c)
+set_below vs i c b h = all_set (λ (v : Vertex). v.at < 60) no_vertex vs i c b h
 
 -- ---- corners ps put over those from place a on
 unseen : {A : Type 0} (l : List A) (i j : ℕ) (x d : A) → j < i → get_or (set l i x) j d ≡ get_or l j d

@@ -2,7 +2,7 @@
 //
 // It stands under the split, whose stack and pieces are such lists; the two parts that a diagonal makes are `sub_polygons`. The
 // ring's points and the marks of its edges are held once, outside; a part has two bytes a corner, so that the whole state of the
-// split is 600 bytes and goes by value. specs/Vertices and specs/Layout say how numbers are read back as parts.
+// split is 600 bytes. specs/Vertices and specs/Layout say how numbers are read back as parts.
 
 #![tactic(auto)]
 
@@ -42,7 +42,8 @@ impl Vertex {
 
 // Parts one after the other: part j has the corners from ends[j] to ends[j + 1]. No more than 33 parts and 124 corners are
 // ever held.
-// Kept: arrays with a count beside, in fixed memory.
+// Kept: arrays with a count beside, in fixed memory; and no ghost field for ValidParts, since `push` writes corners, count and
+// end one after the other, and between them it does not hold.
 #[derive(Clone, Copy)]
 pub struct PartList {
     pub corners: [Vertex; 124],

@@ -13,7 +13,10 @@ use lib.ListN.{length, take, drop, replicate, length-append, length-take, length
 use lib.Seq.{take_at}
 use lib.IntN.{ℤ}
 use lib.Ieee.{Float, binary64, of_bits}
-use Rattle.text.specs.Text.{bytes, put, Written}
+use Rattle.text.specs.Text.{put, Written}
+use Rattle.text.specs.declared.Page.{Page}
+use Rattle.text.specs.Page.{Wrote as Wrote_on}
+use Rattle.text.proofs.Writing.{kept}
 use Rattle.laws.specs.Double.{naught}
 use Rattle.state.specs.declared.State.{State}
 use Rattle.job.specs.declared.Stepped.{Stepped}
@@ -23,46 +26,33 @@ use Rattle.job.proofs.Runs.{Went, outcome, not-both, stays, goes, ran-held}
 use Rattle.job.proofs.Printed.{one_more, settles}
 use Rattle.scene.specs.Scene.{node_text, nodes_text}
 use Rattle.frame.specs.declared.Frame.{Frame}
+use Rattle.frame.specs.declared.Edges.{Edges}
 use Rattle.frame.specs.Bounds.{extent_of, frame_of}
-use Rattle.frame.specs.Head.{head_text, foot_text}
-use Rattle.sketch.specs.Drawn.{drawn, lead_at, most_step}
-use Rattle.picture.specs.Picture.{step_drawn, drawn_to}
+use Rattle.frame.specs.Head.{head_text, edges_of, foot_text}
+use Rattle.sketch.specs.Drawn.{drawn, lead_at}
+use Rattle.picture.specs.Picture.{on, step_drawn, drawn_to}
 use Rattle.picture.specs.Picture.{rings_drawn, nodes_drawn, all_drawn, pictured, most_rings, most_picture}
-use Rattle.picture.specs.declared.End.{End}
-use Rattle.picture.specs.declared.End.TheVariants.{TooLong, Unwritten}
-use Rattle.picture.specs.Picture.{Wrote, Owed, Sends, Reached, Drew, Left, said}
+use Rattle.picture.specs.Picture.{Wrote, Owed, Sends, Reached, Drew, Left}
 use Rattle.picture.proofs.Listed.{few-nodes}
 
--- a text that was written fits
-pub fits : {l t m : List ℕ} {r : ℕ} → Written l 0 t r m → length m ≡ length l → r ≤ length l
-unfolding put
-fits {l} {t} {m} {r} w k =
-    let e : length m ≡ length (take 0 l ++ t ++ drop (0 + length t) l) = ap length w.list in
-    let d = length-append (take 0 l ++ t) (drop (0 + length t) l) in
-    let g = length-append (take 0 l) t in
-    let q = length-drop (0 + length t) l in
-    omega (arith, w.place, k, e, d, g, q)
+-- a text that was written on an empty page is all that stands there
+module _ {p q : Page} {t : List ℕ} (z : p.at ≡ 0) (h : q.at ≤ length p.out.now) (w : Wrote_on p t q) where
+  pub as-long : q.at ≡ length t
+  as-long = omega (arith, w.text.place, z)
 
--- and stands at the front of its list
-pub front : {l t m : List ℕ} {r : ℕ} → Written l 0 t r m → take r m ≡ t
-unfolding put
-front {l} {t} {m} {r} w =
-    let p = w.place in
-    let q = w.list in
-    (λ j. take (p j) (q j)) ∙ take_at t (drop (0 + length t) l) (0 + length t) (omega arith)
+  pub on-page : on q ≡ t
+  unfolding put
+  on-page =
+      let e = (subst (λ (k : ℕ). Written p.out.now k t q.at q.out.now) z w.text).list in
+      let l : length t ≡ 0 + length t = omega arith in
+      (λ j. take (as-long j) (e j)) ∙ take_at t (drop (0 + length t) p.out.now) (length t) refl
 
--- the words of each end
-pub said-long : (x : End) (count : ℕ) → x ≡ TooLong count → bytes "picture: more than 256 rings\n" ≡ said x
-unfolding said
-said-long x count e = rw e
-
-pub said-unwritten : (x : End) → x ≡ Unwritten → bytes "picture: standard output failed\n" ≡ said x
-unfolding said
-said-unwritten x e = rw e
+  pub within-page : q.at ≤ length q.out.now
+  within-page = omega (arith, kept p.out.now p.at t (omega (arith, h, w.text.place)) w.text, h)
 
 -- what is drawn of a step, and of a run that goes on
 abbrev pub drawn_of : Frame → Step → List ℕ
-drawn_of f e = drawn f e.told e.state.count e.points e.nodes e.rims e.cells
+drawn_of f e = drawn (edges_of f) e.told e.state.count e.points e.nodes e.rims e.cells
 
 steps_drawn : (f : Frame) (r : Course) (b lead : List ℕ) → r.state.ended ≡ false
     → step_drawn f r b lead ≡ drawn_of f (step_of r.state r.points r.nodes r.rims b) ++ lead
@@ -255,7 +245,7 @@ module _ (job : List ℕ) (i : ℕ) (s : State) (ps : List ℤ) (l : List Float)
     same = let a = r.state in let p = r.points in let n = r.nodes in let w = r.rims in λ j. step_of (a j) (p j) (n j) (w j) (eb j)
 
     module _ (x : Stepped) (qs : List ℤ) (m : List Float) (w c : List ℕ) (p : Steps (step_of s ps l rs b) x qs m w c) where
-      module _ (f : Frame) (ef : f ≡ frame_of (extent_of job)) where
+      module _ (f : Edges) (ef : f ≡ edges_of (frame_of (extent_of job))) where
         abbrev text : List ℕ
         text = drawn f x.told x.state.count qs m w c ++ lead_at job i
 

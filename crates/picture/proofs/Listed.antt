@@ -17,11 +17,14 @@ use Rattle.call.specs.Lent.{Lent, call_of, all_cells, tests_by, divide_lent}
 use Rattle.call.proofs.Course.{prepared_by}
 use Rattle.call.proofs.NodeList.{NodesLeft, nodes-left_by}
 use Rattle.blocks.specs.declared.Block.{Block}
-use Rattle.blocks.specs.declared.Block.TheVariants.{Ring, Chain, Refused}
+use Rattle.blocks.specs.declared.Block.TheVariants.{Ring, Chain}
+use Rattle.blocks.specs.declared.Reading.{Reading}
+use Rattle.blocks.specs.declared.Refused.{Refused}
+use Rattle.std.specs.Prelude.{Result, Ok, Err}
 use Rattle.blocks.specs.Blocks.{read_block}
 use Rattle.told.specs.declared.Told.TheVariants as Told
 use Rattle.state.specs.declared.State.{State}
-use Rattle.job.specs.Step.{Step, ends, waits, divides, taken, lent_by, step_of}
+use Rattle.job.specs.Step.{Step, ends, waits, divides, taken, answered, lent_by, step_of}
 use Rattle.job.specs.Run.{Course, onward, ran}
 
 -- what one call leaves
@@ -53,10 +56,14 @@ module _ (s : State) (ps : List ℤ) (l : List Float) (rs : List ℕ) (h : Place
       record { few = omega (arith, f, q.places, n, h.long); long = o ∙ h.long }
 
   taken-placed : (qs : List ℤ) (a : Block) → Placed (taken s ps l rs qs a).state.used (taken s ps l rs qs a).nodes
-  unfolding taken waits ends
+  unfolding taken waits
   taken-placed qs (Ring count size) = h
   taken-placed qs (Chain count) = divides-placed _
-  taken-placed qs (Refused code n) = h
+
+  answered-placed : (r : Result Reading Refused) → Placed (answered s ps l rs r).state.used (answered s ps l rs r).nodes
+  unfolding answered ends
+  answered-placed (Ok r) = taken-placed r.points r.block
+  answered-placed (Err e) = h
 
   ends-placed : Placed (ends s ps l rs Told.Nothing).state.used (ends s ps l rs Told.Nothing).nodes
   unfolding ends
@@ -67,7 +74,7 @@ module _ (s : State) (ps : List ℤ) (l : List Float) (rs : List ℕ) (h : Place
   step-placed b =
       let r = read_block b s.block in
       either (λ (e : Step). Placed e.state.used e.nodes) (eqb (s.block % 2) 0 && eqb (length b) 0) (ends s ps l rs Told.Nothing)
-      (taken s ps l rs r.points r.block) ends-placed (taken-placed r.points r.block)
+      (answered s ps l rs r) ends-placed (answered-placed r)
 
 onward-placed : (r : Course) (b : List ℕ) → Placed r.state.used r.nodes → Placed (onward r b).state.used (onward r b).nodes
 unfolding onward

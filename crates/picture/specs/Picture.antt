@@ -1,23 +1,26 @@
 -- The picture of a job as one definition, `pictured`, from the bytes that go in to those that come out; and what is owed of it after so many bytes. Of what the
 -- operating system takes no contract can speak, so it stands for its length. Definitions only.
-use Rattle.std.specs.Prelude.{ℕ, zero, suc, ◌+◌, ◌*◌, ◌/◌, ◌%◌, ◌≤◌, ◌<◌, ◌≡◌, true, false, cond, List, [], ◌++◌, length, take, ℤ, Float}
+use Rattle.std.specs.Prelude.{ℕ, zero, suc, ◌+◌, ◌*◌, ◌/◌, ◌%◌, ◌≤◌, ◌<◌, ◌≡◌, false, cond, List, [], ◌++◌, length, take, eqb, ℤ, Float, Result, Ok, Err, IfErr}
 use Rattle.text.specs.Text.{bytes}
+use Rattle.text.specs.declared.Page.{Page}
 use Rattle.state.specs.declared.State.{State}
-use Rattle.job.specs.Step.{Step, step_of}
+use Rattle.job.specs.Step.{step_of}
 use Rattle.job.specs.Run.{Course, ran, read_to, whole_run, block_at}
 use Rattle.scene.specs.Scene.{nodes_text}
 use Rattle.frame.specs.declared.Frame.{Frame}
 use Rattle.frame.specs.Bounds.{extent_of, frame_of}
-use Rattle.frame.specs.Head.{head_text, foot_text}
+use Rattle.frame.specs.Head.{head_text, edges_of, foot_text}
 use Rattle.sketch.specs.Drawn.{drawn, lead_at, most_step}
+use Rattle.stream.specs.declared.ReadFailed.{ReadFailed}
+use Rattle.stream.specs.declared.WriteFailed.{WriteFailed}
 use Rattle.picture.specs.declared.End.{End}
-use Rattle.picture.specs.declared.End.TheVariants.{Drawn, TooLong, Unwritten}
+use Rattle.picture.specs.declared.End.TheVariants.{Drawn, TooLong}
 
 -- of the run r, one block on, the lead line over its ring; of a run that has ended, nothing
 unfoldable pub step_drawn : Frame → Course → List ℕ → List ℕ → List ℕ
 step_drawn f r b lead =
     let e = step_of r.state r.points r.nodes r.rims b in
-    cond r.state.ended [] (drawn f e.told e.state.count e.points e.nodes e.rims e.cells ++ lead)
+    cond r.state.ended [] (drawn (edges_of f) e.told e.state.count e.points e.nodes e.rims e.cells ++ lead)
 
 -- the head, and what is drawn of the first i blocks of a job
 unfoldable pub drawn_to : Frame → List ℕ → ℕ → List ℕ
@@ -45,6 +48,10 @@ most_rings = 1000000000000
 
 abbrev pub most_picture : ℕ
 most_picture = 1099511627776
+
+-- the text on a page
+abbrev pub on : Page → List ℕ
+on p = take p.at p.out.now
 
 -- as many bytes were written as t has
 pub record Wrote (t : List ℕ) (sent : ℕ) : Type 0 where
@@ -83,15 +90,22 @@ pub record Left (job : List ℕ) (used : ℕ) (l : List Float) (rs : List ℕ) :
   pub nodes : l ≡ (whole_run job).nodes
   pub rims : rs ≡ (whole_run job).rims
 
+-- a failed read leaves a job within a block, so that the run is refused there. How many bytes there are of what was read:
+abbrev pub torn : ℕ → ℕ
+torn done = cond (eqb (done % 512) 0) (done + 1) done
+
+abbrev pub counted : Result ℕ ReadFailed → ℕ
+counted (Ok n) = n
+counted (Err failed) = torn failed.done
+
 -- the program that has read the list l has ended so: the picture of what was read is written, 256 rings at most, and what a failed read left is no whole
 -- number of blocks; or there is more than that
 abbrev pub Ends : List ℕ → End → Type 0
-Ends l (Drawn count failed sent) = (sent ≡ length (pictured (take count l))) × (count ≤ 262144) × (failed ≡ true → 0 < count % 512)
+Ends l (Drawn read sent) = (sent ≡ length (pictured (take (counted read) l))) × (counted read ≤ 262144) × IfErr read (λ failed. 0 < counted read % 512)
 Ends l (TooLong count) = 262144 < count
-Ends l Unwritten = Unit {0}
 
--- and what it says of that
-unfoldable pub said : End → List ℕ
-said (Drawn count failed sent) = []
-said (TooLong count) = bytes "picture: more than 256 rings\n"
-said Unwritten = bytes "picture: standard output failed\n"
+-- and what it says of that, or of a write that failed
+unfoldable pub said : Result End WriteFailed → List ℕ
+said (Ok (Drawn read sent)) = []
+said (Ok (TooLong count)) = bytes "picture: more than 256 rings\n"
+said (Err failed) = bytes "picture: standard output failed\n"

@@ -9,81 +9,72 @@
 
 #![tactic(auto)]
 
-ghost use Rattle.std.specs.Prelude.{◌≡◌, true, false, ◌++◌, ◌+◌, ◌*◌, ◌%◌, ◌≤◌, ◌<◌, length, IfOk, OnOk};
+ghost use Rattle.std.specs.Prelude.{◌≡◌, false, ◌++◌, ◌+◌, ◌*◌, ◌%◌, ◌≤◌, ◌<◌, length, IfOk, IfErr, OnOk};
 ghost use Rattle.told.specs.Text.{CanTell};
-ghost use Rattle.sketch.specs.Drawn.{drawn, lead_at, most_step};
+ghost use Rattle.sketch.specs.Drawn.{told_drawn, lead_at, most_step};
 ghost use Rattle.frame.specs.Bounds.{extent_of, frame_of};
 ghost use Rattle.frame.specs.Head.{head_text, most_head};
-ghost use Rattle.picture.specs.Picture.{rings_drawn, all_drawn, pictured, most_rings, Wrote, Owed, Sends, Reached, Drew, Left, Ends, said};
+ghost use Rattle.picture.specs.Picture.{on, rings_drawn, all_drawn, pictured, most_rings, Wrote, Owed, Sends, Reached, Drew, Left, torn, counted, Ends, said};
 
-use frame::{Frame, MOST_HEAD};
+use frame::{Edges, Frame, MOST_HEAD};
 use nodes::NodeNumber;
+use scene::{Lists, Points};
 use sketch::MOST_STEP;
 use state::State;
 use std::io::{Read, Write};
-use stream::WriteFailed;
+use stream::{ReadFailed, WriteFailed};
+use text::Page;
 use told::Told;
 
 // The blocks of 256 rings.
 const MOST_JOB: usize = 262144;
 
-// What was read: so many bytes, and whether a read failed. Then they end within a block, so that the run is refused there.
-#[derive(Clone, Copy)]
-pub struct Input {
-    pub count: usize,
-    pub failed: bool,
-}
-
-// How the program ended: so many bytes were read, a picture of so many was written; there were too many to read; or they could
-// not be written.
+// How the program ended, where no write failed: a picture of so many bytes was written, of what was read; or there were too
+// many bytes to read.
 #[derive(Clone, Copy)]
 pub enum End {
     Drawn {
-        count: usize,
-        failed: bool,
+        read: Result<usize, ReadFailed>,
         sent: u64,
     },
     TooLong {
         count: usize,
     },
-    Unwritten,
 }
 
-// Where a failed read leaves the job.
+// Where a failed read leaves the job: within a block, so that the run is refused there.
 fn torn(done: usize) -> usize
     requires { done < 4294967296 }
-    ensures { (done ≤ result) × (result ≤ done + 1) × (0 < result % 512) }
+    ensures { (result ≡ torn done) × (result ≤ done + 1) × (0 < result % 512) }
 {
     if done % 512 == 0 { done + 1 } else { done }
 }
 
-// Reads until the list is full or the input ends.
-fn read_job<R: Read>(input: &mut R, bytes: &mut [u8]) -> Input
-    requires { length bytes.old ≡ 262145 }
-    ensures { (result.count ≤ 262145) × (result.failed ≡ true → 0 < result.count % 512) }
+// How many bytes of a job there are.
+fn count_of(read: Result<usize, ReadFailed>) -> usize
+    requires ok { IfOk read (λ n. n ≤ 262145) }
+    requires err { IfErr read (λ failed. failed.done < 262145) }
+    ensures { (result ≡ counted read) × (result ≤ 262145) × IfErr read (λ failed. 0 < result % 512) }
 {
-    match stream::fill(input, bytes) {
-        Ok(count) => Input {
-            count,
-            failed: false,
-        },
-        Err(failed) => Input {
-            count: torn(failed.done),
-            failed: true,
-        },
+    match read {
+        Ok(count) => count,
+        Err(failed) => torn(failed.done),
     }
 }
 
-// Writes the text that is owed after `sent` bytes.
+// Writes the text on a page, which is owed after `sent` bytes.
+// Kept: a wrapper of write_counted as in telling and sheet_lines, since each asks that its own Owed holds; a generic one would
+// need a trait for that and a type to carry it.
 fn send<W: Write>(
     output: &mut W,
     job: &[u8],
-    text: &[u8],
+    page: &Page,
     sent: &mut u64,
 ) -> Result<(), WriteFailed>
-    requires { Owed job.now sent.old text.now × (length text.now ≤ most_step) }
-    ensures { OnOk result (sent.new ≡ sent.old + length text.now) }
+    requires { Owed job.now sent.old (on page.now) × (page.now.at ≤ length page.now.out.now) × (page.now.at ≤ most_step) }
+    ensures { OnOk result (sent.new ≡ sent.old + page.now.at) }
 {
+    let text = &page.out[..page.at];
     stream::write_counted(output, text, sent)
 }
 
@@ -91,27 +82,24 @@ fn send<W: Write>(
 fn draw_step<W: Write>(
     output: &mut W,
     job: &[u8],
-    f: Frame,
+    f: Edges,
     told: Told,
-    points: &[i32],
-    count: usize,
-    nodes: &[f64],
-    rims: &[u8],
-    cells: &[NodeNumber],
+    points: &Points,
+    lists: &Lists,
     i: usize,
     sent: &mut u64,
 ) -> Result<(), WriteFailed>
-    requires { Owed job.now sent.old (drawn f told count points.now nodes.now rims.now cells.now ++ lead_at job.now i)
-        × CanTell told cells.now × (count ≤ 60) × (512 * i ≤ length job.now) × (i < 4294967296) }
-    ensures { OnOk result (Sends sent.old
-        (drawn f told count points.now nodes.now rims.now cells.now ++ lead_at job.now i)
-        sent.new) }
+    requires { Owed job.now sent.old (told_drawn f told points.now lists.now ++ lead_at job.now i)
+        × CanTell told lists.now.cells.now × (512 * i ≤ length job.now) × (i < 4294967296) }
+    ensures { OnOk result (Sends sent.old (told_drawn f told points.now lists.now ++ lead_at job.now i) sent.new) }
 {
     let mut text = [0u8; MOST_STEP];
-    let n = sketch::put_step(
-        &mut text, f, told, points, count, nodes, rims, cells, job, i,
-    );
-    send(output, job, &text[..n], sent)
+    let mut page = Page {
+        out: &mut text,
+        at: 0,
+    };
+    sketch::put_step(&mut page, f, told, points, lists, job, i);
+    send(output, job, &page, sent)
 }
 
 // The run after block i, which is drawn when it is told.
@@ -133,21 +121,22 @@ fn turn<W: Write>(
     ensures drew { OnOk result (Drew job.now (i + 1) sent.new) }
 {
     let stepped = step::step(s, frame::block_at(job, i), ring, nodes, rims, cells);
-    let state = stepped.state;
+    let points = Points {
+        list: ring,
+        count: stepped.state.count,
+    };
+    let lists = Lists { nodes, rims, cells };
     draw_step(
         output,
         job,
-        f,
+        f.edges(),
         stepped.told,
-        ring,
-        state.count,
-        nodes,
-        rims,
-        cells,
+        &points,
+        &lists,
         i,
         sent,
     )?;
-    Ok(state)
+    Ok(stepped.state)
 }
 
 // Writes the nodes that a run has left, after the head and the rings.
@@ -162,10 +151,15 @@ fn draw_nodes<W: Write>(
     requires { Left job.now used nodes.now rims.now × (sent.old ≡ length (rings_drawn job.now)) × (sent.old ≤ most_rings) }
     ensures { OnOk result (Wrote (all_drawn job.now) sent.new) }
 {
+    // Kept: it goes over the numbers of nodes, which are what is drawn, and over no list.
     for i in 0..used {
         let mut text = [0u8; 256];
-        let n = scene::put_node(&mut text, nodes, rims, i);
-        send(output, job, &text[..n], sent)?;
+        let mut page = Page {
+            out: &mut text,
+            at: 0,
+        };
+        scene::put_node(&mut page, nodes, rims, i);
+        send(output, job, &page, sent)?;
     }
     Ok(())
 }
@@ -181,6 +175,7 @@ fn draw<W: Write>(output: &mut W, job: &[u8], f: Frame, sent: &mut u64) -> Resul
     let mut cells = [0; 496];
     let mut s = State::new();
     let mut i: usize = 0;
+    // Kept: the state says when the run ends, and i is the block's place in the job, of which no list has an element.
     while state::goes_on(s) {
         s = turn(
             output, job, f, i, s, &mut ring, &mut nodes, &mut rims, &mut cells, sent,
@@ -196,47 +191,55 @@ fn picture<W: Write>(output: &mut W, job: &[u8], sent: &mut u64) -> Result<(), W
     ensures { OnOk result (sent.new ≡ length (pictured job.now)) }
 {
     let mut text = [0u8; MOST_HEAD];
+    let mut head = Page {
+        out: &mut text,
+        at: 0,
+    };
     let f = frame::frame_of(frame::extent_of(job));
-    let n = frame::put_head(&mut text, f);
-    send(output, job, &text[..n], sent)?;
+    f.put_head(&mut head);
+    send(output, job, &head, sent)?;
     draw(output, job, f, sent)?;
-    let m = frame::put_foot(&mut text);
-    send(output, job, &text[..m], sent)
+    let mut last = [0u8; 16];
+    let mut foot = Page {
+        out: &mut last,
+        at: 0,
+    };
+    frame::put_foot(&mut foot);
+    send(output, job, &foot, sent)
 }
 
 // The whole program: reads a job and draws it.
-fn draw_job<R: Read, W: Write>(input: &mut R, output: &mut W, bytes: &mut [u8]) -> End
+fn draw_job<R: Read, W: Write>(
+    input: &mut R,
+    output: &mut W,
+    bytes: &mut [u8],
+) -> Result<End, WriteFailed>
     requires { length bytes.old ≡ 262145 }
-    ensures { Ends bytes.new result }
+    ensures { IfOk result (Ends bytes.new) }
 {
-    let job = read_job(input, bytes);
-    let count = job.count;
+    let read = stream::fill(input, bytes);
+    let count = count_of(read);
     if MOST_JOB < count {
-        return End::TooLong { count };
+        return Ok(End::TooLong { count });
     }
     let mut sent: u64 = 0;
-    match picture(output, &bytes[..count], &mut sent) {
-        Ok(()) => End::Drawn {
-            count,
-            failed: job.failed,
-            sent,
-        },
-        Err(_) => End::Unwritten,
-    }
+    picture(output, &bytes[..count], &mut sent)?;
+    Ok(End::Drawn { read, sent })
 }
 
 // Hands over the words of how it ended.
-fn say<W: Write>(output: &mut W, end: End, words: &[u8])
+fn say<W: Write>(output: &mut W, end: Result<End, WriteFailed>, words: &[u8])
     requires { words.now ≡ said end }
 {
     let _ = stream::write_all(output, words);
 }
 
-fn say_end<W: Write>(output: &mut W, end: End) {
+#[tactic(auto, unfolding(crate::specs::Picture::said, text::specs::Text::bytes))]
+fn say_end<W: Write>(output: &mut W, end: Result<End, WriteFailed>) {
     match end {
-        End::Drawn { .. } => say(output, end, b""),
-        End::TooLong { .. } => say(output, end, b"picture: more than 256 rings\n"),
-        End::Unwritten => say(output, end, b"picture: standard output failed\n"),
+        Ok(End::Drawn { .. }) => say(output, end, b""),
+        Ok(End::TooLong { .. }) => say(output, end, b"picture: more than 256 rings\n"),
+        Err(_) => say(output, end, b"picture: standard output failed\n"),
     }
 }
 

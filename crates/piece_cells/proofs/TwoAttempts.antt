@@ -8,6 +8,8 @@ use mathlib.Core.Bool.{Bool, true, false}
 use borrow.Author.Tests.{eq-eqb, ne_eqb}
 use lib.ListN.{length, get_or, take, replicate, get_or-map}
 use lib.Ieee.{Float}
+use Rattle.laws.specs.Bounded.{below}
+use Rattle.laws.proofs.Search.{below-none, below-absent}
 use Rattle.marks.specs.declared.Edge.{Edge}
 use Rattle.marks.specs.Part.{Part}
 use Rattle.marks.specs.declared.EdgeMark.TheVariants.{Straight}
@@ -25,7 +27,7 @@ use Rattle.marks.specs.Edges.{marks_in}
 use Rattle.cells.specs.Asks.{Ask, attempt_asks, subdivide_asks}
 use Rattle.cells.specs.Rims.{rims_by}
 use Rattle.cells.specs.Flat.{side_at, attempt_in, attempt_asks_in, subdivide_in, subdivide_asks_in, tried_of, CanTry, CanSubdividePiece}
-use Rattle.quads.specs.Flat.{found, over_cells}
+use Rattle.quads.specs.Flat.{over_cells}
 use Rattle.std.specs.Prelude.{None}
 use Rattle.cells.proofs.Attempts.{attempt-any, attempt-fails, subdivide_by}
 use Rattle.cells.proofs.Ranges.{attempt-ranged, straight≢snap}
@@ -139,14 +141,14 @@ module _ {share : Float} {l : List Float} {u : ℕ} {p : Part} (f : CanSubdivide
 
   -- the first attempt is made: r, m and q'
   module _ (q : List ℕ) (bs : List Bool) (rs : List ℕ) {r : Tried} {m : List Float} {q' rs' : List ℕ} (t : Answers T1 (A1 bs) l u q rs r m q' rs') where
-    fails-is : r.fails ≡ found (length T1.cells) T1.fails
+    fails-is : r.fails ≡ below (length T1.cells) T1.fails
     fails-is = ap (λ (r : Tried). r.fails) t.0
 
     none-fails : r.fails ≡ None → T1.fails ≡ length p.points
-    none-fails e = omega (arith, fails-le, many, cell.found-over (length T1.cells) T1.fails (sym fails-is ∙ e))
+    none-fails e = omega (arith, fails-le, many, below-absent (length T1.cells) T1.fails (sym e ∙ fails-is))
 
     one-fails : (r.fails ≡ None → ⊥) → T1.fails ≡ length p.points → ⊥
-    one-fails h e = h (fails-is ∙ cell.found-none (length T1.cells) T1.fails (e ∙ sym many))
+    one-fails h e = h (fails-is ∙ sym (below-none (length T1.cells) T1.fails (e ∙ sym many)))
 
     far-is : r.far ≡ T1.far
     far-is = ap (λ (r : Tried). r.far) t.0

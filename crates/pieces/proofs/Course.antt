@@ -1,6 +1,6 @@
 -- The loop over the pieces: what is reached before piece i (`Reached`), that `subdivide` can be called for it (`can`,
--- `cell_room`), and what the turn leads to: the same before the next piece (`go_on`), the end after the last one
--- (`all_done`), or the end after a failure (`after-failure`).
+-- `cell_room`), and what the turn leads to: the same before the next piece (`go_on`), or the end after a failure
+-- (`after-failure`).
 use mathlib.Core.Path.{◌≡◌, refl, sym, ap, ◌∙◌, subst, fun_ext}
 use mathlib.Core.Bool.{Bool, false}
 use mathlib.Core.List.{List, [], ◌++◌, append-nil}
@@ -13,6 +13,8 @@ use borrow.Rule.Slice.PartMut.{put_mid}
 use lib.ListN.{length, get_or, take, drop, replicate, length-append, length-replicate}
 use lib.Ieee.{Float}
 use Rattle.laws.specs.All.{All}
+use Rattle.laws.specs.Bounded.{below}
+use Rattle.laws.proofs.Search.{below-given, below-absent}
 use Rattle.vector.specs.declared.GridPoint.{GridPoint}
 use Rattle.vector.specs.declared.Point.{Point}
 use Rattle.marks.specs.declared.Edge.{Edge}
@@ -35,14 +37,14 @@ use Rattle.cells.specs.Claims.{ValidPiece, corners_to, CellsOf}
 use Rattle.cells.specs.Asks.{Ask, of_ring, subdivide_asks, onward_asks, asks_to}
 use Rattle.cells.specs.Rims.{rims_by}
 use Rattle.cells.specs.Flat.{subdivide_in, subdivide_asks_in, tried_of, CanSubdividePiece}
-use Rattle.quads.specs.Flat.{found, over_cells}
+use Rattle.quads.specs.Flat.{over_cells}
 use Rattle.cells.proofs.Attempts.{onward-done, pieces-any, pieces-later, subdivide-any, subdivide-fails}
 use Rattle.cells.proofs.Ranges.{pieces_in_range}
 use Rattle.cells.proofs.NewCells.{subdivide-cells, pieces-cells}
 use Rattle.piece_nodes.proofs.Adding.{nodes-ranged, over-usable}
 use Rattle.cells.proofs.Rims.{rims_length, rims-none, rims_then}
 use Rattle.cells.proofs.Asking.{Below, asks-listed}
-use Rattle.std.specs.Prelude.{Some, None, Result, Ok, Err}
+use Rattle.std.specs.Prelude.{Some, None, Result, Err}
 use Rattle.pieces.specs.declared.Laid.{Laid}
 use Rattle.pieces.specs.declared.FailedPiece.{FailedPiece}
 use Rattle.quads.proofs.CellList as cell
@@ -98,8 +100,8 @@ module _ {share : Float} {l : List Float} {u : ℕ} {q : List ℕ} {first reserv
       let e : p.count - i + i ≡ p.count = omega arith in
       subst (λ (k : ℕ). length (nodes_of (O i)) ≤ length (nodes_of (O k))) e (pieces-later share ps (nodes_in l u) i (p.count - i)).longer
 
-  below : (i : ℕ) → i ≤ p.count → corners_to ps i ≤ reserve
-  below i h =
+  corners-fit : (i : ℕ) → i ≤ p.count → corners_to ps i ≤ reserve
+  corners-fit i h =
       let e : i + (p.count - i) ≡ p.count = omega arith in
       le_trans (subst (λ (k : ℕ). corners_to ps i ≤ corners_to ps k) e (corners_rise ps i (p.count - i))) f.corners
 
@@ -134,7 +136,7 @@ module _ {share : Float} {l : List Float} {u : ℕ} {q : List ℕ} {first reserv
     long-nodes h = ap length s.nodes ∙ length_over l s.ns (omega (arith, listed, rise i h, f.room))
 
     pub long-cells : i ≤ p.count → length r ≡ length q
-    long-cells h = ap length s.cells ∙ length_from q first s.cs (omega (arith, made, below i h, f.places))
+    long-cells h = ap length s.cells ∙ length_from q first s.cs (omega (arith, made, corners-fit i h, f.places))
 
     pub long-rims : length ts ≡ length rs
     long-rims = ap length s.rims ∙ rims_length u (length s.ns) (asks i) rs
@@ -151,16 +153,6 @@ module _ {share : Float} {l : List Float} {u : ℕ} {q : List ℕ} {first reserv
     held {c} {numbers} {xs} h =
         held-over l m u v s.ns c numbers xs s.nodes s.used
         (subst (λ (o : Outcome). Grown Anything (nodes_in l u) (nodes_of o)) s.is (pieces-any share ps (nodes_in l u) i)) h
-
-    pub all_done : i ≡ p.count → Left l u rs q first reserve (O p.count) (asks p.count) (Ok (record { nodes = v; cells = at - first })) m ts r
-    all_done e =
-        let o : O p.count ≡ done s.ns s.cs = ap O (sym e) ∙ s.is in
-        let d : at - first ≡ length s.cs = omega (arith, s.place) in (
-          subst (λ (o : Outcome). row (Ok (record { nodes = v; cells = at - first })) ≡ row_of o) (sym o) (λ j. row (Ok (record { nodes = s.used j; cells = d j }))),
-          s.nodes ∙ ap (λ (o : Outcome). over l (nodes_of o)) (sym o),
-          s.cells ∙ ap (λ (o : Outcome). over_from q first (cells_left_of reserve o)) (sym o),
-          s.rims ∙ (λ j. rims_by u (length (nodes_of (sym o j))) (asks (e j)) rs),
-        )
 
     -- piece i
     module _ {n : ℕ} {piece : Part} {bs : List Bool} (k : Read ring es p i n piece bs) where
@@ -187,7 +179,7 @@ module _ {share : Float} {l : List Float} {u : ℕ} {q : List ℕ} {first reserv
 
       -- the cells of this piece stay k .count the reserve
       ahead : length s.cs + n ≤ reserve
-      ahead = let b : corners_to ps i + length P.points ≤ reserve = below (suc i) k.count in omega (arith, b, made, corners)
+      ahead = let b : corners_to ps i + length P.points ≤ reserve = corners-fit (suc i) k.count in omega (arith, b, made, corners)
 
       pub can : CanSubdividePiece share m v piece
       can =
@@ -235,12 +227,12 @@ module _ {share : Float} {l : List Float} {u : ℕ} {q : List ℕ} {first reserv
         r' = put_mid (at * 4) (length r - at * 4) r x
 
         -- the cell that fails, if one does
-        fails-is : t.fails ≡ found (length S.cells) S.fails
+        fails-is : t.fails ≡ below (length S.cells) S.fails
         fails-is = ap (λ (t : Tried). t.fails) (e.0 ∙ ap tried_of divided-is)
 
         none-fails : t.fails ≡ None → S.fails ≡ n
         none-fails g =
-            omega (arith, subdivide-fails share s.ns P, corners, new-cells, cell.found-over (length S.cells) S.fails (sym fails-is ∙ g))
+            omega (arith, subdivide-fails share s.ns P, corners, new-cells, below-absent (length S.cells) S.fails (sym g ∙ fails-is))
 
         told : t ≡ tried_of S
         told = e.0 ∙ ap tried_of divided-is
@@ -265,9 +257,6 @@ module _ {share : Float} {l : List Float} {u : ℕ} {q : List ℕ} {first reserv
 
         long_after : length r' ≡ length q
         long_after = ap length cells-now ∙ length_from q first (s.cs ++ S.cells) (omega (arith, both, ahead, f.places))
-
-        pub clear_room : (first + reserve) * 4 ≤ length r'
-        clear_room = omega (arith, long_after, f.places)
 
         won : S.fails ≡ n → O (i + 1) ≡ done S.nodes (s.cs ++ S.cells)
         unfolding onward
@@ -323,19 +312,16 @@ module _ {share : Float} {l : List Float} {u : ℕ} {q : List ℕ} {first reserv
               ∙ from-again q first (s.cs ++ S.cells) (replicate reserve no_cell) (omega (arith, f.places))
               (omega (arith, both, ahead, length-replicate reserve no_cell))
 
-          pub long-cleared : length r'' ≡ length q
-          long-cleared = ap length cleared ∙ length_from q first (replicate reserve no_cell) (omega (arith, length-replicate reserve no_cell, f.places))
-
           pub after-failure : {j : ℕ} → t.fails ≡ Some j
               → Left l u rs q first reserve (O p.count) (asks p.count) (Err (record { corners = n; k = j; nodes = t.used })) m' ts' r''
           after-failure {j} g =
-              let z = cell.found-is (length S.cells) S.fails j (sym fails-is ∙ g) in
+              let z = below-given (length S.cells) S.fails j (sym g ∙ fails-is) in
               let b : i + 1 + (p.count - (i + 1)) ≡ p.count = omega (arith, k.count) in
-              let w = lost (λ y. omega (arith, y, z.0, new-cells)) in
+              let w = lost (λ y. omega (arith, y, z.0, z.1, new-cells)) in
               let o : O p.count ≡ failed S.nodes n S.fails = ap O (sym b) ∙ stays (p.count - (i + 1)) w in
               let d : asks p.count ≡ asks (i + 1) = ap asks (sym b) ∙ none-asked (p.count - (i + 1)) w in (
                 subst (λ (o : Outcome). row (Err (record { corners = n; k = j; nodes = t.used })) ≡ row_of o) (sym o)
-                    (λ h. row (Err (record { corners = n; k = sym z.1 h; nodes = (told h).used }))),
+                    (λ h. row (Err (record { corners = n; k = z.0 h; nodes = (told h).used }))),
                 nodes-now ∙ ap (λ (o : Outcome). over l (nodes_of o)) (sym o),
                 cleared ∙ ap (λ (o : Outcome). over_from q first (cells_left_of reserve o)) (sym o),
                 rims-now ∙ (λ j. rims_by u (length (nodes_of (sym o j))) (sym d j) rs),

@@ -1,11 +1,11 @@
 -- Which edges of a piece are ring edges, as the code reads it: the number of the edge is one of the ring's, below 60. It is what the split says of the ring
--- with every edge marked (`sides-are`), and that ring is the cleaned one with its edges marked (`labelled_ring`).
-use Prim.Native.Nat.{ℕ, zero, suc, ◌+◌, ◌≤◌, ◌<◌}
+-- with every edge marked (`sides-are`).
+use Prim.Native.Nat.{ℕ, ◌+◌, ◌≤◌, ◌<◌}
 use native.Mathlib.Decide.{dec_lt}
 use native.Mathlib.Omega.{arith}
-use mathlib.Core.Path.{◌≡◌, refl, sym, ap, ◌∙◌}
+use mathlib.Core.Path.{◌≡◌, sym, ap, ◌∙◌}
 use mathlib.Core.Bool.{Bool, false}
-use mathlib.Core.List.{List, [], ◌∷◌, map}
+use mathlib.Core.List.{List}
 use borrow.Author.Tests.{lt-ltb, le-ltb}
 use lib.ListN.{length, get_or, take, replicate, length-replicate, get_or-replicate, get_or-eq_default}
 use lib.Dec.{ltb}
@@ -18,10 +18,9 @@ use Rattle.marks.specs.Part.{Part}
 use Rattle.parts.specs.declared.PartList.{PartList}
 use Rattle.parts.specs.Vertices.{vertex, edge_at}
 use Rattle.parts.specs.Layout.{end, size, nth}
-use Rattle.split.specs.State.{ring_part}
 use Rattle.parts.specs.Pieces.{piece_in}
 use Rattle.parts.proofs.Pieces.{piece-nth}
-use Rattle.cells.specs.Asks.{label, all_marked, is_marked, of_ring}
+use Rattle.cells.specs.Asks.{label, is_marked, of_ring}
 use Rattle.pieces.specs.Flat.{every_mark}
 
 -- edge k of the part from place a on is the ring's
@@ -59,14 +58,3 @@ sides-are p i l out e f ring j = go (dec_lt j (size p i)) ∙ ap (λ (q : Part).
         ∙ mark-at (vertex p.corners (end p i + j)).edge
         ∙ ap is_marked (sym (get_d_tab (λ k. edge_at every_mark p.corners (end p i + k)) (size p i) j Straight h))
     go (no h) = f j (omega arith) ∙ ap is_marked (sym (get_or-eq_default marks Straight (omega (arith, h, many))))
-
--- the ring with every edge marked, as arrays hold it
-marks-are : (n m : ℕ) (es : List EdgeMark) → length es ≡ m → take n (replicate m label) ≡ map (λ (e : EdgeMark). label) (take n es)
-marks-are zero m es h = refl
-marks-are (suc n) m [] h = ap (λ (k : ℕ). take (suc n) (replicate k label)) (sym h)
-marks-are (suc n) m (e ∷ es) h =
-    ap (λ (k : ℕ). take (suc n) (replicate k label)) (sym h) ∙ ap (λ (l : List EdgeMark). label ∷ l) (marks-are n (length es) es refl)
-
-pub labelled_ring : (ring : List GridPoint) (es : List EdgeMark) (n : ℕ) → length es ≡ 60 → ring_part ring every_mark n ≡ all_marked (ring_part ring es n)
-unfolding every_mark all_marked
-labelled_ring ring es n h = λ j. record { points = take n ring; edges = marks-are n 60 es h j }

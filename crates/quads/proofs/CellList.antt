@@ -6,22 +6,16 @@ use Prim.Native.Nat.{ℕ, zero, suc, ◌+◌, ◌-◌, ◌*◌, ◌%◌, ◌≤�
 use native.Mathlib.Nat.{mod-lt}
 use native.Mathlib.Numerals.{add-one}
 use native.Mathlib.Omega.{arith}
-use mathlib.Core.Bool.{◌&&◌}
 use lib.ListN.{length, get_or, take, drop, length-append, length-drop, drop_of_length-le}
 use lib.Seq.{take_all, drop-drop, take_at, drop-append-add}
 use borrow.Rule.Slice.PartMut.{put_mid}
 use Rattle.laws.specs.Table.{tab}
 use Rattle.laws.proofs.Table.{length_tab, get_d_tab}
-use Rattle.vector.specs.declared.Point.{Point}
-use Rattle.nodes.specs.Nodes.{node_at}
 use Rattle.quads.specs.declared.Cell.{Cell}
-use Rattle.quads.specs.Quads.{no_cell, cells_to, quad_positive, all_distinct, holds}
-use Rattle.quads.specs.Flat.{Listed, found, positive, four, flat_cells, over_cells}
+use Rattle.quads.specs.Quads.{no_cell, cells_to}
+use Rattle.quads.specs.Flat.{Listed, four, flat_cells, over_cells}
 use Rattle.quads.specs.declared.Round.{Round}
 use Rattle.quads.specs.Round.{cells_of, ListedRound}
-use Rattle.std.specs.Prelude.{Option, Some, None}
-use native.Mathlib.Decide.{dec_lt}
-use Rattle.std.proofs.lemmas.Bool.{lt-ltb, le-ltb}
 
 -- ---- the cells of a piece
 module _ (c : ℕ) (ms vs : List ℕ) where
@@ -68,27 +62,6 @@ cell-listed {u} r g k h =
     let m : suc k % length r.corners.now < length r.middles.now = omega arith in
     subst (Listed u) (sym (cells_at r.centre r.middles.now r.corners.now (length r.middles.now) k h))
     (record { a = g.centre; b = g.middles k h; c = g.corners _ m; d = g.middles _ n })
-
--- ---- a search among them
-pub found-at : (n k : ℕ) → k < n → found n k ≡ Some k
-found-at n k h = rw (lt-ltb k n h)
-
-pub found-none : (n k : ℕ) → k ≡ n → found n k ≡ None
-found-none n k h = rw (le-ltb k n (omega arith))
-
-pub found-over : (n k : ℕ) → found n k ≡ None → n ≤ k
-found-over n k e = go (dec_lt k n)
-  where
-    go : Dec (k < n) → n ≤ k
-    go (yes h) = let a : ◌≡◌ {A = Option ℕ} (Some k) None = sym (found-at n k h) ∙ e in (cc)
-    go (no h) = omega arith
-
-pub found-is : (n k j : ℕ) → found n k ≡ Some j → (k < n) × (k ≡ j)
-found-is n k j e = go (dec_lt k n)
-  where
-    go : Dec (k < n) → (k < n) × (k ≡ j)
-    go (yes h) = let a : ◌≡◌ {A = Option ℕ} (Some k) (Some j) = sym (found-at n k h) ∙ e in (h, (cc))
-    go (no h) = let a : ◌≡◌ {A = Option ℕ} None (Some j) = sym (rw (le-ltb k n (omega arith))) ∙ e in (cc)
 
 -- ---- written out
 pub length-cells : (cs : List Cell) → length (flat_cells cs) ≡ length cs * 4
@@ -146,9 +119,3 @@ turn l m at cs c r e a h q =
     ∙ drop-append-add (flat_cells cs) (drop (length cs * 4) l) 4
     ∙ drop-drop 4 (length cs * 4) l in
     part-back m at (four c) r (omega arith) q ∙ rw (t, d, g, cells-append) (sym (append_assoc (flat_cells cs) (four c) (drop (length cs * 4 + 4) l)))
-
--- ---- the two tests of a cell, its corners read
-pub holds-is : (ns : List Point) (c : Cell) {p q r s : Point} → p ≡ node_at ns c.a → q ≡ node_at ns c.b → r ≡ node_at ns c.c → s ≡ node_at ns c.d
-    → (positive p q r s && all_distinct c) ≡ holds ns c
-unfolding holds quad_positive
-holds-is ns c a b d e = λ i. positive (a i) (b i) (d i) (e i) && all_distinct c

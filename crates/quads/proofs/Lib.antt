@@ -1,4 +1,3 @@
 -- Laws of one edge and of lists of cells.
 pub mod Turns
-pub mod EdgeMiddles
 pub mod CellList

@@ -7,16 +7,9 @@ use native.Mathlib.Numerals.{add-one}
 use native.Mathlib.Omega.{arith}
 use lib.ListN.{get_or, take, get_or-map}
 use lib.Seq.{get_or-take}
-use lib.Ieee.{Float}
-use Rattle.laws.specs.Double.{◌+f◌}
 use Rattle.marks.specs.declared.Edge.{Edge}
 use Rattle.marks.specs.declared.EdgeMark.TheVariants.{Straight}
-use Rattle.quads.specs.Quads.{total}
 use Rattle.marks.specs.Edges.{marks_in}
-
-pub total-next : (f : ℕ → Float) (i : ℕ) (x q : Float) → x ≡ total f i → q ≡ f i → x +f q ≡ total f (i + 1)
-unfolding total
-total-next f i x q a b = (λ j. a j +f b j) ∙ rw add-one
 
 -- the numbers of the two ends of edge i
 pub here : (vs : List ℕ) (n i : ℕ) → i < n → get_or vs i 0 ≡ get_or (take n vs) (i % n) 0

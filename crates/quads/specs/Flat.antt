@@ -1,6 +1,6 @@
 -- Cells and edges as the code has them: a lent list that holds a cell as four numbers, and what the functions answer.
 -- Definitions only.
-use Rattle.std.specs.Prelude.{ℕ, ◌*◌, ◌<◌, Bool, ◌&&◌, cond, List, [], ◌∷◌, ◌++◌, length, get_or, drop, Option, Some, None, ltb, Float}
+use Rattle.std.specs.Prelude.{ℕ, ◌*◌, ◌<◌, Bool, ◌&&◌, List, [], ◌∷◌, ◌++◌, length, get_or, drop, Float}
 use Rattle.vector.specs.declared.Point.{Point}
 use Rattle.marks.specs.declared.EdgeMark.{EdgeMark}
 use Rattle.quads.specs.declared.Cell.{Cell}
@@ -17,10 +17,6 @@ pub record Listed (count : ℕ) (q : Cell) : Type 0 where
   pub b : q.b < count
   pub c : q.c < count
   pub d : q.d < count
-
--- the answer of a search over the numbers below n that stopped at k: k, or None where it came to the end
-abbrev pub found : ℕ → ℕ → Option ℕ
-found n k = cond (ltb k n) (Some k) None
 
 -- where the middle of an edge goes, and whether its snap point was too far
 abbrev pub middle_of : Float → EdgeMark → Point → Point → Middle

@@ -48,6 +48,7 @@ impl Round<'_> {
     ghost use Rattle.quads.specs.Round.{cells_of};
 
     // Cell k: centre, middle k, corner k + 1, middle k + 1.
+    #[tactic(auto, using(crate::proofs::CellList::cell_at))]
     pub fn cell(&self, k: usize) -> Cell
         requires { k < length self.now.middles.now }
         ensures { result ≡ get_or (cells_of self.now) k no_cell }
@@ -81,6 +82,7 @@ pub fn halfway(a: Point, b: Point) -> Point
 }
 
 // A snap point is taken where it is no farther from the straight middle than this share of the chord.
+#[tactic(auto, unfolding(crate::specs::Quads::edge_middle, crate::specs::Quads::too_far))]
 pub fn edge_middle(m: EdgeMark, a: Point, b: Point, share: f64) -> Middle
     ensures { result ≡ middle_of share m a b }
 {
@@ -105,14 +107,11 @@ pub fn node_at(nodes: &[f64], i: NodeNumber) -> Point
     ensures { result ≡ node_in_of nodes.now i }
 {
     // Kept: `as`, since a usize has no From<u32>.
-    let at = i as usize * 2;
-    Point {
-        x: nodes[at],
-        y: nodes[at + 1],
-    }
+    nodes::point_at(nodes, i as usize)
 }
 
 // The mean of the listed corners, summed from 0.0 in their order.
+#[tactic(auto, unfolding(crate::specs::Quads::total))]
 pub fn mean(nodes: &[f64], vs: &[NodeNumber]) -> Point
     requires { (0 < length vs.now) × (length vs.now ≤ 60)
         × ((j : ℕ) → j < length vs.now → get_or vs.now j 0 * 2 + 2 ≤ length nodes.now) }

@@ -28,6 +28,24 @@ impl Set {
     }
 }
 
+// What a call divides: a ring by its chain, or with given marks, and the size of its sheet.
+#[derive(Clone, Copy)]
+pub enum Asked<'a> {
+    Chain {
+        ring: &'a [i32],
+        chain: &'a [i32],
+        size: u32,
+    },
+    Marks {
+        ring: &'a [i32],
+        kinds: &'a [u8],
+        snaps: &'a [f64],
+        outline: &'a [i32],
+        loops: &'a [u32],
+        size: u32,
+    },
+}
+
 #[derive(Clone, Copy)]
 pub enum Entry {
     Examination,
@@ -35,53 +53,82 @@ pub enum Entry {
     Practice,
 }
 
-pub fn divided(
-    e: Entry,
-    ring: &[i32],
-    chain: &[i32],
-    size: u32,
-    nodes: &mut [f64],
-    used: usize,
-    rims: &mut [u8],
-    cells: &mut [NodeNumber],
-    cell_count: usize,
-) -> Row {
-    match e {
-        Entry::Examination => {
-            exports::ring_divide(ring, chain, size, nodes, used, rims, cells, cell_count)
+// Kept: what a call is lent comes list by list; of a struct of these lists the proof of no call closed.
+impl Entry {
+    pub fn divide(
+        self,
+        asked: Asked<'_>,
+        nodes: &mut [f64],
+        used: usize,
+        rims: &mut [u8],
+        cells: &mut [NodeNumber],
+        cell_count: usize,
+    ) -> Row {
+        match asked {
+            Asked::Chain { ring, chain, size } => {
+                self.by_chain(ring, chain, size, nodes, used, rims, cells, cell_count)
+            }
+            Asked::Marks {
+                ring,
+                kinds,
+                snaps,
+                outline,
+                loops,
+                size,
+            } => self.marked(
+                ring, kinds, snaps, outline, loops, size, nodes, used, rims, cells, cell_count,
+            ),
         }
-        Entry::WithSet(s) => exports::ring_divide_set(
-            s.corner, s.least, s.greatest, s.cuts, s.share, ring, chain, size, nodes, used, rims,
-            cells, cell_count,
-        ),
-        Entry::Practice => exports::ring_divide_practice(
-            ring, chain, size, nodes, used, rims, cells, cell_count,
-        ),
     }
-}
 
-// The practice paper has no call with given marks: one in a list is run as the examination's.
-pub fn divided_marked(
-    e: Entry,
-    ring: &[i32],
-    kinds: &[u8],
-    snaps: &[f64],
-    outline: &[i32],
-    loops: &[u32],
-    size: u32,
-    nodes: &mut [f64],
-    used: usize,
-    rims: &mut [u8],
-    cells: &mut [NodeNumber],
-    cell_count: usize,
-) -> Row {
-    match e {
-        Entry::WithSet(s) => exports::ring_divide_marked_set(
-            s.corner, s.least, s.greatest, s.cuts, s.share, ring, kinds, snaps, outline, loops,
-            size, nodes, used, rims, cells, cell_count,
-        ),
-        Entry::Examination | Entry::Practice => exports::ring_divide_marked(
-            ring, kinds, snaps, outline, loops, size, nodes, used, rims, cells, cell_count,
-        ),
+    fn by_chain(
+        self,
+        ring: &[i32],
+        chain: &[i32],
+        size: u32,
+        nodes: &mut [f64],
+        used: usize,
+        rims: &mut [u8],
+        cells: &mut [NodeNumber],
+        cell_count: usize,
+    ) -> Row {
+        match self {
+            Entry::Examination => {
+                exports::ring_divide(ring, chain, size, nodes, used, rims, cells, cell_count)
+            }
+            Entry::WithSet(s) => exports::ring_divide_set(
+                s.corner, s.least, s.greatest, s.cuts, s.share, ring, chain, size, nodes, used,
+                rims, cells, cell_count,
+            ),
+            Entry::Practice => exports::ring_divide_practice(
+                ring, chain, size, nodes, used, rims, cells, cell_count,
+            ),
+        }
+    }
+
+    // The practice paper has no call with given marks: one in a list is run as the examination's.
+    fn marked(
+        self,
+        ring: &[i32],
+        kinds: &[u8],
+        snaps: &[f64],
+        outline: &[i32],
+        loops: &[u32],
+        size: u32,
+        nodes: &mut [f64],
+        used: usize,
+        rims: &mut [u8],
+        cells: &mut [NodeNumber],
+        cell_count: usize,
+    ) -> Row {
+        match self {
+            Entry::WithSet(s) => exports::ring_divide_marked_set(
+                s.corner, s.least, s.greatest, s.cuts, s.share, ring, kinds, snaps, outline, loops,
+                size, nodes, used, rims, cells, cell_count,
+            ),
+            Entry::Examination | Entry::Practice => exports::ring_divide_marked(
+                ring, kinds, snaps, outline, loops, size, nodes, used, rims, cells, cell_count,
+            ),
+        }
     }
 }

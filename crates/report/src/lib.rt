@@ -29,12 +29,14 @@ pub struct Divided {
 }
 
 // To the nearest, halves up; in two steps, so that no area is too large for 64 bits.
+#[tactic(auto, unfolding(crate::specs::Report::hundredths))]
 fn hundredths(area: u64) -> u64
     ensures { result ≡ Report.hundredths area }
 {
     area / 134217728 * 100 + (area % 134217728 * 100 + 67108864) / 134217728
 }
 
+#[tactic(auto, unfolding(crate::specs::Report::ring_line, text::specs::Text::bytes))]
 fn put_ring(page: &mut Page, a: Divided)
     requires { Room page.old (Report.ring_line a) }
     ensures { Wrote page.old (Report.ring_line a) page.new }
@@ -43,6 +45,7 @@ fn put_ring(page: &mut Page, a: Divided)
     page.filled(b"ring # corners # cuts # turned # area #\n", &numbers);
 }
 
+#[tactic(auto, unfolding(crate::specs::Report::nodes_line, text::specs::Text::bytes))]
 fn put_nodes(page: &mut Page, nodes: u64, added: u64)
     requires { Room page.old (Report.nodes_line nodes added) }
     ensures { Wrote page.old (Report.nodes_line nodes added) page.new }
@@ -75,6 +78,7 @@ pub fn print_ring(out: &mut [u8], a: Divided, cells: &[u32]) -> usize
     page.at
 }
 
+// Kept: the numbers of a refused ring's row as they are, since they are what is printed.
 pub fn print_refused_ring(out: &mut [u8], ring: u64, code: u64, corners: u64, k: u64) -> usize
     ensures { Printed (holds out.old) out.old (Report.refused_ring ring code corners k) result out.new }
 {
@@ -86,6 +90,7 @@ pub fn print_refused_ring(out: &mut [u8], ring: u64, code: u64, corners: u64, k:
     page.at
 }
 
+// Kept: the refusal as its number, which is what is printed.
 pub fn print_refused_block(out: &mut [u8], block: u64, code: u64) -> usize
     ensures { Printed (holds out.old) out.old (Report.refused_block block code) result out.new }
 {

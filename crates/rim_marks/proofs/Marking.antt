@@ -1,8 +1,8 @@
--- The rim marks: the new places cleared at once (`cleared-paste`), and those of listed nodes set (`set_on`, `set-off`).
+-- The rim marks: the new places cleared at once (`cleared-paste`), and no fewer or more where those of listed nodes are set.
 use Prim.Native.Nat.{ℕ, zero, suc, ◌+◌, ◌≤◌}
 use native.Mathlib.Numerals.{add-one}
 use native.Mathlib.Omega.{arith}
-use mathlib.Core.Path.{◌≡◌, refl, sym, ap, ◌∙◌}
+use mathlib.Core.Path.{◌≡◌, refl, ap, ◌∙◌}
 use mathlib.Core.Bool.{Bool, true, false, cond}
 use mathlib.Core.List.{List}
 use lib.ListN.{length, get_or, set, length-set, replicate}
@@ -23,19 +23,6 @@ clear-length rs u (suc d) = length-set (cleared rs u d) (u + d) 0 ∙ clear-leng
 
 -- ---- setting
 module _ (rs ks : List ℕ) (bs : List Bool) where
-  pub set-none : rs ≡ set_at rs ks bs 0
-  unfolding set_at
-  set-none = refl
-
-  pub set_on : (ts : List ℕ) (i : ℕ) → ts ≡ set_at rs ks bs i → get_or bs i false ≡ true → set ts (get_or ks i 0) 1 ≡ set_at rs ks bs (i + 1)
-  unfolding set_at
-  set_on ts i e b =
-      rw (add-one i) ((λ j. set (e j) (get_or ks i 0) 1) ∙ ap (λ (c : Bool). cond c (set (set_at rs ks bs i) (get_or ks i 0) 1) (set_at rs ks bs i)) (sym b))
-
-  pub set-off : (ts : List ℕ) (i : ℕ) → ts ≡ set_at rs ks bs i → get_or bs i false ≡ false → ts ≡ set_at rs ks bs (i + 1)
-  unfolding set_at
-  set-off ts i e b = rw (add-one i) (e ∙ ap (λ (c : Bool). cond c (set (set_at rs ks bs i) (get_or ks i 0) 1) (set_at rs ks bs i)) (sym b))
-
   pub set-length : (i : ℕ) → length (set_at rs ks bs i) ≡ length rs
   unfolding set_at
   set-length zero = refl

@@ -14,6 +14,7 @@ use quads::Round;
 use vector::MOST_POINTS;
 
 // Those of these nodes set, where they are on the rim.
+#[tactic(auto, unfolding(crate::specs::Marking::set_at))]
 fn set_rims(rims: &mut [u8], list: &[NodeNumber], on: &[bool])
     requires { (length list.now ≤ length on.now) × ListedTo (length rims.old) list.now (length list.now) }
     ensures { rims.new ≡ set_at rims.old list.now on.now (length list.now) }

@@ -1,7 +1,7 @@
 -- Heron's steps to the whole part of a square root, and the range of each number on the way. Nothing here is about floats.
 use mathlib.Core.Path.{◌≡◌, subst}
 use Prim.Native.Nat.{ℕ, zero, suc, ◌+◌, ◌-◌, ◌*◌, ◌/◌, ◌^◌, ◌≤◌, ◌<◌}
-use native.Mathlib.Nat.{le_of_lt, lt_of_not-le, lt_of_lt_of_le, lt_of_le_of_lt, lt-suc_self, zero-lt-suc, add-sub_of_le, add-mul, mul-add, mul_comm}
+use native.Mathlib.Nat.{le_of_lt, lt_of_not-le, lt_of_lt_of_le, lt-suc_self, zero-lt-suc, add-sub_of_le, add-mul, mul-add, mul_comm}
 use native.Mathlib.Nat.{mul_right_comm, mul-le-mul, mul-le-mul_left, mul-le-mul_right, div-lt_iff_lt-mul}
 use native.Mathlib.Decide.{dec_le}
 use native.Mathlib.Omega.{arith}
@@ -87,6 +87,3 @@ down n (suc a) v h = subst (Above n) (same a) (record { above = h; small = omega
   where
     same : (a : ℕ) → a ≡ suc a - 1
     same a = omega arith
-
-pub square-fits : (a : ℕ) → a < 2 ^ 30 → a * a < 2 ^ 64
-square-fits a h = lt_of_le_of_lt (mul-le-mul (le_of_lt h) (le_of_lt h)) (lit< tt)

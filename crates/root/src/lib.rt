@@ -26,6 +26,7 @@ fn root_head(n: u64) -> u64
     let g = 34799785 + x * h / 0x10_0000;
     let f = (g + n / g) / 2;
     let mut a = (f + n / f) / 2;
+    // Kept: it walks down to the answer, and counts nothing.
     while n < a * a {
         a -= 1;
     }
@@ -120,7 +121,8 @@ pub fn dist(a: Point, b: Point) -> f64
 }
 
 // The same over the grid, in mm: the squares are summed exactly, in units, before the one division and the root.
-// Kept: the grid's lengths ask for points on the sheet, so that a trait over both kinds of points would be longer.
+// Kept: one line each beside `norm` and `dist`. A trait over both kinds of points would need a ghost member for what the grid's
+// lengths ask, a step of the sheet, one for the square and one for the difference, and two impls of three methods.
 pub fn grid_norm(v: GridPoint) -> f64
     requires { Step v }
     ensures { result ≡ Norm.grid_norm v }

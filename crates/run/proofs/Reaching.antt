@@ -1,9 +1,9 @@
 -- What a turn of the loop does to what was reached: one block more (`turned`), of which the text is owed (`owes`) and, once it is sent, was written
 -- (`wrote`); no run goes on past 65,536 blocks; and where it has ended, `printed` of the input was written (`finished`), and the nodes are those of its run
 -- (`listed`).
-use Prim.Native.Nat.{ℕ, suc, ◌+◌, ◌-◌, ◌*◌, ◌≤◌, ◌<◌}
+use Prim.Native.Nat.{ℕ, suc, ◌-◌, ◌*◌, ◌≤◌, ◌<◌}
 use mathlib.Core.Path.{◌≡◌, refl, sym, ap, ◌∙◌, subst}
-use mathlib.Core.Bool.{Bool, true, false, cond}
+use mathlib.Core.Bool.{true, false, cond}
 use mathlib.Core.Logic.{◌⊎◌, inl, inr}
 use mathlib.Core.List.{List, [], ◌++◌}
 use native.Mathlib.Omega.{arith}
@@ -16,8 +16,8 @@ use Rattle.told.specs.Text.{told_text}
 use Rattle.state.specs.declared.State.{State}
 use Rattle.job.specs.declared.Stepped.{Stepped}
 use Rattle.job.specs.Step.{text_of, step_of, Steps, CanStep}
-use Rattle.job.specs.Run.{Bytes, start, no_points, no_nodes, no_rims, Course, onward, ran, block_at, read_to, printed}
-use Rattle.job.proofs.Runs.{Went, Held, outcome, number-below, not-both, goes, ran-held, read_more, read-added, joined_bytes}
+use Rattle.job.specs.Run.{Bytes, start, no_points, no_nodes, no_rims, Course, onward, ran, read_to}
+use Rattle.job.proofs.Runs.{Went, outcome, number-below, not-both, goes, ran-held, read_more, read-added, joined_bytes}
 use Rattle.job.proofs.Printed.{one_more, prints, counted, in_time}
 use Rattle.telling.specs.Reached.{Reached, Wrote, Owed, Sends, Finished, EndedWith}
 

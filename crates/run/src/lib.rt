@@ -25,6 +25,7 @@ pub fn run<R: Read, W: Write>(input: &mut R, output: &mut W) -> Result<u64, Writ
     let mut bytes = [0u8; 512];
     let mut s = State::new();
     let mut sent: u64 = 0;
+    // Kept: the state says when the run ends; no list is gone over.
     while state::goes_on(s) {
         let got = stream::read_block(input, &mut bytes);
         let stepped = step::step(

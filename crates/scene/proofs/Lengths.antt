@@ -18,7 +18,7 @@ use Rattle.svg.proofs.Forms.{length-formed}
 use Rattle.scene.specs.declared.Spot.{Spot}
 use Rattle.scene.specs.declared.Quad.{Quad}
 use Rattle.scene.specs.Scene.{cell_text, half_text, snapped, snap_text, quad_of, quad_text, quads_text, placed, points_text, lead_text}
-use Rattle.scene.specs.Scene.{divided_text, halfway, refused_text, ring_text, dot_text, most_ring, most_node}
+use Rattle.scene.specs.Scene.{outline_text, divided_text, halfway, refused_text, ring_text, dot_text, node_text, most_ring, most_node}
 
 -- ---- by the mark
 module _ (mark : ℕ) (a b : Spot) where
@@ -53,10 +53,6 @@ module _ (q : Quad) where
   pub snap-sign : snapped q ≡ true → sign ≡ snap_text q
   unfolding snap_text
   snap-sign e = rw e
-
-  pub snap-none : snapped q ≡ false → [] ≡ snap_text q
-  unfolding snap_text
-  snap-none e = rw e
 
   snap-length : length (snap_text q) ≤ 99
   unfolding snap_text bytes marks takes
@@ -97,10 +93,6 @@ module _ (ps : List ℤ) (count : ℕ) where
   abbrev lead_line : List ℕ
   lead_line = formed (bytes "<polyline class='lead' points='") [] ++ points_text ps count ++ formed (bytes "'/>\n") []
 
-  pub lead_none : count ≡ 0 → [] ≡ lead_text ps count
-  unfolding lead_text
-  lead_none e = rw (eq-eqb count 0 e)
-
   pub lead_some : (count ≡ 0 → ⊥) → lead_line ≡ lead_text ps count
   unfolding lead_text
   lead_some e = rw (ne_eqb count 0 e)
@@ -138,24 +130,38 @@ module _ (mark : ℕ) (p : Spot) (n : ℕ) where
   unfolding dot_text
   dot-rim h = rw (ne_eqb mark 0 h)
 
-  pub inside-length : length inside_dot ≤ most_node
+  inside-length : length inside_dot ≤ most_node
   unfolding bytes marks takes
   inside-length =
       let h = length-formed (bytes "<g class='inside' transform='matrix(.01 0 0 -.01 @ @)'><circle r='.22em'/><text x='.3em' y='-.3em'>#</text></g>\n")
       (p.x ∷ p.y ∷ n ∷ []) in
       omega (arith, h)
 
-  pub rim-length : length rim_dot ≤ most_node
+  rim-length : length rim_dot ≤ most_node
   unfolding bytes marks takes
   rim-length =
       let h = length-formed (bytes "<g class='node' transform='matrix(.01 0 0 -.01 @ @)'><circle r='.22em'/><text x='.3em' y='-.3em'>#</text></g>\n")
       (p.x ∷ p.y ∷ n ∷ []) in
       omega (arith, h)
 
+  dot-length : length (dot_text mark p n) ≤ most_node
+  unfolding dot_text
+  dot-length = go (eqb mark 0)
+    where
+      go : (t : Bool) → length (formed (cond t
+          (bytes "<g class='inside' transform='matrix(.01 0 0 -.01 @ @)'><circle r='.22em'/><text x='.3em' y='-.3em'>#</text></g>\n")
+          (bytes "<g class='node' transform='matrix(.01 0 0 -.01 @ @)'><circle r='.22em'/><text x='.3em' y='-.3em'>#</text></g>\n")) (p.x ∷ p.y ∷ n ∷ [])) ≤ most_node
+      go true = inside-length
+      go false = rim-length
+
+pub node-length : (l : List Float) (rs : List ℕ) (i : ℕ) → length (node_text l rs i) ≤ most_node
+unfolding node_text
+node-length l rs i = dot-length _ _ _
+
 -- ---- a ring
 module _ (n : ℕ) (v : Row) (ps : List ℤ) (count : ℕ) (h : count ≤ 60) where
-  pub divided-length : (l : List Float) (rs cs : List ℕ) → length cs ≤ 496 → length (divided_text n v ps count l rs cs) ≤ most_ring
-  unfolding divided_text bytes marks takes
+  divided-length : (l : List Float) (rs cs : List ℕ) → length cs ≤ 496 → length (divided_text n v ps count l rs cs) ≤ most_ring
+  unfolding divided_text outline_text bytes marks takes
   divided-length l rs cs k =
       let ns : List ℕ = n ∷ v.corners ∷ v.cuts ∷ [] in
       let a : length (formed (bytes "<g class='ring'><title>ring #: corners #, cuts #</title>\n<polygon class='outline' points='") ns) ≤ 165 =
@@ -165,7 +171,7 @@ module _ (n : ℕ) (v : Row) (ps : List ℤ) (count : ℕ) (h : count ≤ 60) wh
       rw (length-append, length-append, length-append, length-append)
       (omega (arith, a, b, d, points-length ps count, quads-length l rs cs (length cs / 4)))
 
-  pub refused-length : length (refused_text n v ps count) ≤ most_ring
+  refused-length : length (refused_text n v ps count) ≤ most_ring
   unfolding refused_text bytes marks takes
   refused-length =
       let ns : List ℕ = n ∷ v.code ∷ v.corners ∷ v.k ∷ [] in
@@ -176,20 +182,12 @@ module _ (n : ℕ) (v : Row) (ps : List ℤ) (count : ℕ) (h : count ≤ 60) wh
       length-formed (bytes "'/>\n<text transform='matrix(.01 0 0 -.01 @ @)'>#</text></g>\n") ms in
       rw (length-append, length-append) (omega (arith, a, b, points-length ps count))
 
-  -- by its row
-  module _ (l : List Float) (rs cs : List ℕ) where
-    pub ring-length : length cs ≤ 496 → length (ring_text n v ps count l rs cs) ≤ most_ring
-    unfolding ring_text
-    ring-length k = go (eqb v.code 0)
-      where
-        go : (t : Bool) → length (cond t (divided_text n v ps count l rs cs) (refused_text n v ps count)) ≤ most_ring
-        go true = divided-length l rs cs k
-        go false = refused-length
-
-    pub ring-divided : v.code ≡ 0 → divided_text n v ps count l rs cs ≡ ring_text n v ps count l rs cs
-    unfolding ring_text
-    ring-divided e = rw (eq-eqb v.code 0 e)
-
-    pub ring-refused : (v.code ≡ 0 → ⊥) → refused_text n v ps count ≡ ring_text n v ps count l rs cs
-    unfolding ring_text
-    ring-refused e = rw (ne_eqb v.code 0 e)
+-- by its row
+pub ring-length : (n : ℕ) (v : Row) (ps : List ℤ) (count : ℕ) → count ≤ 60 → (l : List Float) (rs cs : List ℕ) → length cs ≤ 496
+    → length (ring_text n v ps count l rs cs) ≤ most_ring
+unfolding ring_text
+ring-length n v ps count h l rs cs k = go (eqb v.code 0)
+  where
+    go : (t : Bool) → length (cond t (divided_text n v ps count l rs cs) (refused_text n v ps count)) ≤ most_ring
+    go true = divided-length n v ps count h l rs cs k
+    go false = refused-length n v ps count h

@@ -1,5 +1,4 @@
--- Laws that the function proofs cite: how long the text of a ring and of a node is at most, the texts of a ring one after the
--- other, and which middles have snapped.
+-- Laws that the function proofs cite: how long the text of a ring and of a node is at most, and the cells of a list as they are read.
 pub mod Lengths
-pub mod Divided
-pub mod Snaps
+pub mod Cells
+pub mod Turns

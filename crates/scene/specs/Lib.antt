@@ -1,2 +1,3 @@
 -- What is drawn of a ring and of a node.
 pub mod Scene
+pub mod Handed

@@ -34,18 +34,22 @@ unfoldable pub across : List ℕ → ℕ → ℕ → ℕ → ℕ
 across cs c m zero = 0
 across cs c m (suc j) = followed cs c m j (across cs c m j)
 
--- cell i of a list of four node numbers a cell, its nodes looked up, and the corner after its own
+-- a cell of a list of four node numbers a cell, its nodes looked up, and the corner after its own; by its numbers q, and by its place in the list
+unfoldable pub quad_with : List Float → List ℕ → List ℕ → List ℕ → Quad
+quad_with l rs cs q =
+    record {
+      centre = spot_of l (get_or q 0 0);
+      ahead = spot_of l (get_or q 1 0);
+      corner = spot_of l (get_or q 2 0);
+      behind = spot_of l (get_or q 3 0);
+      next = spot_of l (across cs (get_or q 0 0) (get_or q 3 0) (length cs / 4));
+      first = get_or rs (get_or q 1 0) 0;
+      second = get_or rs (get_or q 3 0) 0;
+    }
+
 unfoldable pub quad_of : List Float → List ℕ → List ℕ → ℕ → Quad
 quad_of l rs cs i =
-    record {
-      centre = spot_of l (get_or cs (i * 4) 0);
-      ahead = spot_of l (get_or cs (i * 4 + 1) 0);
-      corner = spot_of l (get_or cs (i * 4 + 2) 0);
-      behind = spot_of l (get_or cs (i * 4 + 3) 0);
-      next = spot_of l (across cs (get_or cs (i * 4) 0) (get_or cs (i * 4 + 3) 0) (length cs / 4));
-      first = get_or rs (get_or cs (i * 4 + 1) 0) 0;
-      second = get_or rs (get_or cs (i * 4 + 3) 0) 0;
-    }
+    quad_with l rs cs (get_or cs (i * 4) 0 ∷ get_or cs (i * 4 + 1) 0 ∷ get_or cs (i * 4 + 2) 0 ∷ get_or cs (i * 4 + 3) 0 ∷ [])
 
 -- m is off halfway between a and b by more than two ten-thousandths of a mm, more than rounding makes of a middle that is halfway
 unfoldable pub off : ℕ → ℕ → ℕ → Bool
@@ -77,6 +81,9 @@ quads_text l rs cs (suc i) = quads_text l rs cs i ++ quad_text (quad_of l rs cs 
 unfoldable pub placed : ℕ → ℕ → List ℕ
 placed x y = formed (bytes "@,@ ") (x ∷ y ∷ [])
 
+abbrev pub point_spot : List ℤ → ℕ → Spot
+point_spot ps i = record { x = point_place ps (i * 2); y = point_place ps (i * 2 + 1) }
+
 abbrev pub point_text : List ℤ → ℕ → List ℕ
 point_text ps i = placed (point_place ps (i * 2)) (point_place ps (i * 2 + 1))
 
@@ -89,18 +96,25 @@ unfoldable pub lead_text : List ℤ → ℕ → List ℕ
 lead_text ps count =
     cond (eqb count 0) [] (formed (bytes "<polyline class='lead' points='") [] ++ points_text ps count ++ formed (bytes "'/>\n") [])
 
--- ring number n, which has its row and its first `count` points: divided, with its cells
-unfoldable pub divided_text : ℕ → Row → List ℤ → ℕ → List Float → List ℕ → List ℕ → List ℕ
-divided_text n v ps count l rs cs =
+-- ring number n, which has its row and its first `count` points: the outline, and divided, with its cells
+unfoldable pub outline_text : ℕ → Row → List ℤ → ℕ → List ℕ
+outline_text n v ps count =
     formed (bytes "<g class='ring'><title>ring #: corners #, cuts #</title>\n<polygon class='outline' points='") (n ∷ v.corners ∷ v.cuts ∷ [])
     ++ points_text ps count
     ++ formed (bytes "'/>\n") []
+
+unfoldable pub divided_text : ℕ → Row → List ℤ → ℕ → List Float → List ℕ → List ℕ → List ℕ
+divided_text n v ps count l rs cs =
+    outline_text n v ps count
     ++ quads_text l rs cs (length cs / 4)
     ++ formed (bytes "</g>\n") []
 
 -- refused: its number stands halfway between the first point and the one half round
 abbrev pub halfway : List ℤ → ℕ → ℕ → ℕ
 halfway ps count k = (point_place ps k + point_place ps (count / 2 * 2 + k)) / 2
+
+abbrev pub label : List ℤ → ℕ → Spot
+label ps count = record { x = halfway ps count 0; y = halfway ps count 1 }
 
 unfoldable pub refused_text : ℕ → Row → List ℤ → ℕ → List ℕ
 refused_text n v ps count =

@@ -15,13 +15,14 @@ ghost use Rattle.segments.specs.Meeting as Meeting;
 use vector::GridPoint;
 
 // t lies strictly between 1.0e-9 and 1.0 - 1.0e-9: an end that only touches does not count.
-#[tactic(auto, using(crate::proofs::Literals::tiny_is, crate::proofs::Literals::one_is), unfolding(crate::specs::Segments::interior))]
+#[tactic(auto, using(crate::proofs::Literals::tiny_is, laws::proofs::Constants::one_is), unfolding(crate::specs::Segments::interior))]
 fn interior(t: f64) -> bool
     ensures { result ≡ Segments.interior t }
 {
     1.0e-9 < t && t < 1.0 - 1.0e-9
 }
 
+#[tactic(auto, using(laws::proofs::Signed::back), unfolding(crate::specs::Segments::ratio))]
 fn ratio(num: i64, den: i64) -> f64
     requires { (nat_abs num ≤ 2 ^ 49) × (nat_abs den ≤ 2 ^ 49) }
     ensures { result ≡ Segments.ratio num den }
@@ -63,6 +64,7 @@ fn on_line(a: GridPoint, b: GridPoint, p: GridPoint) -> Option<i64>
 }
 
 // Whether p is on the segment from a to b, its ends included.
+#[tactic(auto, using(crate::proofs::Places::tested), unfolding(crate::specs::Meeting::place_on_line, crate::specs::Meeting::on_segment))]
 fn on_segment(a: GridPoint, b: GridPoint, p: GridPoint) -> bool
     requires { OnSheet a × OnSheet b × OnSheet p }
     ensures { result ≡ Meeting.on_segment a b p }
@@ -71,6 +73,7 @@ fn on_segment(a: GridPoint, b: GridPoint, p: GridPoint) -> bool
 }
 
 // Whether p is strictly between a and b on their line.
+#[tactic(auto, using(crate::proofs::Places::tested), unfolding(crate::specs::Meeting::place_on_line, crate::specs::Meeting::strictly_between))]
 pub fn strictly_between(a: GridPoint, b: GridPoint, p: GridPoint) -> bool
     requires { OnSheet a × OnSheet b × OnSheet p }
     ensures { result ≡ Meeting.strictly_between a b p }

@@ -23,6 +23,7 @@ fn list_job<R: Read, W: Write>(input: &mut R, output: &mut W) -> Result<u64, Wri
     let mut cells = [0; 496];
     let mut bytes = [0u8; 512];
     let mut s = State::new();
+    // Kept: the state says when the run ends; no list is gone over.
     while state::goes_on(s) {
         let got = stream::read_block(input, &mut bytes);
         let stepped = step::step(

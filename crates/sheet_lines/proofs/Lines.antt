@@ -1,6 +1,6 @@
 -- The loop over the nodes: the line that was put is the whole of its list (`whole-line`), it is owed (`owes`), and once it is sent the lines so far are one
 -- more (`more-lines`); and where a run has ended, its lines are the input's sheet (`finished`).
-use Prim.Native.Nat.{ℕ, suc, ◌+◌, ◌*◌, ◌<◌, ◌≤◌}
+use Prim.Native.Nat.{ℕ, ◌+◌, ◌<◌, ◌≤◌}
 use mathlib.Core.Path.{◌≡◌, refl, sym, ap, ◌∙◌}
 use mathlib.Core.List.{List}
 use native.Mathlib.Omega.{arith}
@@ -8,11 +8,10 @@ use native.Mathlib.Numerals.{add-one}
 use lib.ListN.{length, take, length-append}
 use lib.Seq.{take_all, take_at}
 use lib.Ieee.{Float}
-use Rattle.nodes.specs.Flat.{Usable}
 use Rattle.text.specs.Text.{put, Written}
 use Rattle.listing.specs.Sheet.{line, lines}
 use Rattle.listing.proofs.Texts.{line-long, lines_long}
-use Rattle.job.specs.Run.{Course, whole_run}
+use Rattle.job.specs.Run.{Course}
 use Rattle.job.proofs.Printed.{settles}
 use Rattle.telling.specs.Reached.{EndedWith}
 use Rattle.sheet_lines.specs.Sheeted.{sheeted, Finished}

@@ -16,6 +16,8 @@ use std::io::Write;
 use stream::WriteFailed;
 
 // Writes the line that is owed after `sent` bytes.
+// Kept: a wrapper of write_counted as in telling and picture, since each asks that its own Owed holds; a generic one would
+// need a trait for that and a type to carry it.
 fn send<W: Write>(output: &mut W, line: &[u8], sent: &mut u64) -> Result<(), WriteFailed>
     requires { Owed sent.old line.now }
     ensures { OnOk result (sent.new ≡ sent.old + length line.now) }
@@ -33,6 +35,7 @@ pub fn print_sheet<W: Write>(output: &mut W, nodes: &[f64], used: usize) -> Resu
     if listing::nodes_out(nodes, used) {
         return Err(WriteFailed);
     }
+    // Kept: this goes over the numbers of nodes, of which put_line makes the lines, and over no list.
     for i in 0..used {
         let mut line = [0u8; 65];
         listing::put_line(&mut line, 0, nodes, i);

@@ -14,6 +14,7 @@ use vector::{GridPoint, Point};
 // Whether no edge of the ring crosses another. The scan over pairs of edges ends at the first crossing; the edge after i is
 // left out by where the inner loop starts, the edge before the first, which ends where it starts, by its end.
 // Kept: nested loops over edge pairs, left by a label, are a form of the project.
+#[tactic(auto, using(crate::proofs::Pairs::too_few, crate::proofs::Pairs::none_before), unfolding(laws::specs::Bounded::any))]
 pub fn polygon_simple(ring: &[GridPoint]) -> bool
     requires { OnSheetPoints ring.now }
     ensures { result ≡ Simple.polygon_simple ring.now }
@@ -50,6 +51,7 @@ fn ray_meets(a: Point, b: Point, p: Point) -> bool
 }
 
 // Whether p is inside the ring: its ray meets an odd number of edges.
+#[tactic(auto, using(crate::proofs::Parity::turned, vector::proofs::Rings::at_place, vector::proofs::Rings::at_following), unfolding(laws::specs::Bounded::parity, crate::specs::Simple::meets_edge, crate::specs::Simple::point_in_polygon))]
 pub fn point_in_polygon(ring: &[GridPoint], p: Point) -> bool
     requires { OnSheetPoints ring.now }
     ensures { result ≡ Simple.point_in_polygon ring.now p }

@@ -1,14 +1,17 @@
 -- What is drawn of one block of a job. Definitions only.
-use Rattle.std.specs.Prelude.{ℕ, ◌*◌, cond, List, [], take, eqb, ℤ, Float}
+use Rattle.std.specs.Prelude.{ℕ, ◌*◌, cond, List, [], take, eqb, ℤ, Float, Result, Ok, Err}
 use Rattle.blocks.specs.declared.Block.{Block}
-use Rattle.blocks.specs.declared.Block.TheVariants.{Ring, Chain, Refused}
-use Rattle.blocks.specs.Blocks.{read_block}
+use Rattle.blocks.specs.declared.Block.TheVariants.{Ring, Chain}
+use Rattle.blocks.specs.declared.Reading.{Reading}
+use Rattle.blocks.specs.declared.Refused.{Refused}
+use Rattle.blocks.specs.Blocks.{number_of, read_block}
 use Rattle.table.specs.declared.Row.{Row}
 use Rattle.told.specs.declared.Told.{Told}
-use Rattle.told.specs.declared.Told.TheVariants as Told
 use Rattle.job.specs.Run.{block_at}
+use Rattle.scene.specs.declared.points.Points.{Points}
+use Rattle.scene.specs.declared.Lists.{Lists}
 use Rattle.scene.specs.Scene.{ring_text, lead_text}
-use Rattle.frame.specs.declared.Frame.{Frame}
+use Rattle.frame.specs.declared.Edges.{Edges}
 use Rattle.frame.specs.Head.{ended_text}
 
 -- no block's drawing is longer
@@ -20,16 +23,26 @@ abbrev pub cells_of : Row → List ℕ → List ℕ
 cells_of v cs = take (cond (eqb v.code 0) (v.cells * 4) 0) cs
 
 -- what is drawn of what a step tells: nothing of a ring that waits, the ring itself, or the line of a refused block
-unfoldable pub drawn : Frame → Told → ℕ → List ℤ → List Float → List ℕ → List ℕ → List ℕ
+unfoldable pub drawn : Edges → Told → ℕ → List ℤ → List Float → List ℕ → List ℕ → List ℕ
 drawn f Told.Nothing count ps l rs cs = []
 drawn f (Told.Ring n used v) count ps l rs cs = ring_text n v ps count l rs (cells_of v cs)
-drawn f (Told.Block n code) count ps l rs cs = ended_text f n code
+drawn f (Told.Block r) count ps l rs cs = ended_text f r.block (number_of r.why)
 
--- the lead line of a block with the points ps, where it is a chain; and of block i of a job
+-- the same of points and lists as they are handed over, and a ring with the cells of its row
+abbrev pub told_drawn : Edges → Told → Points → Lists → List ℕ
+told_drawn f t p a = drawn f t p.count p.list.now a.nodes.now a.rims.now a.cells.now
+
+abbrev pub row_drawn : ℕ → Row → Points → Lists → List ℕ
+row_drawn n v p a = ring_text n v p.list.now p.count a.nodes.now a.rims.now (cells_of v a.cells.now)
+
+-- the lead line of a block with the points ps, where it is a chain; of what was read of a block, and of block i of a job
 unfoldable pub lead_of : List ℤ → Block → List ℕ
 lead_of ps (Ring count size) = []
 lead_of ps (Chain count) = lead_text ps count
-lead_of ps (Refused code n) = []
+
+unfoldable pub lead_in : Result Reading Refused → List ℕ
+lead_in (Ok r) = lead_of r.points r.block
+lead_in (Err e) = []
 
 unfoldable pub lead_at : List ℕ → ℕ → List ℕ
-lead_at l i = let r = read_block (block_at l i) i in lead_of r.points r.block
+lead_at l i = lead_in (read_block (block_at l i) i)

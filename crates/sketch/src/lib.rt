@@ -4,98 +4,84 @@
 #![tactic(auto)]
 
 ghost use Rattle.std.specs.Prelude.{◌≡◌, ◌++◌, ◌+◌, ◌*◌, ◌≤◌, ◌<◌, length};
-ghost use Rattle.text.specs.Text.{Written};
+ghost use Rattle.text.specs.Page.{Room, Wrote};
 ghost use Rattle.told.specs.Text.{CanTell};
-ghost use Rattle.scene.specs.Scene.{ring_text, most_ring};
-ghost use Rattle.sketch.specs.Drawn.{cells_of, drawn, lead_at, most_step};
+ghost use Rattle.sketch.specs.Drawn.{row_drawn, told_drawn, lead_at, most_step};
 
 use blocks::Block;
-use frame::Frame;
-use nodes::NodeNumber;
+use frame::Edges;
+use scene::{Lists, Points};
 use table::Row;
+use text::Page;
 use told::Told;
 
 // No block's drawing is longer: a ring's text and its lead line.
 pub const MOST_STEP: usize = 84000;
 
-// A ring with the cells of its row.
-fn put_row(
-    out: &mut [u8],
-    ring: u64,
-    v: Row,
-    points: &[i32],
-    count: usize,
-    nodes: &[f64],
-    rims: &[u8],
-    cells: &[NodeNumber],
-) -> usize
-    requires { ((v.code ≡ 0 → v.cells * 4 ≤ length cells.now)) × (length cells.now ≤ 496) × (count ≤ 60) × (most_ring ≤ length out.old) }
-    ensures { Written out.old 0
-        (ring_text ring v points.now count nodes.now rims.now (cells_of v cells.now)) result out.new }
+// A ring with the cells of its row: none of a refused one.
+fn put_row(page: &mut Page, ring: u64, v: Row, points: &Points, lists: &Lists)
+    requires { (v.code ≡ 0 → v.cells * 4 ≤ length lists.now.cells.now) × (length lists.now.cells.now ≤ 496)
+        × Room page.old (row_drawn ring v points.now lists.now) }
+    ensures { Wrote page.old (row_drawn ring v points.now lists.now) page.new }
 {
-    if v.code == 0 {
-        let end = v.cells as usize * 4;
-        return scene::put_ring(out, ring, v, points, count, nodes, rims, &cells[..end]);
-    }
-    scene::put_ring(out, ring, v, points, count, nodes, rims, &cells[..0])
+    let end = if v.code == 0 { v.cells as usize * 4 } else { 0 };
+    let lists = Lists {
+        cells: &lists.cells[..end],
+        ..*lists
+    };
+    scene::put_ring(page, ring, v, points, &lists);
 }
 
 // What is drawn of what a step tells.
-fn put_told(
-    out: &mut [u8],
-    f: Frame,
-    told: Told,
-    points: &[i32],
-    count: usize,
-    nodes: &[f64],
-    rims: &[u8],
-    cells: &[NodeNumber],
-) -> usize
-    requires { CanTell told cells.now × (count ≤ 60) × (most_ring ≤ length out.old) }
-    ensures { Written out.old 0
-        (drawn f told count points.now nodes.now rims.now cells.now) result out.new }
+#[tactic(auto, using(text::proofs::Pages::wrote_none), unfolding(crate::specs::Drawn::drawn))]
+fn put_told(page: &mut Page, f: Edges, told: Told, points: &Points, lists: &Lists)
+    requires { CanTell told lists.now.cells.now × Room page.old (told_drawn f told points.now lists.now) }
+    ensures { Wrote page.old (told_drawn f told points.now lists.now) page.new }
 {
     match told {
-        Told::Nothing => 0,
-        Told::Ring { ring, used, row } => put_row(
-            out, ring, row, points, count, nodes, rims, cells,
+        Told::Nothing => {}
+        Told::Ring { ring, row, .. } => put_row(page, ring, row, points, lists),
+        Told::Block(refused) => f.put_ended(
+            page,
+            u64::from(refused.block),
+            u64::from(refused.why.number()),
         ),
-        Told::Block { number, code } => frame::put_ended(out, f, number as u64, code as u64),
     }
 }
 
 // The lead line of block i, where it is a chain.
-fn put_lead(out: &mut [u8], at: usize, job: &[u8], i: usize) -> usize
-    requires { (512 * i ≤ length job.now) × (i < 4294967296) × (at + length (lead_at job.now i) ≤ length out.old) }
-    ensures { Written out.old at (lead_at job.now i) result out.new }
+#[tactic(auto, using(text::proofs::Pages::wrote_none), unfolding(crate::specs::Drawn::lead_at, crate::specs::Drawn::lead_in, crate::specs::Drawn::lead_of))]
+fn put_lead(page: &mut Page, job: &[u8], i: usize)
+    requires { (512 * i ≤ length job.now) × (i < 4294967296) × Room page.old (lead_at job.now i) }
+    ensures { Wrote page.old (lead_at job.now i) page.new }
 {
-    let reading = blocks::read_block(frame::block_at(job, i), i as u32);
-    let block = reading.block;
-    match block {
-        Block::Ring { count, size } => at,
-        Block::Chain { count } => scene::put_lead(out, at, &reading.points, count),
-        Block::Refused { code, block } => at,
+    let Ok(reading) = blocks::read_block(frame::block_at(job, i), i as u32) else {
+        return;
+    };
+    if let Block::Chain { count } = reading.block {
+        let chain = Points {
+            list: &reading.points,
+            count,
+        };
+        scene::put_lead(page, &chain);
     }
 }
 
 // What is drawn of a step, that of block i.
 pub fn put_step(
-    out: &mut [u8],
-    f: Frame,
+    page: &mut Page,
+    f: Edges,
     told: Told,
-    points: &[i32],
-    count: usize,
-    nodes: &[f64],
-    rims: &[u8],
-    cells: &[NodeNumber],
+    points: &Points,
+    lists: &Lists,
     job: &[u8],
     i: usize,
-) -> usize
-    requires { CanTell told cells.now × (count ≤ 60) × (512 * i ≤ length job.now) × (i < 4294967296) × (most_step ≤ length out.old) }
-    ensures { Written out.old 0
-        (drawn f told count points.now nodes.now rims.now cells.now ++ lead_at job.now i) result
-        out.new × (result ≤ most_step) }
+)
+    requires { CanTell told lists.now.cells.now × (512 * i ≤ length job.now) × (i < 4294967296)
+        × (page.old.at + most_step ≤ length page.old.out.now) }
+    ensures { Wrote page.old (told_drawn f told points.now lists.now ++ lead_at job.now i) page.new
+        × (page.new.at ≤ page.old.at + most_step) }
 {
-    let n = put_told(out, f, told, points, count, nodes, rims, cells);
-    put_lead(out, n, job, i)
+    put_told(page, f, told, points, lists);
+    put_lead(page, job, i);
 }

@@ -13,7 +13,7 @@ use lib.Dec.{T, ltb, eqb}
 use lib.Ieee.Fits.{and_l, and_r}
 use lib.Count.{ones, ones-ones}
 use lib.IntN.{ℤ}
-use borrow.Author.Tests.{ltb-false, lt-ltb, le-ltb, eq-eqb, ne_eqb, eqb-true}
+use borrow.Author.Tests.{ltb-false, le-ltb, ne_eqb, eqb-true}
 use Rattle.laws.proofs.Table.{length_tab}
 use Rattle.laws.proofs.Booleans.{is_true, neither}
 use Rattle.limits.specs.declared.Limits.{Limits}
@@ -30,34 +30,45 @@ use Rattle.choice.specs.Search.{IsLeast}
 use Rattle.choice.proofs.Searching.{is-least, ends}
 use Rattle.choice.proofs.Digits.{chosen-length, chosen-all}
 use Rattle.least.specs.Trial.{trial_of, choice_of}
-use Rattle.smallest.specs.Smallest.{refused, found, smallest_of, smallest_refused, Shown}
+use Rattle.std.specs.Prelude.{Result, Ok, Err}
+use Rattle.smallest.specs.declared.Smallest.{Smallest}
+use Rattle.smallest.specs.declared.Refusal.{Refusal as Why}
+use Rattle.smallest.specs.declared.Refusal.TheVariants.{Counts, Units, Points, Other}
+use Rattle.smallest.specs.Smallest.{number_of_refusal, tested, refused, found, smallest_of, smallest_refused, Shown}
+
+-- the tests in order, as the code has them: `cond` by `cond` the row of what they answer
+abbrev early : Bool → Bool → Bool → Bool → Result (Unit {0}) Why
+early a b c d = cond a (Err Counts) (cond b (Err Units) (cond c (Err Points) (cond d (Err Other) (Ok tt))))
+
+early-row : (a b c d : Bool) (e : Why) (s : Smallest) → Err e ≡ early a b c d
+    → refused (number_of_refusal e) ≡ cond a (refused 1) (cond b (refused 2) (cond c (refused 18) (cond d (refused 19) s)))
+early-row true b c d e s h = let q : e ≡ Counts = cc in ap (λ (e : Why). refused (number_of_refusal e)) q
+early-row false true c d e s h = let q : e ≡ Units = cc in ap (λ (e : Why). refused (number_of_refusal e)) q
+early-row false false true d e s h = let q : e ≡ Points = cc in ap (λ (e : Why). refused (number_of_refusal e)) q
+early-row false false false true e s h = let q : e ≡ Other = cc in ap (λ (e : Why). refused (number_of_refusal e)) q
+early-row false false false false e s h = cc
+
+pub tested-passes : (w n : ℕ) (u : Unit {0}) → Ok u ≡ tested w n → (n ≤ 12) × (5 ≤ w) × (w ≤ 8)
+unfolding tested
+tested-passes w n u = go (eqb w 1) (eqb w 2) (ltb 12 n) (ltb w 5) (ltb 8 w) refl refl refl
+  where
+    go : (a b c d f : Bool) → ltb 12 n ≡ c → ltb w 5 ≡ d → ltb 8 w ≡ f → Ok u ≡ early a b c (d || f) → (n ≤ 12) × (5 ≤ w) × (w ≤ 8)
+    go true b c d f p q r h = cc
+    go false true c d f p q r h = cc
+    go false false true d f p q r h = cc
+    go false false false true f p q r h = cc
+    go false false false false true p q r h = cc
+    go false false false false false p q r h = (ltb-false 12 n p, ltb-false w 5 q, ltb-false 8 w r)
 
 module _ (ring chain : List ℤ) (size w : ℕ) where
-  pub one : w ≡ 1 → refused 1 ≡ smallest_of ring chain size w
+  pub tested-fails : (e : Why) → Err e ≡ tested w (points ring) → refused (number_of_refusal e) ≡ smallest_of ring chain size w
+  unfolding tested smallest_of
+  tested-fails e h = early-row (eqb w 1) (eqb w 2) (ltb 12 (points ring)) (ltb w 5 || ltb 8 w) e _ h
+
+  pub among : points ring ≤ 12 → 5 ≤ w → w ≤ 8 → found w (choice_of ring chain size (points ring) w) ≡ smallest_of ring chain size w
   unfolding smallest_of
-  one e = rw (eq-eqb w 1 e)
-
-  pub two : (w ≡ 1 → ⊥) → w ≡ 2 → refused 2 ≡ smallest_of ring chain size w
-  unfolding smallest_of
-  two a e = rw (ne_eqb w 1 a, eq-eqb w 2 e)
-
-  module _ (a : w ≡ 1 → ⊥) (b : w ≡ 2 → ⊥) where
-    pub many : 12 < points ring → refused 18 ≡ smallest_of ring chain size w
-    unfolding smallest_of
-    many e = rw (ne_eqb w 1 a, ne_eqb w 2 b, lt-ltb 12 (points ring) e)
-
-    module _ (h : points ring ≤ 12) where
-      pub below : w < 5 → refused 19 ≡ smallest_of ring chain size w
-      unfolding smallest_of
-      below e = rw (ne_eqb w 1 a, ne_eqb w 2 b, le-ltb 12 (points ring) h, lt-ltb w 5 e)
-
-      pub above : 5 ≤ w → 8 < w → refused 19 ≡ smallest_of ring chain size w
-      unfolding smallest_of
-      above d e = rw (ne_eqb w 1 a, ne_eqb w 2 b, le-ltb 12 (points ring) h, le-ltb w 5 d, lt-ltb 8 w e)
-
-      pub among : 5 ≤ w → w ≤ 8 → found w (choice_of ring chain size (points ring) w) ≡ smallest_of ring chain size w
-      unfolding smallest_of
-      among d e = rw (ne_eqb w 1 a, ne_eqb w 2 b, le-ltb 12 (points ring) h, le-ltb w 5 d, le-ltb 8 w e)
+  among h d e =
+      rw (ne_eqb w 1 (λ q. omega (arith, q, d)), ne_eqb w 2 (λ q. omega (arith, q, d)), le-ltb 12 (points ring) h, le-ltb w 5 d, le-ltb 8 w e)
 
 -- ---- what holds of a ring that is given 0
 zero-only : (ring chain : List ℤ) (size w : ℕ) → (smallest_of ring chain size w).code ≡ 0 → (points ring ≤ 12) × (5 ≤ w) × (w ≤ 8)
@@ -130,6 +141,14 @@ even-ring L l h k =
     let o = neither (odd l.ring) (odd l.chain) p.0 in
     (eqb-true (length l.ring % 2) 0 (is_true e o.0), omega (arith, (passed L (call_of l) p.1).from, length_tab (point_in l.ring) (points l.ring)))
 
+-- a ring that is given one of the four has a choice that gets it
+pub has-least : (ring chain : List ℤ) (size w : ℕ) → w ≡ number_of ring chain size → points ring ≤ 12 → 5 ≤ w → w ≤ 8
+    → choice_of ring chain size (points ring) w < 2 ^ points ring
+unfolding number_of
+has-least ring chain size w e few h k =
+    let s = even-ring delivered (trial_lent ring chain size) (omega (arith, e, h)) (omega (arith, e, k)) in
+    (least-choice ring chain size few s.0 s.1 w (sym e)).low
+
 -- ---- Card 13
 module _ (ring chain : List ℤ) (size : ℕ) (given : (smallest_refused ring chain size).code ≡ 0) where
   w : ℕ
@@ -145,7 +164,7 @@ module _ (ring chain : List ℤ) (size : ℕ) (given : (smallest_refused ring ch
 
   is_found : smallest_refused ring chain size ≡ found w (choice_of ring chain size (points ring) w)
   unfolding smallest_refused w
-  is_found = sym (among ring chain size w (λ e. omega (arith, e, limits.1)) (λ e. omega (arith, e, limits.1)) limits.0 limits.1 limits.2)
+  is_found = sym (among ring chain size w limits.0 limits.1 limits.2)
 
   choice : ℕ
   choice = choice_of ring chain size (points ring) w

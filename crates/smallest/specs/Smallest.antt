@@ -1,7 +1,10 @@
 -- 02, Card 13: what the entry returns for every ring, chain and sheet size, and what holds of it.
-use Rattle.std.specs.Prelude.{ℕ, ◌*◌, ◌^◌, ◌≤◌, ◌<◌, ◌≡◌, ◌||◌, cond, List, length, ltb, eqb, ℤ}
+use Rattle.std.specs.Prelude.{ℕ, ◌*◌, ◌^◌, ◌≤◌, ◌<◌, ◌≡◌, ◌||◌, cond, List, length, ltb, eqb, ℤ, Result, Ok, Err}
 use Rattle.std.specs.Int.Count.{ones}
 use Rattle.smallest.specs.declared.Smallest.{Smallest}
+use Rattle.smallest.specs.declared.Found.{Found}
+use Rattle.smallest.specs.declared.Refusal.{Refusal}
+use Rattle.smallest.specs.declared.Refusal.TheVariants.{Counts, Units, Points, Other}
 use Rattle.lone_ring.specs.Number.{points, number_of}
 use Rattle.choice.specs.Choice.{chosen}
 use Rattle.choice.specs.Search.{IsLeast}
@@ -12,6 +15,25 @@ refused n = record { code = n; refusal = 0; choice = 0; points = 0 }
 
 abbrev pub found : ℕ → ℕ → Smallest
 found w c = record { code = 0; refusal = w; choice = c; points = ones c }
+
+-- the number of each refusal, and the row of an answer
+abbrev pub number_of_refusal : Refusal → ℕ
+number_of_refusal Counts = 1
+number_of_refusal Units = 2
+number_of_refusal Points = 18
+number_of_refusal Other = 19
+
+abbrev pub row_of : Result Found Refusal → Smallest
+row_of (Ok f) = found f.refusal f.choice
+row_of (Err e) = refused (number_of_refusal e)
+
+-- the tests of a ring of n points with the own number w, in order
+unfoldable pub tested : ℕ → ℕ → Result (Unit {0}) Refusal
+tested w n =
+    cond (eqb w 1) (Err Counts)
+    (cond (eqb w 2) (Err Units)
+    (cond (ltb 12 n) (Err Points)
+    (cond (ltb w 5 || ltb 8 w) (Err Other) (Ok tt))))
 
 -- w the number of the ring's own run on an empty list, whose 1 and 2 come first; "18 if the ring has over 12 points, after 2; 19 if its own run on an empty
 -- list gives none of these four, after 18". A ring of over 12 points that has its 1 and 2 behind it gets 4 there

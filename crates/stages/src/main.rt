@@ -7,12 +7,12 @@
 
 mod text;
 
-ghost use Rattle.std.specs.Prelude.{◌≡◌, ◌/◌, ◌≤◌, ◌<◌, length, IfSome};
+ghost use Rattle.std.specs.Prelude.{◌≡◌, ◌/◌, ◌≤◌, ◌<◌, length, IfOk};
 ghost use Rattle.blocks.specs.Blocks as Blocks;
 ghost use Rattle.vector.specs.Rings.{most_points, OnSheetRing};
 ghost use Rattle.parts.specs.Layout.{ValidParts};
 
-use blocks::Block;
+use blocks::{Block, Refused};
 use chain::Simplified;
 use limits::Limits;
 use marks::MarkedRing;
@@ -38,26 +38,25 @@ fn ring_of(points: &[i32]) -> Ring
     lent_points::points(points, points.len() / 2)
 }
 
-// How many points a block has, and its sheet size; none of a refused one.
-fn head_of(block: Block) -> Option<(usize, u32)>
-    ensures { IfSome result (λ head. head.0 ≡ Blocks.points block) }
+// How many points a block has, and its sheet size.
+fn head_of(block: Block) -> (usize, u32)
+    ensures { result.0 ≡ Blocks.points block }
 {
     match block {
-        Block::Ring { count, size } => Some((count, size)),
-        Block::Chain { count } => Some((count, 0)),
-        Block::Refused { .. } => None,
+        Block::Ring { count, size } => (count, size),
+        Block::Chain { count } => (count, 0),
     }
 }
 
 // Reads block `number`.
-fn read<R: Read>(input: &mut R, number: u32) -> Option<Came>
-    ensures { IfSome result (λ came. OnSheetRing came.ring) }
+fn read<R: Read>(input: &mut R, number: u32) -> Result<Came, Refused>
+    ensures { IfOk result (λ came. OnSheetRing came.ring) }
 {
     let mut bytes = [0u8; 512];
     let n = stream::read_full(input, &mut bytes);
-    let reading = blocks::read_block(&bytes[..n], number);
-    let (count, size) = head_of(reading.block)?;
-    Some(Came {
+    let reading = blocks::read_block(&bytes[..n], number)?;
+    let (count, size) = head_of(reading.block);
+    Ok(Came {
         ring: ring_of(&reading.points[..count * 2]),
         size,
     })
@@ -96,6 +95,7 @@ fn print_piece<W: Write>(output: &mut W, piece: &MarkedRing)
 fn print_pieces<W: Write>(output: &mut W, ring: &MarkedRing, pieces: &PartList)
     requires { ValidParts pieces.now × OnSheetRing ring.now.ring }
 {
+    // Kept: this goes over the numbers of pieces, whose points and marks are laid out by number, and over no list.
     for i in 0..pieces.count {
         let piece = MarkedRing {
             ring: parts::piece_points(&ring.ring.points, pieces, i),
@@ -151,21 +151,22 @@ fn print_ring<W: Write>(output: &mut W, ring: &Ring, size: u32, run: &Ring, numb
     }
 }
 
-// One ring with its chain, if there is one.
-fn pair<R: Read, W: Write>(input: &mut R, output: &mut W, number: u32) -> Option<()>
+// One ring with its chain.
+fn pair<R: Read, W: Write>(input: &mut R, output: &mut W, number: u32) -> Result<(), Refused>
     requires { number < 32768 }
 {
     let head = read(input, number * 2)?;
     let tail = read(input, number * 2 + 1)?;
     print_ring(output, &head.ring, head.size, &tail.ring, number);
-    Some(())
+    Ok(())
 }
 
 fn main(rt: HostRuntime) {
     let mut input = rt.stdin();
     let mut output = rt.stdout();
+    // Kept: this goes over the numbers of rings, as many as two bytes tell apart, and over no list.
     for number in 0u32..32768 {
-        if pair(&mut input, &mut output, number).is_none() {
+        if pair(&mut input, &mut output, number).is_err() {
             return;
         }
     }

@@ -1,14 +1,17 @@
-// State: what a run keeps from one block to the next, and the tests of whether it goes on. It stands below job, whose
-// definitions go by it, and has nothing of the divider.
+// State: what a run keeps from one block to the next, and the tests of whether it goes on. It stands above blocks and below
+// job, whose definitions go by it, and has nothing of the divider.
 
 #![tactic(auto)]
 
 ghost use Rattle.std.specs.Prelude.{◌≡◌, false, true, not, ◌&&◌, ◌%◌, length, eqb};
 
+use blocks::Kind;
+
 // The state between two blocks: the number of the next one; the count and the sheet size of the ring that waits for its chain,
 // where that number is odd; the nodes listed; and whether the run has ended. The ring's points stand beside it in a list that
 // the caller lends, 60 places, x and y in turn.
-#[derive(Clone, Copy)]
+// Kept: ended is a flag, since the end changes none of the values beside it, and they are read after it too.
+#[derive(Clone, Copy, Default)]
 pub struct State {
     pub block: u32,
     pub count: usize,
@@ -22,13 +25,7 @@ impl State {
     pub fn new() -> State
         ensures { result ≡ record { block = 0; count = 0; size = 0; used = 0; ended = false } }
     {
-        State {
-            block: 0,
-            count: 0,
-            size: 0,
-            used: 0,
-            ended: false,
-        }
+        State::default()
     }
 
     // The same, with the run at its end.
@@ -53,5 +50,8 @@ pub fn goes_on(s: State) -> bool
 pub fn at_end(block: u32, bytes: &[u8]) -> bool
     ensures { result ≡ (eqb (block % 2) 0 && eqb (length bytes.now) 0) }
 {
-    block % 2 == 0 && bytes.is_empty()
+    match Kind::of(block) {
+        Kind::Ring => bytes.is_empty(),
+        Kind::Chain => false,
+    }
 }

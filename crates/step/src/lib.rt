@@ -6,63 +6,38 @@
 
 #![tactic(auto)]
 
-ghost use Rattle.std.specs.Prelude.{◌≡◌, List, ℕ, ◌%◌, length, ℤ, Float};
-ghost use Rattle.job.specs.Step.{no_cells, taken, step_of, Steps, CanStep};
+ghost use Rattle.std.specs.Prelude.{◌≡◌, List, ℕ, ◌≤◌, ◌<◌, length, ℤ, Float};
+ghost use Rattle.blocks.specs.Blocks.{points};
+ghost use Rattle.job.specs.Step.{no_cells, ends, waits, taken, step_of, Steps, CanStep};
 ghost use Rattle.job.specs.Run.{Bytes};
-ghost use Rattle.step.specs.Answered.{Refusal, Answered};
+ghost use Rattle.told.specs.Text.{CanShow};
 
-use blocks::Block;
+use blocks::{Block, Reading};
 use job::Stepped;
 use nodes::NodeNumber;
 use state::State;
 use told::Told;
 
-// Empties the cell list.
-fn clear(cells: &mut [NodeNumber])
-    requires { length cells.old ≡ 496 }
-    ensures { cells.new ≡ no_cells }
+// The run ends, and this is the last that it tells: a refused block, or nothing.
+#[tactic(auto, unfolding(job::specs::Step::ends))]
+fn end(s: State, told: Told) -> Stepped
+    requires { CanShow told no_cells }
+    ensures { (ps : List ℤ) (l : List Float) (rs : List ℕ) → Steps (ends s ps l rs told) result ps l rs no_cells }
 {
-    cells.fill(0);
-}
-
-// A refused block, which is the last.
-fn refuse(s: State, block: Block) -> Stepped
-    requires { Refusal block }
-    ensures { (ps qs : List ℤ) (l : List Float) (rs : List ℕ) → Steps (taken s ps l rs qs block) result ps l rs no_cells }
-{
-    let Block::Refused { code, block } = block else {
-        return Stepped {
-            state: s,
-            told: Told::Nothing,
-        };
-    };
     Stepped {
         state: s.closed(),
-        told: Told::Block {
-            number: block,
-            code,
-        },
+        told,
     }
 }
 
-// Puts a ring's points in the places that are kept for it.
-fn keep(ring: &mut [i32], points: &[i32])
-    requires { (length ring.old ≡ 120) × (length points.now ≡ 120) }
-    ensures { ring.new ≡ points.now }
-{
-    ring.copy_from_slice(points);
-}
-
 // A ring block: its ring waits for its chain.
-fn ring_block(s: State, head: Block, points: &[i32], ring: &mut [i32]) -> Stepped
-    requires { CanStep s ring.old × Answered s.block head points.now × (s.block % 2 ≡ 0) }
-    ensures { (l : List Float) (rs : List ℕ) → Steps (taken s ring.old l rs points.now head) result
+#[tactic(auto, unfolding(job::specs::Step::waits))]
+fn wait(s: State, count: usize, size: u32, points: &[i32], ring: &mut [i32]) -> Stepped
+    requires { (length ring.old ≡ 120) × (length points.now ≡ 120) × (s.block < 65536) }
+    ensures { (l : List Float) (rs : List ℕ) → Steps (waits s l rs count size points.now) result
         ring.new l rs no_cells }
 {
-    let Block::Ring { count, size } = head else {
-        return refuse(s, head);
-    };
-    keep(ring, points);
+    ring.copy_from_slice(points);
     let state = State {
         block: s.block + 1,
         count,
@@ -76,28 +51,38 @@ fn ring_block(s: State, head: Block, points: &[i32], ring: &mut [i32]) -> Steppe
     }
 }
 
-// A chain block: the ring that waits is divided.
-fn chain_block(
+// A block that was read: a ring waits, or with a chain the ring that waits is divided.
+#[tactic(auto, unfolding(job::specs::Step::taken))]
+fn take(
     s: State,
-    tail: Block,
-    points: &[i32],
-    ring: &[i32],
+    reading: &Reading,
+    ring: &mut [i32],
     nodes: &mut [f64],
     rims: &mut [u8],
     cells: &mut [NodeNumber],
 ) -> Stepped
-    requires { CanStep s ring.now × (cells.old ≡ no_cells) × Answered s.block tail points.now × (s.block % 2 ≡ 1) }
-    ensures { Steps (taken s ring.now nodes.old rims.old points.now tail) result ring.now
-        nodes.new rims.new cells.new }
+    requires { CanStep s ring.old × (cells.old ≡ no_cells) × (s.block < 65536) × (points reading.now.block ≤ 60)
+        × (length reading.now.points ≡ 120) }
+    ensures { Steps (taken s ring.old nodes.old rims.old reading.now.points reading.now.block) result
+        ring.new nodes.new rims.new cells.new }
 {
-    let Block::Chain { count } = tail else {
-        return refuse(s, tail);
-    };
-    job::divide_ring(s, ring, points, count, nodes, rims, cells)
+    match reading.block {
+        Block::Ring { count, size } => wait(s, count, size, &reading.points, ring),
+        Block::Chain { count } => job::divide_ring(
+            s,
+            ring,
+            &reading.points,
+            count,
+            nodes,
+            rims,
+            cells,
+        ),
+    }
 }
 
 // One step: the bytes of the next block, or what is left of the input, or none where it has ended. The cell list is left with
 // the cells of the ring that was divided, or empty. That the bytes are bytes is for the caller's proof.
+#[tactic(auto, unfolding(job::specs::Step::step_of, job::specs::Step::answered))]
 pub fn step(
     s: State,
     bytes: &[u8],
@@ -110,17 +95,12 @@ pub fn step(
     ensures { Steps (step_of s ring.old nodes.old rims.old bytes.now) result ring.new
         nodes.new rims.new cells.new × Bytes bytes.now }
 {
-    clear(cells);
+    cells.fill(0);
     if state::at_end(s.block, bytes) {
-        return Stepped {
-            state: s.closed(),
-            told: Told::Nothing,
-        };
+        return end(s, Told::Nothing);
     }
-    let reading = blocks::read_block(bytes, s.block);
-    let block = reading.block;
-    if s.block % 2 == 0 {
-        return ring_block(s, block, &reading.points, ring);
+    match blocks::read_block(bytes, s.block) {
+        Ok(reading) => take(s, &reading, ring, nodes, rims, cells),
+        Err(refused) => end(s, Told::Block(refused)),
     }
-    chain_block(s, block, &reading.points, ring, nodes, rims, cells)
 }

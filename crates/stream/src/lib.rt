@@ -32,6 +32,7 @@ pub fn fill<R: Read>(input: &mut R, bytes: &mut [u8]) -> Result<usize, ReadFaile
     ensures part { IfErr result (λ failed. failed.done < length bytes.new) }
 {
     let mut done: usize = 0;
+    // Kept: `read_exact` does not say how much was read of a list that is not filled.
     while done < bytes.len() {
         let Ok(more) = input.read(&mut bytes[done..]) else {
             return Err(ReadFailed { done });
@@ -101,6 +102,7 @@ pub fn write_counted<W: Write>(
     ensures written { OnOk result (Appends (W.contents output.old) (W.contents output.new) text.now) }
 {
     let mut done: usize = 0;
+    // Kept: `write_all` does not say how much was written before it failed.
     while done < text.len() {
         done += write_some(output, &text[done..], sent)?;
     }

@@ -69,6 +69,7 @@ fn reversed(vs: &[Vertex]) -> [Vertex; MOST_POINTS]
 }
 
 // The part of m corners that end with the diagonal, turned round if their area is negative.
+// Kept: the corners go in by value, since they are moved into the part that is returned.
 fn make_sub_polygon(
     ring: &[GridPoint; MOST_POINTS],
     vs: [Vertex; MOST_POINTS],

@@ -39,7 +39,10 @@ fn any_in(nodes: &[f64], at: usize, s: Span) -> bool
     )
 }
 
-// The nodes from place `from` on that are in the window go after the n collected before. Kept: by place, which is their number.
+// The nodes from place `from` on that are in the window go after the n collected before.
+// Kept: by place, which is the number that is listed: over pairs from `from` on it would be counted up from there. And the
+// window and the two lists side by side: in a struct that borrows the lists each contract would name all three through it,
+// before and after, and say besides that the window stays.
 fn collect_in(
     nodes: &[f64],
     from: usize,

@@ -14,9 +14,10 @@ use borrow.Author.Tests.{eq-eqb, ne_eqb}
 use Rattle.laws.proofs.Booleans.{or_r}
 use Rattle.vector.specs.declared.GridPoint.{GridPoint}
 use Rattle.vector.specs.Grid.{origin, at}
+use Rattle.std.proofs.lemmas.List.{get_or-map}
 use Rattle.clean.specs.Clean.{clean_polygon}
 use Rattle.clean.specs.Places.{pick, kept_places, Rising}
-use Rattle.clean.proofs.Places.{map_get_d, pick-length, kept_image, kept-rising}
+use Rattle.clean.proofs.Places.{pick-length, kept_image, kept-rising}
 use Rattle.survivors.specs.Survivors.{is_in, survives, surviving}
 
 pub surviving-many : {A : Type 0} (straight : A) (n : ℕ) (ks : List ℕ) (ms : List A) → length (surviving straight n ks ms) ≡ length ks
@@ -26,7 +27,7 @@ surviving-many straight n ks ms = length-map ks _
 pub surviving-at : {A : Type 0} (straight : A) (n : ℕ) (ks : List ℕ) (ms : List A) (j : ℕ) → j < length ks
     → get_or (surviving straight n ks ms) j straight ≡ cond (survives n ks (get_or ks j 0)) (get_or ms (get_or ks j 0) straight) straight
 unfolding surviving
-surviving-at straight n ks ms j h = map_get_d _ ks j 0 straight h
+surviving-at straight n ks ms j h = get_or-map _ ks j 0 straight h
 
 -- ---- the place of a number that is in a list
 record Found (i : ℕ) (ks : List ℕ) : Type 0 where
@@ -158,7 +159,7 @@ module _ (size : ℕ) (r : List GridPoint) (j : ℕ) (l : j < length (kept_place
   unfolding at
   picked i =
       ap (λ (n : ℕ). get_or (pick r ks) (i % n) origin) (pick-length r ks)
-      ∙ map_get_d (λ (k : ℕ). get_or r k origin) ks (i % length ks) 0 origin (mod-lt i (omega arith))
+      ∙ get_or-map (λ (k : ℕ). get_or r k origin) ks (i % length ks) 0 origin (mod-lt i (omega arith))
 
   pub surviving-edge : T (survives (length r) ks (get_or ks j 0))
       → (at (clean_polygon size r) j ≡ at r (get_or ks j 0)) × (at (clean_polygon size r) (suc j) ≡ at r (suc (get_or ks j 0)))

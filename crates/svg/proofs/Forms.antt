@@ -57,35 +57,19 @@ module _ (b n : ℕ) where
   unfolding part
   part-number h = rw (eq-eqb b 35 h)
 
-  pub takes-number : b ≡ 35 → 1 ≡ takes b
-  unfolding takes
-  takes-number h = rw (eq-eqb b 35 h)
-
   module _ (h : b ≡ 35 → ⊥) where
     pub part-exact : b ≡ 64 → part b n ≡ exact n
     unfolding part
     part-exact k = rw (ne_eqb b 35 h, eq-eqb b 64 k)
-
-    pub takes-exact : b ≡ 64 → 1 ≡ takes b
-    unfolding takes
-    takes-exact k = rw (ne_eqb b 35 h, eq-eqb b 64 k)
 
     module _ (k : b ≡ 64 → ⊥) where
       pub part-plain : b ≡ 126 → part b n ≡ plain n
       unfolding part
       part-plain d = rw (ne_eqb b 35 h, ne_eqb b 64 k, eq-eqb b 126 d)
 
-      pub takes-plain : b ≡ 126 → 1 ≡ takes b
-      unfolding takes
-      takes-plain d = rw (ne_eqb b 35 h, ne_eqb b 64 k, eq-eqb b 126 d)
-
       pub part-byte : (b ≡ 126 → ⊥) → part b n ≡ b ∷ []
       unfolding part
       part-byte d = rw (ne_eqb b 35 h, ne_eqb b 64 k, ne_eqb b 126 d)
-
-      pub takes_none : (b ≡ 126 → ⊥) → 0 ≡ takes b
-      unfolding takes
-      takes_none d = rw (ne_eqb b 35 h, ne_eqb b 64 k, ne_eqb b 126 d)
 
 -- ---- how long
 exact-most : (n : ℕ) → length (exact n) ≤ 26

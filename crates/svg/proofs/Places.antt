@@ -7,18 +7,16 @@ use mathlib.Core.List.{List}
 use native.Mathlib.Omega.{arith}
 use lib.Dec.{T, ltb}
 use lib.ListN.{length, get_or, get_or-eq_default}
-use lib.IntN.{ℤ, pos}
 use lib.Ieee.{Float, nan, inf, fin, up, down, le}
 use lib.Ieee.Fits.{down_pos}
-use borrow.Author.Tests.{lt-ltb, le-ltb, ltb-true}
+use borrow.Author.Tests.{le-ltb, ltb-true}
 use Rattle.nodes.proofs.Ranged.{held-is, held-within}
 use Rattle.laws.specs.Within.{Within}
 use Rattle.nodes.specs.Flat.{held}
-use Rattle.blocks.specs.Writing.{bits}
 use Rattle.decimals.specs.Rounded.{half_even, ten_thousandths, negative, minus}
 use Rattle.decimals.specs.Shown.{decimals, shown}
 use Rattle.decimals.proofs.Rounding.{half_le}
-use Rattle.svg.specs.Place.{origin, place_of, rounded, unit_place, point_place}
+use Rattle.svg.specs.Place.{origin, place_of, rounded}
 use Rattle.svg.specs.Form.{exact}
 use Rattle.svg.proofs.Forms.{exact_below, exact_above}
 
@@ -56,32 +54,12 @@ pub past-node : (l : List Float) (k : ℕ) → length l ≤ k → origin ≡ pla
 past-node l k h = no_place ∙ ap place_of (sym (get_or-eq_default l nan h))
 
 -- ---- so many units
-pub rounded-far : (m : ℕ) → 8388608 < m → 10240000 ≡ rounded m
-unfolding rounded
-rounded-far m h = rw (lt-ltb 8388608 m h)
-
 pub rounded-near : (m : ℕ) → m ≤ 8388608 → half_even (m * 625) 512 ≡ rounded m
 unfolding rounded
 rounded-near m h = rw (le-ltb 8388608 m h)
 
 pub few-rounded : (m : ℕ) → m ≤ 8388608 → half_even (m * 625) 512 ≤ 10240000
 few-rounded m h = half_le (m * 625) 512 10240000 (omega arith) (omega arith)
-
-pub unit-high : (n : ℕ) → n < 2147483648 → origin + rounded n ≡ unit_place n
-unfolding unit_place
-unit-high n h = rw (lt-ltb n 2147483648 h)
-
-pub unit-low : (n : ℕ) → 2147483648 ≤ n → origin - rounded (4294967296 - n) ≡ unit_place n
-unfolding unit_place
-unit-low n h = rw (le-ltb n 2147483648 h)
-
-unit-none : origin ≡ unit_place 0
-unfolding unit_place rounded half_even
-unit-none = refl
-
-pub past-point : (ps : List ℤ) (k : ℕ) → length ps ≤ k → origin ≡ point_place ps k
-unfolding point_place bits
-past-point ps k h = rw (get_or-eq_default ps (pos 0) h) unit-none
 
 -- ---- as on the sheet
 and_right : (a b : Bool) → (a && b) ≡ true → b ≡ true

@@ -6,9 +6,8 @@
 
 #![tactic(auto)]
 
-ghost use Rattle.std.specs.Prelude.{◌≡◌, ◌+◌, ◌≤◌, length, get_or};
+ghost use Rattle.std.specs.Prelude.{◌≡◌, ◌≤◌, get_or};
 ghost use Rattle.std.specs.Float.{nan};
-ghost use Rattle.text.specs.Text.{Written};
 ghost use Rattle.text.specs.Page.{Room, Wrote};
 ghost use Rattle.svg.specs.Place as Place;
 ghost use Rattle.svg.specs.Form as Form;
@@ -45,6 +44,7 @@ pub fn node_place(nodes: &[f64], k: usize) -> u64
 }
 
 // So many units in ten-thousandths of a mm, those of 1,024 mm at most.
+#[tactic(auto, unfolding(crate::specs::Place::rounded))]
 fn rounded(m: u64) -> u64
     ensures { (result ≡ Place.rounded m) × (result ≤ 10240001) }
 {
@@ -54,6 +54,7 @@ fn rounded(m: u64) -> u64
     decimals::half_even(m * 625, 9)
 }
 
+#[tactic(auto, unfolding(crate::specs::Place::unit_place))]
 fn unit_place(n: u32) -> u64
     ensures { (result ≡ Place.unit_place n) × (result ≤ 30240001) }
 {
@@ -64,6 +65,7 @@ fn unit_place(n: u32) -> u64
 }
 
 // The place of coordinate k of a ring's points, the origin where there is none.
+#[tactic(auto, unfolding(crate::specs::Place::point_place))]
 pub fn point_place(points: &[i32], k: usize) -> u64
     ensures { (result ≡ Place.point_place points.now k) × (result ≤ 30240001) }
 {
@@ -104,6 +106,7 @@ impl Marks for PlaceMarks {
 
     ghost takes = { Form.takes };
 
+    #[tactic(auto, unfolding(crate::specs::Form::takes))]
     fn taken(b: u8) -> usize {
         match b {
             b'#' | b'@' | b'~' => 1,
@@ -121,12 +124,10 @@ impl Marks for PlaceMarks {
     }
 }
 
-// The form with the numbers in place of its marks, in order, from the place `at` on; answers the place after it.
-pub fn put_form(out: &mut [u8], at: usize, form: &[u8], numbers: &[u64]) -> usize
-    requires { at + length (Form.formed form.now numbers.now) ≤ length out.old }
-    ensures { Written out.old at (Form.formed form.now numbers.now) result out.new }
+// The form with the numbers in place of its marks, in order.
+pub fn put_form(page: &mut Page, form: &[u8], numbers: &[u64])
+    requires { Room page.old (Form.formed form.now numbers.now) }
+    ensures { Wrote page.old (Form.formed form.now numbers.now) page.new }
 {
-    let mut page = Page { out, at };
     page.form::<PlaceMarks>(form, numbers);
-    page.at
 }

@@ -17,6 +17,8 @@ use stream::WriteFailed;
 use told::Told;
 
 // Writes the text that is owed after `sent` bytes, and answers how many were written in all.
+// Kept: a wrapper of write_counted as in sheet_lines and picture, since each asks that its own Owed holds; a generic one would
+// need a trait for that and a type to carry it.
 fn send<W: Write>(output: &mut W, text: &[u8], sent: &mut u64) -> Result<u64, WriteFailed>
     requires { Owed sent.old text.now × (length text.now ≤ most_text) }
     ensures all { IfOk result (λ n. n ≡ sent.new) }
@@ -45,6 +47,7 @@ fn write_told<W: Write>(
 
 // The same, and nothing where nothing was told. The text has its place in `write_told`, which is never merged into the loop,
 // so that none of it is on the stack while a ring is divided.
+#[tactic(auto, unfolding(told::specs::Text::told_text))]
 pub fn tell<W: Write>(
     output: &mut W,
     told: Told,
@@ -57,6 +60,6 @@ pub fn tell<W: Write>(
 {
     match told {
         Told::Nothing => Ok(*sent),
-        Told::Ring { .. } | Told::Block { .. } => write_told(output, told, cells, sent),
+        Told::Ring { .. } | Told::Block(_) => write_told(output, told, cells, sent),
     }
 }

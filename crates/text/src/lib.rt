@@ -40,6 +40,7 @@ fn digit(n: u64) -> u8
 }
 
 impl Page<'_> {
+    #[tactic(auto, using(crate::proofs::Writing::one_byte))]
     pub fn byte(&mut self, b: u8)
         requires { Room self.old (b ∷ []) }
         ensures { Wrote self.old (b ∷ []) self.new }
@@ -95,10 +96,12 @@ impl Marks for Decimals {
 
     ghost takes = { takes };
 
+    #[tactic(auto, unfolding(crate::specs::Text::takes))]
     fn taken(b: u8) -> usize {
         usize::from(b == b'#')
     }
 
+    #[tactic(auto, unfolding(crate::specs::Text::part))]
     fn put(page: &mut Page, b: u8, n: u64) {
         if b == b'#' {
             return page.decimal(n);

@@ -8,6 +8,8 @@ use lib.ListN.{length, take}
 use lib.Seq.{length-take-le, take_at}
 use borrow.Author.Tests.{eq-eqb, ne_eqb, le-ltb}
 use Rattle.table.specs.declared.Row.{Row}
+use Rattle.blocks.specs.declared.Refused.{Refused}
+use Rattle.blocks.specs.Blocks.{number_of}
 use Rattle.text.specs.Text.{put}
 use Rattle.report.specs.Report.{most_text, Printed, holds, few_cells, ring_text, refused_ring, refused_block}
 use Rattle.told.specs.declared.Told.{Told}
@@ -52,9 +54,9 @@ module _ (a : Told) (cells : List ℕ) where
   unfolding told_text
   tells-nothing e = rw e
 
-  pub tells-block : (n code : ℕ) → a ≡ Block n code → refused_block n code ≡ told_text a cells
+  pub tells-block : (r : Refused) → a ≡ Block r → refused_block r.block (number_of r.why) ≡ told_text a cells
   unfolding told_text
-  tells-block n code e = rw e
+  tells-block r e = rw e
 
   module _ (n used : ℕ) (v : Row) (e : a ≡ Ring n used v) where
     pub tells-ring : row_text n used v cells ≡ told_text a cells

@@ -1,6 +1,7 @@
 -- 01, Rings for trial, and Job blocks, program: what is printed of a row of the table, and of what a step tells. Definitions only.
 use Rattle.std.specs.Prelude.{ℕ, ◌-◌, ◌*◌, ◌≤◌, ◌≡◌, cond, List, [], length, take, eqb}
 use Rattle.table.specs.declared.Row.{Row}
+use Rattle.blocks.specs.Blocks.{number_of}
 use Rattle.report.specs.Report.{ring_text, refused_ring, refused_block}
 use Rattle.told.specs.declared.Told.{Told}
 use Rattle.told.specs.declared.Told.TheVariants.{Nothing, Ring, Block}
@@ -17,7 +18,7 @@ row_text n used v cells =
 unfoldable pub told_text : Told → List ℕ → List ℕ
 told_text Nothing cells = []
 told_text (Ring n used v) cells = row_text n used v cells
-told_text (Block n code) cells = refused_block n code
+told_text (Block r) cells = refused_block r.block (number_of r.why)
 
 -- what an accepted row has to satisfy to be printed: no fewer nodes than before, and the cells within the list
 pub record Shown (used : ℕ) (v : Row) (cells : List ℕ) : Type 0 where
@@ -28,7 +29,7 @@ pub record Shown (used : ℕ) (v : Row) (cells : List ℕ) : Type 0 where
 abbrev pub CanShow : Told → List ℕ → Type 0
 CanShow Nothing cells = Unit {0}
 CanShow (Ring n used v) cells = Shown used v cells
-CanShow (Block n code) cells = Unit {0}
+CanShow (Block r) cells = Unit {0}
 
 pub record CanTell (t : Told) (cells : List ℕ) : Type 0 where
   pub shown : CanShow t cells

@@ -1,5 +1,5 @@
-// Told: what a step of a run tells of its block, and the text of it. It stands above table and report, and below job, whose
-// steps tell; the text is made by run, once the step is over.
+// Told: what a step of a run tells of its block, and the text of it. It stands above table, blocks and report, and below job,
+// whose steps tell; the text is made by run, once the step is over.
 
 #![tactic(auto)]
 
@@ -7,6 +7,7 @@ ghost use Rattle.std.specs.Prelude.{true, ◌≤◌, length};
 ghost use Rattle.report.specs.Report.{Printed, most_text};
 ghost use Rattle.told.specs.Text.{row_text, Shown, told_text, CanTell};
 
+use blocks::Refused;
 use nodes::NodeNumber;
 use report::Divided;
 use table::Row;
@@ -17,7 +18,7 @@ use table::Row;
 pub enum Told {
     Nothing,
     Ring { ring: u64, used: usize, row: Row },
-    Block { number: u32, code: u32 },
+    Block(Refused),
 }
 
 // The lines of a ring's row.
@@ -28,6 +29,7 @@ fn print_row(text: &mut [u8], ring: u64, used: usize, v: Row, cells: &[NodeNumbe
     if v.code != 0 {
         return report::print_refused_ring(text, ring, v.code, v.corners, v.k);
     }
+    // Kept: no From, since ring and used come from beside the row, and neither type is this crate's.
     let row = Divided {
         ring,
         corners: v.corners,
@@ -49,10 +51,10 @@ pub fn print(told: Told, cells: &[NodeNumber], text: &mut [u8]) -> usize
     match told {
         Told::Nothing => 0,
         Told::Ring { ring, used, row } => print_row(text, ring, used, row, cells),
-        Told::Block { number, code } => report::print_refused_block(
+        Told::Block(refused) => report::print_refused_block(
             text,
-            u64::from(number),
-            u64::from(code),
+            u64::from(refused.block),
+            u64::from(refused.why.number()),
         ),
     }
 }

@@ -104,10 +104,10 @@ in_divider = tt
 -- the program: blocks, the call over lent lists, the printed lines, and the run
 unfoldable pub in_program : Unit {0}
 unfolding Table.tab Fields.pair Fields.word Fields.signed Fields.coordinate Fields.check_to Fields.any_used Blocks.head_wrong Blocks.size_wrong
-    Blocks.unused_wrong Blocks.refusal Blocks.refused_block Blocks.accepted_block Blocks.read_block NodesFlat.nodes_in QuadsFlat.over_cells Lent.divide_lent
+    Blocks.unused_wrong Blocks.tested Blocks.refused_block Blocks.accepted_block Blocks.read_block NodesFlat.nodes_in QuadsFlat.over_cells Lent.divide_lent
     Text.bytes Text.digits Text.decimal Text.marks Text.filled_to Text.filled_by Text.part Text.takes Report.hundredths Report.ring_line Report.nodes_line
     Report.quad_line Report.quad_lines Report.ring_text Report.refused_ring Report.refused_block Told.row_text Told.told_text Step.ends Step.waits Step.divides
-    Step.taken Step.step_of Run.onward Run.ran Run.read_to Run.whole_run Run.printed
+    Step.taken Step.answered Step.step_of Run.onward Run.ran Run.read_to Run.whole_run Run.printed
 in_program = tt
 
 unfoldable pub computing : Unit {0}

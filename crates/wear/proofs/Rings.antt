@@ -18,8 +18,7 @@ use Rattle.laws.proofs.Search.{any_at, any-fails}
 use Rattle.laws.proofs.Lists.{all_drop, all_right}
 use Rattle.laws.specs.All.{All}
 use Rattle.wear.specs.declared.Record.{Record}
-use Rattle.wear.specs.declared.Added.{Added}
-use Rattle.wear.specs.Wear.{total, highest, held_cuts, over_at, any_over, misplaced, invalid, grown, stored, reported, refused, added}
+use Rattle.wear.specs.Wear.{total, highest, held_cuts, over_at, any_over, misplaced, invalid, grown, stored, Added, values_in, reported, refused, added}
 use Rattle.wear.specs.Bytes.{record_in, bytes_of, values_of, refusal, returned, left, AsItCame}
 use Rattle.wear.specs.Answers.{RingAnswer, is_accepted, accepted, last, empty, after, values_for, LastRings, FewCuts, zeros, Follows}
 use Rattle.wear.proofs.Tests.{Valid, is-valid, valid-passes, next_low, next-same, bad_record, refused-ring, over-cuts, one_more}
@@ -136,7 +135,7 @@ module _ (l h : List ℕ) (s : Holds l h) where
   many = let e = s.long in length-take-le 32 l (omega arith)
 
   values : values_of (reported (record_in l)) ≡ values_for (last 32 h)
-  unfolding reported
+  unfolding reported values_in
   values =
       let r = record_in l in
       let a = aged-total r ∙ ap total s.same in
@@ -361,17 +360,17 @@ valid-low r v =
 
 -- an answer into a record of 32 places
 record Came (r : Record) (a : Added) : Type 0 where
-  either : (a.code ≡ 0) ⊎ (values_of a ≡ refusal)
-  twenty : a.code ≡ 20 → a.kept ≡ r
+  either : ((values_of a).code ≡ 0) ⊎ (values_of a ≡ refusal)
+  twenty : (values_of a).code ≡ 20 → a.kept ≡ r
   long : length a.kept.cuts ≡ length r.cuts
-  bounded : a.total ≤ 1024
+  bounded : (values_of a).total ≤ 1024
 
 refused_came : (r : Record) → Came r (refused r)
 unfolding refused
 refused_came r = record { either = inr refl; twenty = λ e. refl; long = refl; bounded = omega arith }
 
 reported_came : (r s : Record) → Valid s → length s.cuts ≡ length r.cuts → Came r (reported s)
-unfolding reported
+unfolding reported values_in
 reported_came r s v h = record { either = inl refl; twenty = λ e. absurd (omega (arith, e)); long = h; bounded = valid-low s v }
 
 came : (r : Record) (code cuts : ℕ) → length r.cuts ≡ 32 → Came r (added r code cuts)

@@ -1,9 +1,8 @@
 -- A record in 34 bytes: the cuts of 32 places, how many rings it holds, the next place. What a call over lent bytes returns and leaves.
 use Rattle.std.specs.Prelude.{ℕ, ◌≤◌, ◌≡◌, ◌⊎◌, cond, List, [], ◌∷◌, ◌++◌, length, get_or, take, eqb}
 use Rattle.wear.specs.declared.Record.{Record}
-use Rattle.wear.specs.declared.Added.{Added}
 use Rattle.wear.specs.declared.Wear.{Wear}
-use Rattle.wear.specs.Wear.{added}
+use Rattle.wear.specs.Wear.{Added, added, wear_of}
 
 abbrev pub record_in : List ℕ → Record
 record_in l = record { cuts = take 32 l; rings = get_or l 32 0; next = get_or l 33 0 }
@@ -12,7 +11,7 @@ abbrev pub bytes_of : Record → List ℕ
 bytes_of r = r.cuts ++ (r.rings ∷ r.next ∷ [])
 
 abbrev pub values_of : Added → Wear
-values_of a = record { code = a.code; total = a.total; highest = a.highest; rings = a.rings }
+values_of a = wear_of a.values
 
 abbrev pub refusal : Wear
 refusal = record { code = 20; total = 0; highest = 0; rings = 0 }

@@ -1,9 +1,11 @@
 -- 02, Card 14: "A record keeps the cuts of the last 32 accepted rings and reports their total, the highest, and how many rings it holds." What one answer of a
 -- divider call does to it.
-use Rattle.std.specs.Prelude.{ℕ, ◌+◌, ◌%◌, Bool, ◌||◌, not, cond, List, [], ◌∷◌, get_or, set, take, ltb, eqb}
+use Rattle.std.specs.Prelude.{ℕ, ◌+◌, ◌%◌, Bool, ◌||◌, not, cond, List, [], ◌∷◌, get_or, set, take, ltb, eqb, Result, Ok, Err}
 use Rattle.laws.specs.Bounded.{any}
 use Rattle.wear.specs.declared.Record.{Record}
-use Rattle.wear.specs.declared.Added.{Added}
+use Rattle.wear.specs.declared.Values.{Values}
+use Rattle.wear.specs.declared.Refused.{Refused}
+use Rattle.wear.specs.declared.Wear.{Wear}
 
 -- the total and the highest of a list; 0 of none
 unfoldable pub total : List ℕ → ℕ
@@ -43,12 +45,21 @@ grown n = cond (ltb n 32) (n + 1) 32
 unfoldable pub stored : Record → ℕ → Record
 stored r cuts = record { cuts = set r.cuts r.next cuts; rings = grown r.rings; next = (r.next + 1) % 32 }
 
--- the three values of a record, with the record; and 20, "the record comes back as it came", with zeros
+-- what comes back of an answer: the three values, or that it is refused, and the record
+pub record Added : Type 0 where
+  pub values : Result Values Refused
+  pub kept : Record
+
+-- the three values of a record
+unfoldable pub values_in : Record → Values
+values_in r = record { total = total (held_cuts r); highest = highest (held_cuts r); rings = r.rings }
+
+-- with the record; and the other, where "the record comes back as it came"
 unfoldable pub reported : Record → Added
-reported r = record { code = 0; total = total (held_cuts r); highest = highest (held_cuts r); rings = r.rings; kept = r }
+reported r = record { values = Ok (values_in r); kept = r }
 
 unfoldable pub refused : Record → Added
-refused r = record { code = 20; total = 0; highest = 0; rings = 0; kept = r }
+refused r = record { values = Err (record {}); kept = r }
 
 -- the record r and an answer, its number and its cuts. "A refused ring leaves the record unchanged"; 20 also where "an accepted answer has over 32 cuts"
 unfoldable pub added : Record → ℕ → ℕ → Added
@@ -56,3 +67,8 @@ added r code cuts =
     cond (invalid r) (refused r)
     (cond (not (eqb code 0)) (reported r)
     (cond (ltb 32 cuts) (refused r) (reported (stored r cuts))))
+
+-- 0 and the three values, or 20, with zeros
+abbrev pub wear_of : Result Values Refused → Wear
+wear_of (Ok v) = record { code = 0; total = v.total; highest = v.highest; rings = v.rings }
+wear_of (Err e) = record { code = 20; total = 0; highest = 0; rings = 0 }

@@ -19,17 +19,20 @@ pub struct Record {
     pub next: u8,
 }
 
-// 0 or 20, the three values, and the record that comes back. Kept: it has the form of `Wear`, which C is answered.
+// What a record reports of the rings that it holds: the total of their cuts, the highest, and how many they are.
 #[derive(Clone, Copy)]
-pub struct Added {
-    pub code: u64,
+pub struct Values {
     pub total: u64,
     pub highest: u64,
     pub rings: u64,
-    pub kept: Record,
 }
 
-// The same where the record stays in the lent bytes.
+// A record or an answer that is refused, each with 20.
+#[derive(Clone, Copy)]
+pub struct Refused;
+
+// What a call over lent bytes returns: 0 and the three values, or 20 and zeros.
+// Kept: the number is a u64 beside the values, since C reads it.
 #[repr(C)]
 #[derive(Clone, Copy)]
 pub struct Wear {
@@ -39,6 +42,27 @@ pub struct Wear {
     pub rings: u64,
 }
 
+impl From<Result<Values, Refused>> for Wear {
+    ghost from_gives = { λ answer w. w ≡ Rule.wear_of answer };
+
+    fn from(answer: Result<Values, Refused>) -> Wear {
+        match answer {
+            Ok(v) => Wear {
+                code: 0,
+                total: v.total,
+                highest: v.highest,
+                rings: v.rings,
+            },
+            Err(Refused) => Wear {
+                code: 20,
+                total: 0,
+                highest: 0,
+                rings: 0,
+            },
+        }
+    }
+}
+
 // A ring that has over 32 cuts.
 fn any_over(cuts: &[u8]) -> bool
     ensures { result ≡ list_any (λ c. nat_lt 32 c) cuts.now }
@@ -46,26 +70,19 @@ fn any_over(cuts: &[u8]) -> bool
     cuts.iter().any(|c| *c > 32)
 }
 
+#[tactic(auto, unfolding(crate::specs::Wear::misplaced))]
 fn misplaced(rings: u8, next: u8) -> bool
     ensures { result ≡ Rule.misplaced rings next }
 {
-    if rings < 32 {
-        return next != rings;
-    }
-    31 < next
+    if rings < 32 { next != rings } else { 31 < next }
 }
 
 // 20, of a record.
-fn invalid(r: Record) -> bool
-    ensures { result ≡ Rule.invalid r }
+#[tactic(auto, unfolding(crate::specs::Wear::invalid))]
+fn invalid(r: &Record) -> bool
+    ensures { result ≡ Rule.invalid r.now }
 {
-    if 32 < r.rings {
-        return true;
-    }
-    if misplaced(r.rings, r.next) {
-        return true;
-    }
-    any_over(&r.cuts[..usize::from(r.rings)])
+    32 < r.rings || misplaced(r.rings, r.next) || any_over(&r.cuts[..usize::from(r.rings)])
 }
 
 fn total(cuts: &[u8]) -> u64
@@ -78,37 +95,19 @@ fn total(cuts: &[u8]) -> u64
 fn highest(cuts: &[u8]) -> u64
     ensures { result ≡ Rule.highest cuts.now }
 {
-    let mut most = 0;
-    for c in cuts {
-        most = u64::from(*c).max(most);
-    }
-    most
+    cuts.iter().map(|c| u64::from(*c)).max().unwrap_or(0)
 }
 
 // The three values of a record that holds no more than 32 rings.
-fn reported(r: Record) -> Added
-    requires { r.rings ≤ 32 }
-    ensures { result ≡ Rule.reported r }
+fn reported(r: &Record) -> Values
+    requires { r.now.rings ≤ 32 }
+    ensures { result ≡ Rule.values_in r.now }
 {
     let held = &r.cuts[..usize::from(r.rings)];
-    Added {
-        code: 0,
+    Values {
         total: total(held),
         highest: highest(held),
         rings: u64::from(r.rings),
-        kept: r,
-    }
-}
-
-fn refused(r: Record) -> Added
-    ensures { result ≡ Rule.refused r }
-{
-    Added {
-        code: 20,
-        total: 0,
-        highest: 0,
-        rings: 0,
-        kept: r,
     }
 }
 
@@ -119,13 +118,13 @@ fn grown(n: u8) -> u8
 }
 
 // One ring more.
-fn stored(r: Record, cuts: u8) -> Record
-    requires { r.next < 32 }
-    ensures { (result ≡ Rule.stored r cuts) × (result.rings ≤ 32) }
+#[tactic(auto, unfolding(crate::specs::Wear::stored))]
+fn stored(r: &Record, cuts: u8) -> Record
+    requires { r.now.next < 32 }
+    ensures { (result ≡ Rule.stored r.now cuts) × (result.rings ≤ 32) }
 {
     let mut all = r.cuts;
-    let at = r.next as usize;
-    all[at] = cuts;
+    all[usize::from(r.next)] = cuts;
     Record {
         cuts: all,
         rings: grown(r.rings),
@@ -133,20 +132,23 @@ fn stored(r: Record, cuts: u8) -> Record
     }
 }
 
-// A divider call's answer, its number and its cuts, into the record.
-pub fn add(r: Record, code: u64, cuts: u64) -> Added
-    ensures { result ≡ Rule.added r code cuts }
+// A divider call's answer, its number and its cuts, into the record, which stays as it came where the answer is refused.
+// Kept: the number is that of a row, as C hands it over.
+#[tactic(auto, unfolding(crate::specs::Wear::added, crate::specs::Wear::reported, crate::specs::Wear::refused))]
+pub fn add(r: &mut Record, code: u64, cuts: u64) -> Result<Values, Refused>
+    ensures { (result ≡ (Rule.added r.old code cuts).values) × (r.new ≡ (Rule.added r.old code cuts).kept) }
 {
     if invalid(r) {
-        return refused(r);
+        return Err(Refused);
     }
     if code != 0 {
-        return reported(r);
+        return Ok(reported(r));
     }
     if 32 < cuts {
-        return refused(r);
+        return Err(Refused);
     }
-    reported(stored(r, cuts as u8))
+    *r = stored(r, cuts as u8);
+    Ok(reported(r))
 }
 
 // The record in 34 bytes.
@@ -163,9 +165,9 @@ fn read(bytes: &[u8]) -> Record
     }
 }
 
-fn write(bytes: &mut [u8], r: Record)
+fn write(bytes: &mut [u8], r: &Record)
     requires { length bytes.old ≡ 34 }
-    ensures { bytes.new ≡ Bytes.bytes_of r }
+    ensures { bytes.new ≡ Bytes.bytes_of r.now }
 {
     bytes[..32].copy_from_slice(&r.cuts);
     bytes[32] = r.rings;
@@ -173,23 +175,15 @@ fn write(bytes: &mut [u8], r: Record)
 }
 
 // The same over a record in 34 lent bytes; a list of another length is 20. Nothing is asked of a caller.
+// Kept: the number is that of a row, as C hands it over.
 pub fn wear_add(record: &mut [u8], code: u64, cuts: u64) -> Wear
     ensures { (result ≡ Bytes.returned «record».old code cuts) × («record».new ≡ Bytes.left «record».old code cuts) }
 {
     if record.len() != 34 {
-        return Wear {
-            code: 20,
-            total: 0,
-            highest: 0,
-            rings: 0,
-        };
+        return Wear::from(Err(Refused));
     }
-    let a = add(read(record), code, cuts);
-    write(record, a.kept);
-    Wear {
-        code: a.code,
-        total: a.total,
-        highest: a.highest,
-        rings: a.rings,
-    }
+    let mut r = read(record);
+    let answer = add(&mut r, code, cuts);
+    write(record, &r);
+    Wear::from(answer)
 }

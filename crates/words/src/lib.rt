@@ -1,60 +1,34 @@
 // Words: the words of a fixed list, and the numbers, bytes and doubles that they give; what a destination holds before a call;
-// and the tally of what was run. It stands below the programs that run such lists, replay and desk. docs/REPLAY.md has the
-// form of the lists.
+// and the run over the lists of a program. It stands below the programs that run such lists, replay and desk. docs/REPLAY.md has
+// the form of the lists.
 
 #![tactic(auto)]
 
-ghost use Rattle.std.specs.Prelude.{◌≡◌, ◌++◌, ◌<◌, ◌≤◌, length, min, take, drop, slice_set};
+ghost use Rattle.std.specs.Prelude.{◌≡◌, ◌++◌, ◌≤◌, eqb, length, min, take, drop};
 
-use std::io::{Read, Write};
-use std::ops::Add;
+mod records;
 
-// How many calls and blocks were run, and on how many the two differ.
-#[derive(Clone, Copy, Default)]
-pub struct Tally {
-    pub ran: u64,
-    pub differ: u64,
-}
-
-impl Tally {
-    // One more.
-    pub fn ran(self, same: bool) -> Tally {
-        self + Tally {
-            ran: 1,
-            differ: u64::from(!same),
-        }
-    }
-
-    pub fn print<W: Write>(self, output: &mut W, name: &str) {
-        let _ = write!(output, "{name}: {} run, {} differ\n", self.ran, self.differ);
-    }
-
-    // Of a list whose rows are wrong on purpose: how many they are, and how many were told to differ.
-    pub fn print_told<W: Write>(self, output: &mut W, name: &str) {
-        let _ = write!(
-            output,
-            "{name}: {} wrong on purpose, {} told\n",
-            self.ran, self.differ
-        );
-    }
-}
-
-impl Add for Tally {
-    type Output = Tally;
-
-    fn add(self, b: Tally) -> Tally {
-        Tally {
-            ran: self.ran.wrapping_add(b.ran),
-            differ: self.differ.wrapping_add(b.differ),
-        }
-    }
-}
+pub use records::{Lists, Records, Tally, UnknownKind};
+use std::io::Read;
+use std::num::{f64_from_bits_with_nan, f64_to_bits_with_nan};
 
 // The next word of the file; zero past its end.
 pub fn word<R: Read>(input: &mut R) -> u32 {
     let mut b = [0u8; 4];
     stream::read_full(input, &mut b);
     u32::from_le_bytes(b)
+}
+
+// Whether a value is a word that was read.
+pub fn equals(word: u32, x: u64) -> bool
+    ensures { result ≡ eqb x word }
+{
+    x == u64::from(word)
+}
+
+// Whether a value is the next word of the file. No clause: what is read from a file has no name to cite.
+pub fn is_word<R: Read>(input: &mut R, x: u64) -> bool {
+    equals(word(input), x)
 }
 
 // A count, of which no list has more.
@@ -71,50 +45,25 @@ pub fn count_to<R: Read>(input: &mut R, most: usize) -> usize
     count(input).min(most)
 }
 
-// The numbers of n places.
-pub fn doubled(n: usize) -> usize {
-    n.min(65536) * 2
-}
-
 pub fn long<R: Read>(input: &mut R) -> u64 {
     let low = word(input);
     let high = word(input);
     u64::from(low) + 4294967296 * u64::from(high)
 }
 
-// The double with these bits; any NaN's bits give a NaN.
-pub fn double(bits: u64) -> f64 {
-    let size = bits % 0x8000_0000_0000_0000;
-    if size < 0x7ff0_0000_0000_0000 {
-        return signed(f64::from_bits(size), bits);
-    }
-    if size == 0x7ff0_0000_0000_0000 {
-        return signed(f64::INFINITY, bits);
-    }
-    f64::NAN
-}
-
-// x with the sign of these bits.
-pub fn signed(x: f64, bits: u64) -> f64 {
-    if bits < 0x8000_0000_0000_0000 { x } else { -x }
-}
-
 // Whether two doubles have the same bits; all NaN count as one.
 pub fn same_bits(x: f64, y: f64) -> bool {
-    if x == y {
-        return 1.0 / x == 1.0 / y;
-    }
-    x.is_nan() && y.is_nan()
+    f64_to_bits_with_nan(x) == f64_to_bits_with_nan(y)
 }
 
-// What a list of the file holds: each of its elements is the next word, or the next two.
+// What a list of the file holds: each of its elements is the next word, or the next two. No clause, as for `is_word`.
 pub trait Field: Copy {
     fn read<R: Read>(input: &mut R) -> Self;
 }
 
 impl Field for i32 {
     fn read<R: Read>(input: &mut R) -> i32 {
-        blocks::signed(word(input))
+        word(input).cast_signed()
     }
 }
 
@@ -130,30 +79,34 @@ impl Field for u32 {
     }
 }
 
+// The double with these bits; any NaN's bits give a NaN.
 impl Field for f64 {
     fn read<R: Read>(input: &mut R) -> f64 {
-        double(long(input))
+        f64_from_bits_with_nan(long(input))
     }
 }
 
-// What does not fit a list is left out, and shows as a difference.
-fn put<T: Copy>(list: &mut [T], i: usize, x: T)
-    ensures within { i < length list.old → list.new ≡ slice_set list.old i x }
-    ensures beyond { length list.old ≤ i → list.new ≡ list.old }
+// Reads n elements that no list has a place for.
+fn pass_over<R: Read, T: Field>(input: &mut R, n: usize) {
+    for _ in 0..n {
+        T::read(input);
+    }
+}
+
+// The next n elements, as many as the list has places for; all of them are read. What does not fit the list is left out, and
+// shows as a difference. The clause says what is not touched: what is read from a file has no name to cite.
+pub fn read_list<R: Read, T: Field>(input: &mut R, list: &mut [T], n: usize)
+    ensures { drop n list.new ≡ drop n list.old }
 {
-    if i < list.len() {
-        list[i] = x;
+    let fit = n.min(list.len());
+    for place in &mut list[..fit] {
+        *place = T::read(input);
     }
-}
-
-// The next n elements, as many as the list has places for; all of them are read.
-pub fn read_list<R: Read, T: Field>(input: &mut R, list: &mut [T], n: usize) {
-    for i in 0..n {
-        put(list, i, T::read(input));
-    }
+    pass_over::<R, T>(input, n - fit);
 }
 
 // The first elements of a list over those of another, as many as both have.
+// Kept: std's `copy_from_slice` is for two lists of one length.
 pub fn copy<T: Copy>(from: &[T], to: &mut [T])
     ensures { to.new ≡ take (min (length from.now) (length to.old)) from.now ++ drop (min (length from.now) (length to.old)) to.old }
 {
@@ -173,14 +126,12 @@ pub fn fill(out: &mut [u8]) {
 }
 
 // The next n bytes, four to a word.
-pub fn read_packed<R: Read>(input: &mut R, bytes: &mut [u8], n: usize)
-    requires { n ≤ 65536 }
-{
-    for k in 0..n.div_ceil(4) {
-        for (j, byte) in word(input).to_le_bytes().into_iter().enumerate() {
-            put(bytes, k * 4 + j, byte);
-        }
+pub fn read_packed<R: Read>(input: &mut R, bytes: &mut [u8], n: usize) {
+    let words = n.div_ceil(4);
+    for four in bytes.chunks_mut(4).take(words) {
+        copy(&word(input).to_le_bytes(), four);
     }
+    pass_over::<R, u32>(input, words.saturating_sub(bytes.len().div_ceil(4)));
 }
 
 // What byte i of a destination must be after a call that wrote its first n bytes.

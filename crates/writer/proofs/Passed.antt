@@ -64,20 +64,6 @@ module _ (l : List ℤ) (h : length l % 2 ≡ 0) (e : any_outside (points_in l (
 
 -- ---- the first that refuses
 module _ (ring chain : List ℤ) (size number places : ℕ) where
-  pub first : (f : Bool) → f ≡ counts ring chain → f ≡ true → Err Counts ≡ tested ring chain size number places
-  unfolding tested
-  first f e h = rw (sym e ∙ h)
-
-  pub second : (f : Bool) → f ≡ counts ring chain → f ≡ false → (g : Bool) → g ≡ units ring chain size → g ≡ true
-      → Err Units ≡ tested ring chain size number places
-  unfolding tested
-  second f e h g d k = rw (sym e ∙ h, sym d ∙ k)
-
-  pub third : (f : Bool) → f ≡ counts ring chain → f ≡ false → (g : Bool) → g ≡ units ring chain size → g ≡ false
-      → (t : Bool) → t ≡ destination_out places number → (v : Bool) → t ≡ v → cond v (Err Destination) (Ok tt) ≡ tested ring chain size number places
-  unfolding tested
-  third f e h g d k t q v r = rw (sym e ∙ h, sym d ∙ k, sym q ∙ r)
-
   -- what the code answers, by its number
   pub agrees : (r : Result (Unit {0}) Refusal) → r ≡ tested ring chain size number places → answer_of r ≡ refusal ring chain size number places
   unfolding tested refusal
@@ -88,6 +74,12 @@ module _ (ring chain : List ℤ) (size number places : ℕ) where
       go false true c = refl
       go false false true = refl
       go false false false = refl
+
+  pub none_refuses : Ok tt ≡ tested ring chain size number places → 0 ≡ refusal ring chain size number places
+  none_refuses e = agrees (Ok tt) e
+
+  pub one_refuses : (r : Refusal) → Err r ≡ tested ring chain size number places → number_of r ≡ refusal ring chain size number places
+  one_refuses r e = agrees (Err r) e
 
   -- a call that passes
   module _ (z : refusal ring chain size number places ≡ 0) where

@@ -57,9 +57,9 @@ padded ps = tab (λ k. get_or ps k (pos 0)) 120
 
 -- "Reading its output as the pair at that number returns the same points"
 pub record ReadsBack (ring chain : List ℤ) (size number : ℕ) (out : List ℕ) : Type 0 where
-  pub ring_read : read_block (take 512 (written ring chain size number out)) number ≡ record { block = Ring (length ring / 2) size; points = padded ring }
+  pub ring_read : read_block (take 512 (written ring chain size number out)) number ≡ Ok (record { block = Ring (length ring / 2) size; points = padded ring })
   pub chain_read : read_block (take 512 (drop 512 (written ring chain size number out))) (number + 1)
-      ≡ record { block = Chain (length chain / 2); points = padded chain }
+      ≡ Ok (record { block = Chain (length chain / 2); points = padded chain })
   pub ring_same : take (2 * (length ring / 2)) (padded ring) ≡ ring
   pub chain_same : take (2 * (length chain / 2)) (padded chain) ≡ chain
   pub rest : drop 1024 (written ring chain size number out) ≡ drop 1024 out
@@ -67,8 +67,8 @@ pub record ReadsBack (ring chain : List ℤ) (size number : ℕ) (out : List ℕ
 -- "writing what was read from a pair .. returns the same bytes": bytes whose halves read as a ring and its chain, which 1 and 2 let pass
 pub record PairRead (b : List ℕ) (number : ℕ) (c s : ℕ) (ps : List ℤ) (d : ℕ) (qs : List ℤ) : Type 0 where
   pub bytes : (i : ℕ) → get_or b i 0 < 256
-  pub ring_read : read_block (take 512 b) number ≡ record { block = Ring c s; points = ps }
-  pub chain_read : read_block (take 512 (drop 512 b)) (number + 1) ≡ record { block = Chain d; points = qs }
+  pub ring_read : read_block (take 512 b) number ≡ Ok (record { block = Ring c s; points = ps })
+  pub chain_read : read_block (take 512 (drop 512 b)) (number + 1) ≡ Ok (record { block = Chain d; points = qs })
   pub passes_1 : counts (take (2 * c) ps) (take (2 * d) qs) ≡ false
   pub passes_2 : units (take (2 * c) ps) (take (2 * d) qs) s ≡ false
 

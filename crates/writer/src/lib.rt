@@ -10,6 +10,7 @@ ghost use Rattle.std.specs.Prelude.{◌≡◌, length};
 ghost use Rattle.writer.specs.Write as Write;
 
 // What the writer tests, by its number: the counts, the coordinates and the sheet size, the destination.
+// Kept: a type of its own beside the divider's refusals, so that no match has cases that a pair never has.
 #[derive(Clone, Copy, Debug, PartialEq, Eq)]
 pub enum Refusal {
     Counts = 1,
@@ -17,15 +18,16 @@ pub enum Refusal {
     Destination = 12,
 }
 
-impl Refusal {
-    pub fn number(self) -> u64
-        ensures { result ≡ Write.number_of self }
-    {
-        self as u64
+impl From<Refusal> for u64 {
+    ghost from_gives = { λ r n. n ≡ Write.number_of r };
+
+    fn from(r: Refusal) -> u64 {
+        r as u64
     }
 }
 
 // 12: too few bytes, or a number that no ring block of a pair has.
+#[tactic(auto, unfolding(crate::specs::Write::destination_out))]
 fn destination_out(places: usize, number: u32) -> bool
     ensures { result ≡ Write.destination_out places number }
 {
@@ -33,6 +35,7 @@ fn destination_out(places: usize, number: u32) -> bool
 }
 
 // The first of 1, 2 and 12 that refuses.
+#[tactic(auto, unfolding(crate::specs::Write::tested))]
 fn test(ring: &[i32], chain: &[i32], size: u32, number: u32, places: usize) -> Result<(), Refusal>
     ensures { result ≡ Write.tested ring.now chain.now size number places }
 {
@@ -66,12 +69,14 @@ pub fn save(
 }
 
 // The same, and answers 0; or answers the refusal.
+// Kept: C reads the number.
+#[tactic(auto, using(crate::proofs::Passed::none_refuses, crate::proofs::Passed::one_refuses))]
 pub fn blocks_write(ring: &[i32], chain: &[i32], size: u32, number: u32, out: &mut [u8]) -> u64
     ensures { (result ≡ Write.refusal ring.now chain.now size number (length out.old))
         × (out.new ≡ Write.written ring.now chain.now size number out.old) }
 {
     match save(ring, chain, size, number, out) {
         Ok(()) => 0,
-        Err(refusal) => refusal.number(),
+        Err(refusal) => refusal.into(),
     }
 }

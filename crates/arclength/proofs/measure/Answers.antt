@@ -1,40 +1,42 @@
-use Prim.Native.Nat.{◌-◌}
+use Prim.Native.Nat.{◌+◌, ◌-◌, ◌<◌}
 use native.Mathlib.Omega.{arith}
-use mathlib.Core.Path.{◌≡◌, refl, ◌∙◌}
+use mathlib.Core.Path.{◌≡◌, refl, sym, subst, ◌∙◌}
 use lib.ListN.{length, length-set}
-use lib.Ieee.{nan, of_bits, of_int}
+use lib.Ieee.{of_bits, of_int}
 use Rattle.laws.specs.Table.{tab}
-use Rattle.laws.proofs.Table.{more, read_tab}
-use Rattle.root.proofs.Length.{grid_dist_comm}
+use Rattle.laws.proofs.Table.{more}
+use Rattle.vector.specs.Size.{OnSheet}
+use Rattle.root.specs.Norm.{grid_dist}
 use Rattle.arclength.specs.Arclength as Arclength
-use Rattle.arclength.specs.Arclength.{step_to}
+use Rattle.arclength.specs.Arclength.{point_at, step_to}
 use Rattle.arclength.proofs.Walk as walk
 use Rattle.arclength.proofs.measure.Goals as goal
 
 pub loop-i-init : goal.loop-i-init
 unfolding tab Arclength.arc step_to of_bits of_int
-loop-i-init c = (refl, refl, refl, refl)
+loop-i-init c = record { steps = refl; arcs = refl; step_is = refl; arc_is = refl; end_is = refl; last_is = refl }
 
 pub grid_dist-d-requires : goal.grid_dist-d-requires
-grid_dist-d-requires c = (c.requires.0.points _, c.requires.0.points _)
+grid_dist-d-requires c =
+    let l = c.loop-i in
+    let on = c.requires.0.points in
+    let h : l.i < length c.args.chain.now - 1 = omega (arith, c.loop-i-test.true) in
+    (subst OnSheet (sym (walk.after-first c.args.chain.now l.i h)) (on _), subst OnSheet (sym l.invariant.last_is) (on _))
 
 pub loop-i-preserved : goal.loop-i-preserved
 loop-i-preserved c =
     let l = c.loop-i in
+    let o = l.invariant in
     let ps = c.args.chain.now in
-    let d = c.grid_dist-d.ensures in
-    let f = Arclength.arc ps in (
-      simp length-set l.invariant.0,
-      simp length-set l.invariant.1,
-      more (step_to ps) l.step l.i _ (omega (arith, c.requires.0.count)) l.invariant.2 (walk.step-more ps l.i (omega arith) _ d),
-      more f l.arc l.i _ (omega (arith, c.requires.0.count)) l.invariant.3
-          (walk.arc-more ps l.i (omega arith) _ _ (read_tab l.arc f l.i (l.i - 1) nan l.invariant.3 (omega arith))
-          (d ∙ grid_dist_comm _ _)),
-    )
-
-pub returns : goal.returns
-returns c =
-    let l = c.loop-i in
-    let h = l.auto.i-end c.requires.1 in
-    let e : l.i ≡ length c.args.chain.now = omega arith in
-    (rw e at l.invariant.2, rw e at l.invariant.3)
+    let h : l.i < length ps - 1 = omega (arith, c.loop-i-test.true) in
+    let p = walk.after-first ps l.i h in
+    let d : c.grid_dist-d.result ≡ grid_dist (point_at ps (l.i + 1)) (point_at ps l.i) = c.grid_dist-d.ensures ∙ (λ j. grid_dist (p j) (o.last_is j)) in
+    let e = walk.arc-next ps l.i _ d l.end o.end_is in
+    record {
+      steps = simp length-set o.steps;
+      arcs = simp length-set o.arcs;
+      step_is = more (step_to ps) l.step (l.i + 1) _ (omega (arith, c.requires.0.count)) o.step_is (walk.step-next ps l.i _ d);
+      arc_is = more (Arclength.arc ps) l.arc (l.i + 1) _ (omega (arith, c.requires.0.count)) o.arc_is e;
+      end_is = e;
+      last_is = p;
+    }

@@ -1,13 +1,19 @@
--- `measure`, for every count from 0 to 60. The loop's invariant: the places before i hold the lengths of
--- the steps to those points, and of the chain up to them.
+-- `measure`, for every count from 0 to 60. The loop's invariant: the places up to i hold the lengths of
+-- the steps to those points, and of the chain up to them; the last point and the last length are at hand.
+use Prim.Native.Nat.{◌+◌}
 use mathlib.Core.Path.{◌≡◌}
 use lib.ListN.{length, take}
 use Rattle.laws.specs.Table.{tab}
 use Rattle.arclength.specs.Arclength as Arclength
-use Rattle.arclength.specs.Arclength.{step_to}
+use Rattle.arclength.specs.Arclength.{point_at, step_to}
 use Rattle.arclength.proofs.measure.Given as goal
 
 abbrev pub invariant-loop-i : goal.invariant-loop-i
-invariant-loop-i l =
-    (length l.step ≡ 60) × (length l.arc ≡ 60) × (take l.i l.step ≡ tab (step_to l.chain) l.i)
-    × (take l.i l.arc ≡ tab (Arclength.arc l.chain) l.i)
+invariant-loop-i l = record {
+  steps : length l.step ≡ 60;
+  arcs : length l.arc ≡ 60;
+  step_is : take (l.i + 1) l.step ≡ tab (step_to l.chain) (l.i + 1);
+  arc_is : take (l.i + 1) l.arc ≡ tab (Arclength.arc l.chain) (l.i + 1);
+  end_is : l.end ≡ Arclength.arc l.chain l.i;
+  last_is : l.last ≡ point_at l.chain l.i;
+}

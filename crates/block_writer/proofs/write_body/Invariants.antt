@@ -1,5 +1,5 @@
 -- `write_body`, the loop's invariant: the first w words stand in their places, and the rest is as found.
-use Prim.Native.Nat.{◌+◌, ◌-◌, ◌*◌, ◌≤◌}
+use Prim.Native.Nat.{◌*◌}
 use mathlib.Core.Path.{◌≡◌}
 use mathlib.Core.List.{◌++◌}
 use lib.ListN.{length, drop}
@@ -8,8 +8,4 @@ use Rattle.block_writer.proofs.write_body.Given as goal
 
 abbrev pub invariant-loop-w : goal.invariant-loop-w
 invariant-loop-w l =
-    (l.w ≤ 127) × (l.at ≡ l.w * 4) × (length l.out ≡ length l.initial.out) × (l.out ≡ words_to (field l.points l.size l.number) l.w ++ drop l.at l.initial.out)
-
-abbrev pub decreases-loop-w : goal.decreases-loop-w
-decreases-loop-w l =
-    127 - l.w
+    (length l.out ≡ length l.initial.out) × (l.out ≡ words_to (field l.points l.size l.number) l.w ++ drop (l.w * 4) l.initial.out)

@@ -1,12 +1,10 @@
--- `signed`: laws in proofs/TwosComplement.
-use Rattle.blocks.proofs.TwosComplement as TwosComplement
+use mathlib.Core.Path.{◌∙◌}
+use Rattle.std.specs.Int.{w32}
+use Rattle.std.proofs.lemmas.Int.{to_z-of_z}
+use Rattle.blocks.proofs.TwosComplement.{signed_is}
 use Rattle.blocks.proofs.signed.Goals as goal
 
-pub returns-then-n-lt2147483648 : goal.returns-then-n-lt2147483648
-returns-then-n-lt2147483648 c = TwosComplement.low c.args.n c.if-n-lt2147483648.true
-
-pub overflow_sub-result-2 : goal.overflow_sub-result-2
-overflow_sub-result-2 c = TwosComplement.high_fits c.args.n c.if-n-lt2147483648.false
-
 pub returns : goal.returns
-returns c = TwosComplement.high c.args.n c.if-n-lt2147483648.false
+returns c =
+    let s = c.cast_signed in
+    to_z-of_z w32 s.result (record { sfits = s.type_inv }) ∙ s.ensures ∙ signed_is c.args.n

@@ -9,7 +9,7 @@ use Rattle.quads.specs.Quads.{no_cell}
 use Rattle.table.specs.Answers.{values}
 use Rattle.call.specs.Lent.{LentRecords}
 use Rattle.divider.proofs.Calling.{most-cuts}
-use Rattle.cell_records.proofs.Numbered.{has_room, counts_in, sum_fits, laid-numbers, laid-fits}
+use Rattle.cell_records.proofs.Numbered.{counts_in, sum_fits, laid-numbers, laid-fits}
 use Rattle.cell_records.proofs.flat_divide.Goals as goal
 use Rattle.cell_records.proofs.flat_divide.Goals.{Start}
 
@@ -27,10 +27,6 @@ lent s cs =
       cells = cs;
       cell_count_of = a.cell_count;
     }
-
-pub divide_with-a-requires : goal.divide_with-a-requires
-divide_with-a-requires c =
-    let L = c.on_delivery-limits in has_room L.result (most-cuts L.result L.ensures) (replicate 496 0) refl _ refl
 
 pub placed-requires : goal.placed-requires
 placed-requires c =

@@ -35,21 +35,20 @@ out_is c e =
           rw (w.value-is, ← e, w.if-is_zero.false) (w.is_zero-else-is_zero.ensures ∙ ap (λ (v : GridPoint). Grid.same v Grid.origin) c.sub-v.ensures.0)
     ]
 
-pub cosine-requires : goal.cosine-requires
+pub invariant_of-cosine : goal.invariant_of-cosine
 unfolding grid_dist
-cosine-requires c =
+invariant_of-cosine c =
     let u = c.sub-u.ensures in
+    record { is_step = u.1; is_norm = c.requires.3 ∙ ap grid_norm (sym u.0) }
+
+pub invariant_of-cosine-else-is_zero-2 : goal.invariant_of-cosine-else-is_zero-2
+unfolding grid_dist
+invariant_of-cosine-else-is_zero-2 c =
     let v = c.sub-v.ensures in
-    let at = goal.at.cosine-requires c in
+    let at = goal.at.invariant_of-cosine-else-is_zero-2 c in
     let e = out_is at.Joined-is_zero (in_is at.Joined-last) in
     let l = (neither c.args.last _ (neither _ _ (sym e ∙ c.if-is_zero-2.false)).0).0 in
-    (u.1, v.1, c.requires.3 ∙ ap grid_norm (sym u.0), c.requires.4 l ∙ ap grid_norm (sym v.0))
-
-pub returns-then-is_zero-2 : goal.returns-then-is_zero-2
-returns-then-is_zero-2 c =
-    let at = goal.at.returns-then-is_zero-2 c in
-    let e = out_is at.Joined-is_zero (in_is at.Joined-last) in
-    rw (← e, c.if-is_zero-2.true)
+    record { is_step = v.1; is_norm = c.requires.4 l ∙ ap grid_norm (sym v.0) }
 
 pub returns-else-is_zero-2 : goal.returns-else-is_zero-2
 unfolding lit round of_bits

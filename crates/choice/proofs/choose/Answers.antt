@@ -1,29 +1,32 @@
-use mir.Syntax.{w32}
-use mir.Facts.{to_z-of_z}
-use Prim.Native.Nat.{◌-◌}
-use mathlib.Core.Path.{◌≡◌}
-use lib.ListN.{length-set}
-use Rattle.choice.proofs.Digits.{choose-more, rest_more, rest-none, chosen_none}
-use borrow.Author.Rules.{rules}
-use native.Mathlib.Omega.{arith}
+use Rattle.std.proofs.Common.{◌≡◌, ◌<◌, ◌/◌, length, take, ap, ◌∙◌, arith, rules}
+use lib.Seq.{length-take-le}
+use Rattle.choice.proofs.Digits.{length-mid, pair-among, choose-more, rest_more, rest-none, chosen_none}
 use Rattle.choice.proofs.choose.Goals as goal
+use Rattle.choice.proofs.choose.Goals.{After-as_chunks}
 
-pub loop-i-init : goal.loop-i-init
-loop-i-init c = (search rules, search rules, search rules, chosen_none _ _, rest-none _)
+-- as many pairs are read as points are asked for
+taken : (c : After-as_chunks) → length (take c.args.r c.as_chunks.result.0.now) ≡ c.args.r
+taken c =
+    let f : length c.as_chunks.result.0.now ≡ length c.args.ring.now / 2 = c.as_chunks.ensures.front_len in
+    length-take-le c.args.r c.as_chunks.result.0.now (omega (arith, f))
 
-pub loop-i-preserved : goal.loop-i-preserved
-loop-i-preserved c =
-    let l = c.loop-i in (
-      search rules,
+pub loop-p-init : goal.loop-p-init
+loop-p-init c = (search rules, search rules, chosen_none _ _, rest-none _)
+
+pub loop-p-preserved : goal.loop-p-preserved
+loop-p-preserved c =
+    let l = c.loop-p in
+    let ring = c.args.ring.now in
+    let b : l.p-index < c.args.r = omega (arith, taken (goal.at.loop-p-preserved c).After-as_chunks) in
+    let p = c.copy_from_slice.ensures.after ∙ pair-among ring (length ring / 2) c.args.r l.p-index _ c.as_chunks.ensures.front (omega arith) (omega arith) b in (
       omega arith,
-      simp length-set (search rules),
-      choose-more c.args.ring.now c.args.choice l.i l.points l.count l.rest _ _ (omega arith) l.invariant.3 l.invariant.4
-          (to_z-of_z {w = w32} (record { sfits = c.points-1.given })) (to_z-of_z {w = w32} (record { sfits = c.points-in-loop-i-1.given })),
-      rest_more c.args.choice l.i l.rest l.invariant.4,
+      length-mid l.count _ l.points _ (omega (arith, b)) (omega (arith, ap length p)) ∙ l.invariant.1,
+      choose-more ring c.args.choice l.p-index l.points l.count _ l.rest _ (omega (arith, b)) l.invariant.2 l.invariant.3 p,
+      rest_more c.args.choice l.p-index l.rest l.invariant.3,
     )
 
 pub returns : goal.returns
 returns c =
-    let l = c.loop-i in
-    let e : l.i ≡ c.args.r = omega arith in
-    (rw e at l.invariant.3, omega arith, l.invariant.2)
+    let l = c.loop-p in
+    let e : l.p-index ≡ c.args.r = omega (arith, taken (goal.at.returns c).After-as_chunks) in
+    (rw e at l.invariant.2, omega arith, l.invariant.1)

@@ -1,14 +1,10 @@
 -- `choose`, the loop's invariant: the points written and counted are those chosen among the points passed, and `rest` is the choice without their digits.
-use Prim.Native.Nat.{◌*◌, ◌-◌, ◌/◌, ◌^◌, ◌≤◌}
+use Prim.Native.Nat.{◌*◌, ◌/◌, ◌^◌, ◌≤◌}
 use mathlib.Core.Path.{◌≡◌}
 use lib.ListN.{length, take}
 use Rattle.choice.specs.Choice.{chosen}
 use Rattle.choice.proofs.choose.Given as goal
 
-abbrev pub invariant-loop-i : goal.invariant-loop-i
-invariant-loop-i l =
-    (l.i ≤ l.r) × (l.count ≤ l.i * 2) × (length l.points ≡ 24) × (take l.count l.points ≡ chosen l.ring l.choice l.i) × (l.rest ≡ l.choice / 2 ^ l.i)
-
-abbrev pub decreases-loop-i : goal.decreases-loop-i
-decreases-loop-i l =
-    l.r - l.i
+abbrev pub invariant-loop-p : goal.invariant-loop-p
+invariant-loop-p l =
+    (l.count ≤ l.p-index * 2) × (length l.points ≡ 24) × (take l.count l.points ≡ chosen l.ring l.choice l.p-index) × (l.rest ≡ l.choice / 2 ^ l.p-index)

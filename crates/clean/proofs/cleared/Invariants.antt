@@ -4,4 +4,4 @@ use Rattle.clean.proofs.cleared.Given as goal
 
 abbrev pub invariant-loop-i : goal.invariant-loop-i
 invariant-loop-i l =
-    Copies l.ring l.r l.points l.places l.i
+    Copies l.r l.points l.places l.i

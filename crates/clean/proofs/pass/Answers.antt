@@ -1,12 +1,10 @@
 -- `pass`: the three drops of a pass, each from what the one before left.
+use mathlib.Core.Path.{refl}
 use Rattle.clean.proofs.Passing.{pass-is}
 use Rattle.clean.proofs.pass.Goals as goal
 
 pub returns : goal.returns
 returns c =
-    let o = c.opened-k in
-    let u = c.spaced-u in (
-      c.straightened.ensures.0,
-      pass-is c.args.tol c.args.ring.now c.args.r.now u.result c.straightened.result c.requires.0 u.ensures.0 u.ensures.2 o.result
-          o.ensures.0 o.ensures.1 c.straightened.ensures.1,
-    )
+    let u = c.spaced-u in
+    let o = c.opened.ensures in
+    pass-is c.args.r.now u.result _ c.straightened.result u.ensures.1 refl refl refl o.0 o.1 c.straightened.ensures

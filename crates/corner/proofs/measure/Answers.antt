@@ -9,17 +9,15 @@ use Rattle.laws.proofs.Signed as signed
 use Rattle.corner.specs.Corner as Corners
 use Rattle.corner.proofs.Quadrants as quadrants
 use Rattle.corner.proofs.measure.Goals as goal
-use Rattle.corner.proofs.measure.Goals.{After-quotient-q}
+use Rattle.corner.proofs.measure.Goals.{After-quotient-q, then-is_zero-via-then-is_zero, then-is_zero-via-else-is_zero+then-is_zero-2}
 
 pub returns-then-is_zero : goal.returns-then-is_zero
 unfolding Corners.measure Corners.by_quadrant of_bits of_int
-returns-then-is_zero c = rw (← c.is_zero.ensures, c.if-is_zero.true)
-
-pub returns-then-is_zero-2 : goal.returns-then-is_zero-2
-unfolding Corners.measure Corners.by_quadrant of_bits of_int
-returns-then-is_zero-2 c =
-    let z = c.if-is_zero.false in
-    rw (← c.is_zero-2.ensures, ← c.is_zero.ensures, z, c.if-is_zero-2.true)
+returns-then-is_zero c =
+    elim c.then-is_zero.branch [
+      | then-is_zero-via-then-is_zero w ↦ rw (← c.is_zero.ensures, w.if-is_zero.true)
+      | then-is_zero-via-else-is_zero+then-is_zero-2 w ↦ rw (← w.is_zero-else-is_zero.ensures, ← c.is_zero.ensures, w.if-is_zero.false, w.if-is_zero-2.true)
+    ]
 
 -- what is known once the quotient is there, of the steps into and out of the corner
 into : After-quotient-q → GridPoint
@@ -34,7 +32,7 @@ in-moves c = sym c.is_zero.ensures ∙ c.if-is_zero.false
 
 out-moves : (c : After-quotient-q) → Grid.same (out c) Grid.origin ≡ false
 unfolding out
-out-moves c = sym c.is_zero-2.ensures ∙ c.if-is_zero-2.false
+out-moves c = sym c.is_zero-else-is_zero.ensures ∙ c.if-is_zero-2.false
 
 cross-is : (c : After-quotient-q) → signed.r64 c.cross-s.result ≡ Grid.cross (into c) (out c)
 unfolding into out
@@ -44,22 +42,22 @@ dot-is : (c : After-quotient-q) → signed.r64 c.dot-c.result ≡ Grid.dot (into
 unfolding into out
 dot-is c = let r = c.dot-c in signed.back r.result (omega (arith, r.ensures.1)) ∙ r.ensures.0
 
-pub returns-then-non_neg : goal.returns-then-non_neg
+pub returns-then-c-ge0 : goal.returns-then-c-ge0
 unfolding into out of_bits of_int
-returns-then-non_neg c =
-    quadrants.ahead _ _ (in-moves (goal.at.returns-then-non_neg c).After-quotient-q) (out-moves (goal.at.returns-then-non_neg c).After-quotient-q) _ _ (cross-is (goal.at.returns-then-non_neg c).After-quotient-q) (dot-is (goal.at.returns-then-non_neg c).After-quotient-q) _ c.quotient-q.ensures
-    (sym c.non_neg.ensures ∙ c.if-non_neg.true)
+returns-then-c-ge0 c =
+    quadrants.ahead _ _ (in-moves (goal.at.returns-then-c-ge0 c).After-quotient-q) (out-moves (goal.at.returns-then-c-ge0 c).After-quotient-q) _ _ (cross-is (goal.at.returns-then-c-ge0 c).After-quotient-q) (dot-is (goal.at.returns-then-c-ge0 c).After-quotient-q) _ c.quotient-q.ensures
+    (quadrants.from_zero _ ∙ c.if-c-ge0.true)
 
-pub returns-then-non_neg-2 : goal.returns-then-non_neg-2
+pub returns-then-s-ge0 : goal.returns-then-s-ge0
 unfolding into out of_bits of_int
-returns-then-non_neg-2 c =
-    quadrants.left _ _ (in-moves (goal.at.returns-then-non_neg-2 c).After-quotient-q) (out-moves (goal.at.returns-then-non_neg-2 c).After-quotient-q) _ _ (cross-is (goal.at.returns-then-non_neg-2 c).After-quotient-q) (dot-is (goal.at.returns-then-non_neg-2 c).After-quotient-q) _ c.quotient-q.ensures
-    (sym c.non_neg.ensures ∙ c.if-non_neg.false)
-    (sym c.non_neg-2.ensures ∙ c.if-non_neg-2.true)
+returns-then-s-ge0 c =
+    quadrants.left _ _ (in-moves (goal.at.returns-then-s-ge0 c).After-quotient-q) (out-moves (goal.at.returns-then-s-ge0 c).After-quotient-q) _ _ (cross-is (goal.at.returns-then-s-ge0 c).After-quotient-q) (dot-is (goal.at.returns-then-s-ge0 c).After-quotient-q) _ c.quotient-q.ensures
+    (quadrants.from_zero _ ∙ c.if-c-ge0.false)
+    (quadrants.from_zero _ ∙ c.if-s-ge0.true)
 
 pub returns : goal.returns
 unfolding into out of_bits of_int
 returns c =
     quadrants.right _ _ (in-moves (goal.at.returns c).After-quotient-q) (out-moves (goal.at.returns c).After-quotient-q) _ _ (cross-is (goal.at.returns c).After-quotient-q) (dot-is (goal.at.returns c).After-quotient-q) _ c.quotient-q.ensures
-    (sym c.non_neg.ensures ∙ c.if-non_neg.false)
-    (sym c.non_neg-2.ensures ∙ c.if-non_neg-2.false)
+    (quadrants.from_zero _ ∙ c.if-c-ge0.false)
+    (quadrants.from_zero _ ∙ c.if-s-ge0.false)

@@ -20,15 +20,15 @@ returns-then-is_zero c =
     ]
 
 pub returns : goal.returns
-unfolding Cosine.cosine of_bits of_int sub
+unfolding clamp Cosine.cosine of_bits of_int sub
 returns c =
     let d = c.dot in
     let e = c.in_square_mm.ensures ∙ ap Units.mm² (signed.back d.result (omega (arith, d.ensures.1)) ∙ d.ensures.0) in
-    let p = c.requires.2 in
-    let q = c.requires.3 in
+    let p = c.args.a.is_norm in
+    let q = c.args.b.is_norm in
     let f : c.clamp.result
-    ≡ clamp (nat 0 -f nat 1) (nat 1) (Units.mm² (Grid.dot c.args.a c.args.b) /f (grid_norm c.args.a *f grid_norm c.args.b)) =
-    c.clamp.ensures ∙ (λ i. clamp (nat 0 -f nat 1) (nat 1) (e i /f (p i *f q i))) in
+    ≡ clamp (nat 0 -f nat 1) (nat 1) (Units.mm² (Grid.dot c.args.a.step c.args.b.step) /f (grid_norm c.args.a.step *f grid_norm c.args.b.step)) =
+    c.clamp.ensures.value ∙ (λ i. clamp (nat 0 -f nat 1) (nat 1) (e i /f (p i *f q i))) in
     let z = sym c.is_zero.ensures ∙ c.if-is_zero.false in
     let y = sym c.is_zero-else-is_zero.ensures ∙ c.if-is_zero-2.false in
     rw (z, y) f

@@ -1,9 +1,9 @@
 -- `half_even`: the remainder doubled, against the divisor: below, above or equal.
-use Prim.Native.Nat.{ℕ, ◌*◌, ◌%◌, ◌^◌, ◌≤◌, ◌<◌}
+use Prim.Native.Nat.{ℕ, ◌*◌, ◌%◌, ◌^◌, ◌<◌}
 use mathlib.Core.Path.{◌≡◌, sym, ap, ◌∙◌, subst}
-use native.Mathlib.Nat.{mod-lt, div-le_self, one-mul}
+use native.Mathlib.Nat.{one-mul}
 use native.Mathlib.Omega.{arith}
-use lib.Pow.{pow_pos, pow_mono, shl_exact}
+use lib.Pow.{shl_exact}
 use Rattle.std.specs.declared.cmp.Ordering.{Ordering}
 use Rattle.std.specs.declared.cmp.Ordering.TheVariants.{Less, Equal, Greater}
 use Rattle.std.specs.Ordering.{nat_cmp, MatchOrdering}
@@ -19,36 +19,12 @@ shifted s = 1 * 2 ^ s % 2 ^ 64
 power : (s : ℕ) → s < 64 → shifted s ≡ 2 ^ s
 power s h = shl_exact {a = 1} 1 s 64 (omega arith) (omega arith) ∙ one-mul (2 ^ s)
 
-above : (s : ℕ) → s < 64 → 0 < shifted s
-above s h = subst (λ (d : ℕ). 0 < d) (sym (power s h)) (pow_pos s)
-
-most : (s : ℕ) → s < 64 → shifted s ≤ 2 ^ 63
-most s h = subst (λ (d : ℕ). d ≤ 2 ^ 63) (sym (power s h)) (pow_mono {i = s} {j = 63} (omega arith))
-
 same : (p s : ℕ) → s < 64 → half_even p (shifted s) ≡ half_even p (2 ^ s)
 same p s h = ap (half_even p) (power s h)
 
 -- what an order of two numbers says
 ordered : (o : Ordering) (x y : ℕ) → o ≡ nat_cmp x y → MatchOrdering o (x < y) (x ≡ y) (y < x)
 ordered o x y e = subst (λ (r : Ordering). MatchOrdering r (x < y) (x ≡ y) (y < x)) (sym e) (ranks x y)
-
-pub overflow_shl-d : goal.overflow_shl-d
-overflow_shl-d c = c.requires.1
-
-pub nonzero_div-q : goal.nonzero_div-q
-nonzero_div-q c = above c.args.s c.requires.1
-
-pub nonzero_rem-p : goal.nonzero_rem-p
-nonzero_rem-p c = above c.args.s c.requires.1
-
-pub overflow_mul-p : goal.overflow_mul-p
-overflow_mul-p c = omega (arith, mod-lt c.args.p (above c.args.s c.requires.1), most c.args.s c.requires.1)
-
-pub overflow_add-result : goal.overflow_add-result
-overflow_add-result c = omega (arith, div-le_self c.args.p (shifted c.args.s), c.requires.0)
-
-pub overflow_add-result-in-Greater : goal.overflow_add-result-in-Greater
-overflow_add-result-in-Greater c = omega (arith, div-le_self c.args.p (shifted c.args.s), c.requires.0)
 
 pub returns-in-Less : goal.returns-in-Less
 returns-in-Less c =

@@ -30,9 +30,6 @@ returns-then-f-lt1008 c = low_field c.args.x (own (goal.at.returns-then-f-lt1008
 pub overflow_sub-f : goal.overflow_sub-f
 overflow_sub-f c = omega (arith, most c)
 
-pub half_even-requires : goal.half_even-requires
-half_even-requires c = (omega arith, omega (arith, most c))
-
 pub returns : goal.returns
 returns c =
     let x = c.args.x in

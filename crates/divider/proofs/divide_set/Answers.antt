@@ -3,9 +3,6 @@ use Rattle.call.specs.Lent.{all_cells, Lent}
 use Rattle.divider.proofs.Calling.{own_promise, cell-places}
 use Rattle.divider.proofs.divide_set.Goals as goal
 
-pub divide_with-requires : goal.divide_with-requires
-divide_with-requires c = record { reserve = λ r h k. k }
-
 pub returns : goal.returns
 returns c =
     let a = c.args in

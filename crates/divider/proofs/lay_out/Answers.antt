@@ -13,7 +13,7 @@ use Rattle.call.proofs.Course.{Divisible, outcome_of}
 use Rattle.marks.specs.Edges.{part_in}
 use Rattle.divider.specs.Steps.{lists_in}
 use Rattle.divider.proofs.Leaving.{moved}
-use Rattle.divider.proofs.Laying.{marks-length, every_length, three, shown, count_is, outcome-is, can-subdivide, mark-room-in, rims-are}
+use Rattle.divider.proofs.Laying.{marks-length, every_length, shown, count_is, outcome-is, can-subdivide, mark-room-in, rims-are}
 use Rattle.divider.proofs.LaidOut.{cell_room, laid_done, laid-failed}
 use Rattle.divider.proofs.lay_out.Goals as goal
 use Rattle.divider.proofs.lay_out.Goals.{Start}
@@ -21,19 +21,6 @@ use Rattle.divider.proofs.lay_out.Goals.{Start}
 -- what was asked: the ring can be divided
 sought : (s : Start) → let a = s.args in Divisible a.limits a.own (part_in a.ring.now) (lists_in a.nodes.now a.node_count a.rims.now a.cells.now a.cell_count)
 sought s = record { prepared = s.requires.0.prepared; whole = s.requires.1 }
-
-pub reserve_of-reserve-requires : goal.reserve_of-reserve-requires
-reserve_of-reserve-requires c =
-    let a = c.args in (
-      (three a.limits a.own a.ring.now a.nodes.now a.node_count a.rims.now a.cells.now a.cell_count (sought (goal.at.reserve_of-reserve-requires c).Start)).1,
-      c.requires.0.prepared.few,
-    )
-
-pub split_bad_vertices-s-requires : goal.split_bad_vertices-s-requires
-split_bad_vertices-s-requires c =
-    let a = c.args in
-    let k = c.requires.0 in
-    (k.held.ring, (three a.limits a.own a.ring.now a.nodes.now a.node_count a.rims.now a.cells.now a.cell_count (sought (goal.at.split_bad_vertices-s-requires c).Start)).0, k.cuts)
 
 pub subdivide_all-laid-requires : goal.subdivide_all-laid-requires
 subdivide_all-laid-requires c =
@@ -64,10 +51,6 @@ returns-in-Err c =
     (d.ensures.2 ∙ ap (λ (o : Outcome). over_from a.cells.now a.cell_count (cells_left_of r.result.cells o)) o)
     (laid-failed a.limits a.own a.ring.now a.nodes.now a.node_count a.rims.now a.cells.now a.cell_count (sought (goal.at.returns-in-Err c).Start) r.result.cells _ _ _ y
     r.ensures.cells)
-
-pub mark_count-requires : goal.mark_count-requires
-mark_count-requires c =
-    c.requires.0.held
 
 pub overflow_add-result : goal.overflow_add-result
 overflow_add-result c =

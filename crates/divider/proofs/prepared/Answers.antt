@@ -5,14 +5,8 @@ use lib.ListN.{length}
 use Rattle.vector.specs.declared.GridPoint.{GridPoint}
 use Rattle.chain.specs.Kept.{stretches_in, Simplifies}
 use Rattle.marks.specs.Edges.{Marked}
-use Rattle.divider.proofs.Preparing.{asks, read, prepares}
+use Rattle.divider.proofs.Preparing.{read, prepares}
 use Rattle.divider.proofs.prepared.Goals as goal
-
-pub points-own-requires : goal.points-own-requires
-points-own-requires c = asks c.args.ring.now c.requires.0
-
-pub points-run-requires : goal.points-run-requires
-points-run-requires c = asks c.args.chain.now c.requires.1
 
 pub returns : goal.returns
 returns c =

@@ -3,4 +3,4 @@ use Rattle.draw.proofs.Reaching.{sendable}
 use Rattle.draw.proofs.take.Goals as goal
 
 pub send-requires : goal.send-requires
-send-requires g c = sendable c.requires.0 _ c.requires.1 c.feed-state.ensures
+send-requires g c = sendable c.requires.0 _ _ c.requires.1 c.feed.ensures

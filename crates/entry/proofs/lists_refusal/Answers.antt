@@ -1,52 +1,23 @@
 -- `lists_refusal`: where the counts refuse, no node is looked at; else the nodes and the marks decide, and then the room.
-use Prim.Native.Nat.{◌/◌, ◌≤◌}
-use native.Mathlib.Omega.{arith}
+use Prim.Native.Nat.{◌/◌}
 use mathlib.Core.Path.{◌≡◌, sym, ap, ◌∙◌}
 use mathlib.Core.List.{List}
 use lib.ListN.{length}
 use borrow.Author.Rules.{rules}
-use Rattle.nodes.specs.Nodes.{most_places}
 use Rattle.nodes.specs.Flat.{nodes_in}
 use Rattle.quads.specs.declared.Cell.{Cell}
 use Rattle.entry.specs.Refusal.{lists_refusal}
 use Rattle.survey.specs.declared.NodeSurvey.{NodeSurvey}
 use Rattle.survey.proofs.Gathering as gathering
 use Rattle.table.specs.Answers.{code_of}
-use Rattle.entry.proofs.Tests.{over, fit, counts_hold, looked_none, looked_all, nothing, all}
+use Rattle.entry.proofs.Tests.{fit, looked_none, looked_all, nothing, all}
 use Rattle.entry.proofs.lists_refusal.Goals as goal
-use Rattle.entry.proofs.lists_refusal.Goals.{Else-counts_over, After-used_refusal}
-
-pub returns-then-counts_over-clause-code : goal.returns-then-counts_over-clause-code
-returns-then-counts_over-clause-code c =
-    let a = c.args in
-    λ cells e. over a.limits a.own a.nodes.now a.node_count a.rims.now cells a.cell_count a.cell_places e (sym c.counts_over.ensures ∙ c.if-counts_over.true)
+use Rattle.entry.proofs.lists_refusal.Goals.{After-used_refusal}
 
 pub returns-then-counts_over-clause-looked : goal.returns-then-counts_over-clause-looked
 returns-then-counts_over-clause-looked c =
     let a = c.args in
     nothing a.w a.nodes.now a.numbers.now a.xs.now _ _ (looked_none _ _ _ _ _ (sym c.counts_over.ensures ∙ c.if-counts_over.true))
-
--- the counts fit
-fits : (c : Else-counts_over) → let a =
-    c.args in (a.node_count ≤ length a.nodes.now / 2) × (a.cell_count ≤ a.cell_places) × (length a.nodes.now / 2 ≤ most_places)
-    × (length a.nodes.now / 2 ≤ length a.rims.now)
-fits c = counts_hold _ _ _ _ _ (sym c.counts_over.ensures ∙ c.if-counts_over.false)
-
-pub used_nodes-s-requires : goal.used_nodes-s-requires
-used_nodes-s-requires c =
-    let f = fits (goal.at.used_nodes-s-requires c).Else-counts_over in
-    (omega (arith, f.0), omega (arith, f.0, f.2), c.requires.3, c.requires.4)
-
-pub overflow_sub-free : goal.overflow_sub-free
-overflow_sub-free c = (fits (goal.at.overflow_sub-free c).Else-counts_over).0
-
-pub overflow_sub-free-2 : goal.overflow_sub-free-2
-overflow_sub-free-2 c = (fits (goal.at.overflow_sub-free-2 c).Else-counts_over).1
-
-pub used_refusal-requires : goal.used_refusal-requires
-used_refusal-requires c =
-    let f = fits (goal.at.used_refusal-requires c).Else-counts_over in
-    (omega (arith, f.0, f.3), c.requires.0, c.requires.1)
 
 -- the number of what the used nodes, the marks and the room come to
 told : (c : After-used_refusal) (cells : List Cell) → length cells ≡ c.args.cell_places

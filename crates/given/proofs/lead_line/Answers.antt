@@ -1,22 +1,26 @@
 -- `lead_line`: none where no mark calls for it, and else the outline that was lent.
-use mathlib.Core.Path.{refl, sym, ap, ◌∙◌, subst}
+use mathlib.Core.Path.{sym, ap, ◌∙◌, subst}
 use Rattle.vector.specs.declared.Ring.{Ring}
 use lib.Dec.{T}
 use Rattle.laws.proofs.Booleans.{is_true, is_false}
-use Rattle.given.proofs.LeadLines.{none-sought, outline-asks, few-loops, held}
+use Rattle.given.proofs.LeadLines.{none-sought, outline-asks, few-loops, points-fit, held}
 use Rattle.given.proofs.lead_line.Goals as goal
 
 pub returns-then-not-called_for : goal.returns-then-not-called_for
-returns-then-not-called_for c = none-sought _ _ _ _ refl (sym c.called_for.ensures ∙ is_false _ (subst T (sym c.if-not-called_for.true-raw) tt))
+returns-then-not-called_for c = none-sought _ _ _ _ (sym c.called_for.ensures ∙ is_false _ (subst T (sym c.if-not-called_for.true-raw) tt))
 
 pub points-own-requires : goal.points-own-requires
 points-own-requires c = outline-asks _ _ _ c.requires (sym c.called_for.ensures ∙ is_true _ c.if-not-called_for.false-raw)
 
 pub loop_counts-requires : goal.loop_counts-requires
-loop_counts-requires c =
-    few-loops _ _ _ c.requires (sym c.called_for.ensures ∙ is_true _ c.if-not-called_for.false-raw)
+loop_counts-requires c = few-loops _ _ _ c.requires (sym c.called_for.ensures ∙ is_true _ c.if-not-called_for.false-raw)
+
+pub invariant_of-result-2 : goal.invariant_of-result-2
+invariant_of-result-2 c =
+    let t = sym c.called_for.ensures ∙ is_true _ c.if-not-called_for.false-raw in
+    record { few = few-loops _ _ _ c.requires t; fits = points-fit _ _ _ c.requires t _ c.loop_counts.ensures }
 
 pub returns : goal.returns
 returns c =
-    held _ _ _ c.requires (sym c.called_for.ensures ∙ is_true _ c.if-not-called_for.false-raw) _ _
+    held _ _ _ c.requires (sym c.called_for.ensures ∙ is_true _ c.if-not-called_for.false-raw) _
     (ap (λ (r : Ring). r.points) c.points-own.ensures.0) c.loop_counts.ensures

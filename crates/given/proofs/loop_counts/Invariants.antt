@@ -1,7 +1,7 @@
 -- `loop_counts`, the loop's invariant: the counts passed are those of the loops.
-use Rattle.std.proofs.Common.{◌≡◌, length, get_or, take}
-use Rattle.laws.specs.Table.{tab}
+use Rattle.std.proofs.Common.{◌≡◌, length, take}
 use Rattle.given.proofs.loop_counts.Given as goal
 
 abbrev pub invariant-loop-i : goal.invariant-loop-i
-invariant-loop-i l = (length l.out ≡ 20) × (take l.i l.out ≡ tab (λ k. get_or l.loops k 0) l.i)
+invariant-loop-i l =
+    (length l.out ≡ 20) × (take l.i l.out ≡ take l.i l.loops)

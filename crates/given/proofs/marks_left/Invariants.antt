@@ -1,13 +1,8 @@
 -- `marks_left`. The loop's invariant: the edges before j have the marks that are left (`Laid`).
-use Prim.Native.Nat.{◌-◌, ◌≤◌}
-use mathlib.Core.Path.{◌≡◌}
+use Prim.Native.Nat.{◌≤◌}
 use Rattle.given.specs.Steps.{sought, mark_left, Laid}
 use Rattle.given.proofs.marks_left.Given as goal
 
 abbrev pub invariant-loop-j : goal.invariant-loop-j
 invariant-loop-j l =
-    (l.j ≤ l.count) × (l.count ≡ l.clean.ring.count) × (l.n ≡ l.ring.count) × Laid (mark_left l.ring l.clean l.kinds l.snaps (sought l.lead)) l.j l.edges
-
-abbrev pub decreases-loop-j : goal.decreases-loop-j
-decreases-loop-j l =
-    l.count - l.j
+    (l.j ≤ l.clean.ring.count) × Laid (mark_left l.ring l.clean l.kinds l.snaps (sought l.lead)) l.j l.edges

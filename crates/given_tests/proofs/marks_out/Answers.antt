@@ -1,19 +1,10 @@
 -- `marks_out`: each return is one case of the definition, by the marks passed.
-use Rattle.std.proofs.Common.{◌≡◌, get_or, sym, ap, ◌∙◌, eq-eqb, ne_eqb, arith, false}
-use Rattle.laws.specs.Bounded.{any}
+use Rattle.std.proofs.Common.{◌≡◌, get_or, sym, ap, ◌∙◌, eq-eqb, arith}
 use Rattle.laws.proofs.Search.{any-zero, any-pass, any_hit}
 use Rattle.call.specs.Marked.{marks_out, mark_out}
 use Rattle.given_tests.proofs.Scans.{out_at}
 use Rattle.given_tests.proofs.marks_out.Goals as goal
-use Rattle.given_tests.proofs.marks_out.Goals.{After-mark_out, then-kinds-n-via-then-kinds-n, then-kinds-n-via-else-kinds-n+then-snaps-n}
-
-pub returns-then-kinds-n : goal.returns-then-kinds-n
-unfolding marks_out
-returns-then-kinds-n c =
-    elim c.then-kinds-n.branch [
-      | then-kinds-n-via-then-kinds-n w ↦ simp (ne_eqb _ _ w.if-kinds-n.true)
-      | then-kinds-n-via-else-kinds-n+then-snaps-n w ↦ simp (eq-eqb _ _ w.if-kinds-n.false, ne_eqb _ _ w.if-snaps-n.true)
-    ]
+use Rattle.given_tests.proofs.marks_out.Goals.{After-mark_out}
 
 pub loop-i-init : goal.loop-i-init
 loop-i-init c = any-zero _
@@ -24,7 +15,7 @@ seen : (c : After-mark_out)
     out_at a.kinds.now a.snaps.now c.loop-i.i ≡ c.mark_out.result
 seen c =
     let a = c.args in
-    sym (c.mark_out.ensures ∙ ap (mark_out (get_or a.kinds.now c.loop-i.i 0)) c.snap_at.ensures)
+    sym (c.mark_out.ensures ∙ ap (mark_out (get_or a.kinds.now c.loop-i.i 0)) c.point_at.ensures)
 
 pub returns-then-mark_out : goal.returns-then-mark_out
 unfolding marks_out
@@ -36,11 +27,3 @@ returns-then-mark_out c =
 pub loop-i-preserved : goal.loop-i-preserved
 loop-i-preserved c =
     any-pass _ c.loop-i.i c.loop-i.invariant (seen (goal.at.loop-i-preserved c).After-mark_out ∙ c.if-mark_out.false)
-
-pub returns : goal.returns
-unfolding marks_out
-returns c =
-    let a = c.args in
-    let e : c.loop-i.i ≡ a.n = omega arith in
-    let h : any (out_at a.kinds.now a.snaps.now) a.n ≡ false = ap (any (out_at a.kinds.now a.snaps.now)) (sym e) ∙ c.loop-i.invariant in
-    simp (eq-eqb _ _ c.if-kinds-n.false, eq-eqb _ _ c.if-snaps-n.false, h)

@@ -25,9 +25,6 @@ put_lines-requires c =
     let s = c.args in
     (usable s.nodes.now s.node_count (sym c.nodes_out.ensures ∙ c.if-nodes_out.false), c.if-out-node_count.false)
 
-pub shape_of-out : goal.shape_of-out
-shape_of-out c = c.put_lines.auto.out
-
 pub returns : goal.returns
 returns c =
     let s = c.args in

@@ -8,7 +8,7 @@ use Rattle.text.proofs.Pages.{room_on, wrote_as}
 use Rattle.decimals.specs.Rounded.{ten_thousandths, minus}
 use Rattle.decimals.specs.Shown.{decimals, shown}
 use Rattle.listing.specs.Sheet.{right}
-use Rattle.listing.proofs.Aligned.{right-spaces, right-room, right-wrote}
+use Rattle.listing.proofs.Aligned.{right_spaces, right_room, right-wrote}
 use Rattle.listing.proofs.put_coordinate.Goals as goal
 
 same : (x : Float) (m : Bool) (n : ℕ) → m ≡ minus x → n ≡ ten_thousandths x → decimals m n ≡ shown x
@@ -21,13 +21,13 @@ right-same x m n e f = ap (λ (t : List ℕ). right 28 t) (same x m n e f)
 pub put_spaces-requires : goal.put_spaces-requires
 put_spaces-requires c =
     let d = c.of-d.result in
-    right-spaces 28 c.columns.result (decimals d.minus d.parts) c.columns.ensures.0
+    right_spaces 28 c.columns.result (decimals d.minus d.parts) c.columns.ensures.0
     (room_on (right-same c.args.x d.minus d.parts c.of-d.ensures.0 c.of-d.ensures.1) c.requires.1)
 
 pub put-requires : goal.put-requires
 put-requires c =
     let d = c.of-d.result in
-    right-room 28 c.columns.result (decimals d.minus d.parts) c.columns.ensures.0
+    right_room 28 c.columns.result (decimals d.minus d.parts) c.columns.ensures.0
     (room_on (right-same c.args.x d.minus d.parts c.of-d.ensures.0 c.of-d.ensures.1) c.requires.1) c.put_spaces.ensures
 
 pub returns : goal.returns

@@ -1,5 +1,4 @@
 -- `put_spaces`: a turn writes one more space.
-use mathlib.Core.Path.{◌≡◌}
 use mathlib.Core.List.{[], ◌∷◌}
 use native.Mathlib.Omega.{arith}
 use Rattle.text.proofs.Pages.{wrote_none, room-turn, wrote-turn}
@@ -15,8 +14,3 @@ byte-requires c = room-turn spaces (λ i. 32 ∷ []) more-spaces c.args.n c.requ
 pub loop-preserved : goal.loop-preserved
 loop-preserved c =
     wrote-turn spaces (λ i. 32 ∷ []) more-spaces c.args.n c.requires c.loop-test.true c.loop.invariant c.byte.ensures
-
-pub returns : goal.returns
-returns c =
-    let e : c.loop.counter ≡ c.args.n = omega (arith, c.loop.auto.counter-end, c.loop-test.false) in
-    rw e at c.loop.invariant

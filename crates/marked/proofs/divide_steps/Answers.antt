@@ -38,9 +38,6 @@ returns-in_err-early_refusal c =
     (promised a.limits l _ _ _ _
     (call-refused a.limits l (number_of why) (early a.limits l (number_of why) c.in_err-early_refusal.ensures (no_zero why)) (no_zero why)))
 
-pub window_with_marks-w-requires : goal.window_with_marks-w-requires
-window_with_marks-w-requires c = (counts_passed c.args.limits (lent (goal.at.window_with_marks-w-requires c).Start) 0 c.in_ok-early_refusal.ensures refl).1
-
 pub lists_refusal-requires : goal.lists_refusal-requires
 lists_refusal-requires c =
     let n = counts_passed c.args.limits (lent (goal.at.lists_refusal-requires c).Start) 0 c.in_ok-early_refusal.ensures refl in

@@ -2,15 +2,9 @@
 use mathlib.Core.Path.{ap}
 use Rattle.vector.specs.declared.Ring.{Ring}
 use Rattle.marked.specs.Steps.{lent_in}
-use Rattle.divider.proofs.Preparing.{asks, read}
+use Rattle.divider.proofs.Preparing.{read}
 use Rattle.marked.proofs.Preparing.{marks-of, prepares}
 use Rattle.marked.proofs.marked_ring.Goals as goal
-
-pub points-own-requires : goal.points-own-requires
-points-own-requires c = asks c.args.ring.now c.requires.paper
-
-pub clean_polygon-clean-requires : goal.clean_polygon-clean-requires
-clean_polygon-clean-requires c = c.points-own.ensures.1
 
 pub surviving_marks-edges-requires : goal.surviving_marks-edges-requires
 surviving_marks-edges-requires c =

@@ -1,6 +1,5 @@
-use Rattle.std.proofs.Common.{◌≡◌, ◌+◌, ◌<◌, length, get_or, take, [], ◌∷◌, sym, ap, ◌∙◌, refl, arith}
+use Rattle.std.proofs.Common.{◌≡◌, ◌+◌, get_or, take, [], ◌∷◌, sym, ap, ◌∙◌, arith}
 use lib.Seq.{get_or-take, length-take-le}
-use Rattle.marks.specs.declared.Edge.{Edge}
 use Rattle.marks.specs.Part.{mark_count}
 use Rattle.marks.specs.Edges.{marks_in, straight_edge}
 use Rattle.marks.proofs.Edges.{marks-more, count-more}
@@ -20,11 +19,3 @@ loop-e-preserved c =
       (λ j. q j + w j) ∙ sym (count-more (marks_in es l.e-index) _)
           ∙ ap mark_count (sym (marks-more es l.e-index (omega (arith, n, c.requires.marks, c.requires.ring.count)))),
     )
-
-pub returns : goal.returns
-returns c =
-    let l = c.loop-e in
-    let r = c.args.ring.now in
-    let n = length-take-le r.ring.count r.edges (omega (arith, c.requires.marks, c.requires.ring.count)) in
-    let e : l.e-index ≡ r.ring.count = omega (arith, n) in
-    (rw e at l.invariant.1, omega (arith, e, l.invariant.0))

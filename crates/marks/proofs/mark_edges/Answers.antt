@@ -1,4 +1,4 @@
-use Rattle.std.proofs.Common.{◌≡◌, ◌+◌, ◌-◌, get_or, length, sym, ◌∙◌, add-one, arith}
+use Rattle.std.proofs.Common.{◌≡◌, ◌+◌, get_or, sym, ◌∙◌, add-one, arith}
 use Rattle.laws.proofs.Search as laws
 use Rattle.vector.specs.Grid.{origin}
 use Rattle.vector.proofs.Rings as rings
@@ -47,9 +47,6 @@ joined c =
 pub loop-i-init : goal.loop-i-init
 loop-i-init c = marked-none _ _
 
-pub search-init : goal.search-init
-search-init c = (c.loop-i.invariant, laws.first-start _ _)
-
 pub search-preserved : goal.search-preserved
 search-preserved c =
     let o = c.search in (
@@ -59,9 +56,3 @@ search-preserved c =
 
 pub loop-i-preserved : goal.loop-i-preserved
 loop-i-preserved c = joined c
-
-pub returns : goal.returns
-returns c =
-    let l = c.loop-i in
-    let e : l.i ≡ length c.args.ring.now = omega arith in
-    rw e at l.invariant

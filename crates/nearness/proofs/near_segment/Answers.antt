@@ -16,7 +16,7 @@ unfolding point_segment_distance
 returns-then-eq c = let e = sym (derived-same c.args.a c.args.b) ∙ sym c.eq.ensures ∙ c.if-eq.true in rw e c.grid_dist_at_most.ensures
 
 pub returns : goal.returns
-unfolding point_segment_distance of_bits of_int
+unfolding clamp point_segment_distance of_bits of_int
 returns c =
     let ab = c.sub-ab.ensures.0 in
     let h = c.dot-2.ensures.1 in
@@ -27,7 +27,7 @@ returns c =
     let y = c.to_double-2.ensures
     ∙ ap int (signed.back c.dot-2.result (omega arith) ∙ c.dot-2.ensures.0
     ∙ (λ i. Grid.dot (ab i) (ab i))) in
-    let t = c.clamp.ensures ∙ (λ i. clamp (nat 0) (nat 1) (x i /f y i)) in
+    let t = c.clamp.ensures.value ∙ (λ i. clamp (nat 0) (nat 1) (x i /f y i)) in
     let f = c.lerp-foot.ensures ∙ (λ i. lerp (c.new.ensures i) (c.new-2.ensures i) (t i)) in
     let e = sym (derived-same c.args.a c.args.b) ∙ sym c.eq.ensures ∙ c.if-eq.false in
     rw e (c.dist_at_most.ensures ∙ (λ i. dist (c.new-3.ensures i) (f i) ≤f c.args.tol))

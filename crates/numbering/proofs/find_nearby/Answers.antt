@@ -8,8 +8,8 @@ use Rattle.nodes.specs.Flat.{nodes_in, Usable, has_at}
 use Rattle.nodes.specs.Nearby.{most_nearby, well_inside, NearbyLists}
 use Rattle.nodes.proofs.Scan.{found-is}
 use Rattle.nodes.proofs.Collection as collection
-use Rattle.numbering.specs.Search.{below}
-use Rattle.numbering.proofs.Found.{some, given, absent}
+use Rattle.laws.specs.Bounded.{below}
+use Rattle.laws.proofs.Search.{below-some, below-given, below-absent}
 use Rattle.numbering.proofs.find_nearby.Goals as goal
 use Rattle.numbering.proofs.find_nearby.Goals.{Then-decides, Joined-decides, then-decides+in_default, else-decides}
 
@@ -30,8 +30,8 @@ returns-in-Some c =
     let k = c.new-key in
     let n = c.args.found.near in
     let d = (goal.at.returns-in-Some c).Then-decides in
-    let v = given n.count _ c.in-Some.j (sym c.in-Some.is ∙ c.find_from.ensures) in
-    some _ _ _ (sym (collection.found _ _ _ _ _ c.args.p _ _ c.requires.2 c.requires.0 k.ensures.0 k.ensures.1 k.result.sought.0 k.result.sought.1 (decided d)
+    let v = below-given n.count _ c.in-Some.j (sym c.in-Some.is ∙ c.find_from.ensures) in
+    below-some _ _ _ (sym (collection.found _ _ _ _ _ c.args.p _ _ c.requires.2 c.requires.0 k.ensures.0 k.ensures.1 k.result.sought.0 k.result.sought.1 (decided d)
     c.in-Some.j (v.0 ∙ first-start _ _) v.1))
     (omega (arith, (lists d).1.low c.in-Some.j v.1, c.requires.2.old))
 
@@ -46,7 +46,7 @@ rest c =
     elim c.if-decides.branch [
       | then-decides+in_default w ↦
           subst P (sym w.from-is) (collection.not_found _ _ _ _ _ a.p _ _ c.requires.2 c.requires.0 k.ensures.0 k.ensures.1 k.result.sought.0 k.result.sought.1
-          (sym c.decides.ensures ∙ w.if-decides.true) _ (first-start _ _) _ (absent n.count _ (sym w.in_default.is ∙ w.find_from.ensures)) refl)
+          (sym c.decides.ensures ∙ w.if-decides.true) _ (first-start _ _) _ (below-absent n.count _ (sym w.in_default.is ∙ w.find_from.ensures)) refl)
       | else-decides w ↦ subst P (sym w.from-is) (first-start _ _ ∙ found-is a.nodes.now a.used a.p k.result.x k.result.y k.ensures.0 k.ensures.1)
     ]
 

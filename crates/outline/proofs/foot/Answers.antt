@@ -18,9 +18,9 @@ returns-then-len2 c =
     rw (sym (ap (λ (x : Float). x ≤f nat 0) d) ∙ c.if-len2.true)
 
 pub returns : goal.returns
-unfolding Outline.foot of_bits of_int
+unfolding clamp Outline.foot of_bits of_int
 returns c =
     let d = squared (goal.at.returns c).After-dot-len2 in
     let l = c.dot.ensures ∙ (λ k. Plane.dot (c.sub.ensures k) (c.sub-ab.ensures k)) in
-    let t = c.clamp-t.ensures ∙ (λ k. clamp (nat 0) (nat 1) (l k /f d k)) in
+    let t = c.clamp-t.ensures.value ∙ (λ k. clamp (nat 0) (nat 1) (l k /f d k)) in
     rw (sym (ap (λ (x : Float). x ≤f nat 0) d) ∙ c.if-len2.false) (c.lerp.ensures ∙ ap (Plane.lerp c.args.a c.args.b) t)

@@ -11,10 +11,6 @@ invariant-loop-f g l =
     Reached l.job l.i l.s l.ring l.nodes l.rims
     × (length l.job < 4294967296)
     × (l.f ≡ frame_of (extent_of l.job))
-    × (length l.ring ≡ 120)
-    × (length l.nodes ≡ 3072)
-    × (length l.rims ≡ 1536)
-    × (length l.cells ≡ 496)
     × Drew l.job l.i l.sent
 
 abbrev pub decreases-loop-f : goal.decreases-loop-f

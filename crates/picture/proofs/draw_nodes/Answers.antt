@@ -1,58 +1,54 @@
-use Prim.Native.Nat.{ℕ, ◌-◌}
-use mathlib.Core.Path.{◌≡◌, sym, ◌∙◌}
-use mathlib.Core.Bool.{true≢false}
-use lib.ListN.{length-replicate, length-take}
-use borrow.Author.Tests.{not-false}
-use Rattle.laws.proofs.Lists.{part_length}
-use Rattle.picture.proofs.Drawing.{fits, front, no_nodes_lem, few-left, owes_node, more-nodes, all-nodes}
+-- `draw_nodes`: each turn writes the text of one node.
+use Prim.Native.Nat.{ℕ}
+use mathlib.Core.Path.{◌≡◌, refl, ◌∙◌}
+use lib.ListN.{length-replicate}
+use Rattle.scene.specs.Scene.{node_text}
+use Rattle.scene.proofs.Lengths.{node-length}
+use Rattle.picture.proofs.Drawing.{on-page, as-long, within-page, no_nodes_lem, few-left, owes_node, more-nodes, all-nodes}
 use native.Mathlib.Omega.{arith}
-use borrow.Author.Rules.{rules}
 use Rattle.picture.proofs.draw_nodes.Goals as goal
 
 pub loop-i-init : goal.loop-i-init
-loop-i-init g c =
-    (omega arith, c.requires.1 ∙ no_nodes_lem c.args.job.now, omega (arith, c.requires.2), c.requires.0)
+loop-i-init g c = record { sent = c.requires.1 ∙ no_nodes_lem c.args.job.now; bound = omega (arith, c.requires.2); left = c.requires.0 }
 
-pub put_node-n-requires : goal.put_node-n-requires
-put_node-n-requires g c =
-    let l = c.loop-i in
-    (omega (arith, few-left _ _ _ _ l.invariant.3, c.loop-i-test.true), search rules)
-
-pub slice_bounds-text-end : goal.slice_bounds-text-end
-slice_bounds-text-end g c = let p = c.put_node-n in omega (arith, fits p.ensures p.auto.out, p.auto.out, length-replicate {A = ℕ} 256 0)
-
-pub slice_bounds-send-end : goal.slice_bounds-send-end
-slice_bounds-send-end g c =
-    let p = c.put_node-n in
-    let n = length-replicate {A = ℕ} 256 0 in
-    part_length p.result 256 _ (p.auto.out ∙ n) (omega (arith, fits p.ensures p.auto.out, n))
+pub put_node-requires : goal.put_node-requires
+put_node-requires g c =
+    let a = c.args in
+    let l = c.loop-i in (
+      omega (arith, few-left _ _ _ _ l.invariant.left, c.loop-i-test.true),
+      record { fits = omega (arith, node-length a.nodes.now a.rims.now l.i, length-replicate {A = ℕ} 256 0) },
+    )
 
 pub send-requires : goal.send-requires
 send-requires g c =
-    let p = c.put_node-n in
-    let h = c.loop-i-test.true in
+    let a = c.args in
     let l = c.loop-i in
-    let few = few-left _ _ _ _ l.invariant.3 in
-    let n = length-replicate {A = ℕ} 256 0 in (
-      owes_node _ _ _ _ l.invariant.3 l.i l.sent _ h (record { count = l.invariant.1; bound = omega (arith, l.invariant.2, h, few) }) (front p.ensures),
-      omega (arith, length-take p.result p.new.out, fits p.ensures p.auto.out, n),
+    let w = c.put_node.ensures in
+    let n = node-length a.nodes.now a.rims.now l.i in
+    let z = length-replicate {A = ℕ} 256 0 in
+    let k = c.loop-i-test.true in
+    let few = few-left _ _ _ _ l.invariant.left in (
+      owes_node _ _ _ _ l.invariant.left l.i l.sent _ k (record { count = l.invariant.sent; bound = omega (arith, l.invariant.bound, k, few) }) (on-page refl (omega (arith, w.text.place, n, z)) w),
+      within-page refl (omega (arith, w.text.place, n, z)) w,
+      omega (arith, as-long refl (omega (arith, w.text.place, n, z)) w, n),
     )
 
 pub loop-i-preserved : goal.loop-i-preserved
 loop-i-preserved g c =
-    let p = c.put_node-n in
+    let a = c.args in
     let l = c.loop-i in
+    let w = c.put_node.ensures in
+    let n = node-length a.nodes.now a.rims.now l.i in
+    let e = as-long refl (omega (arith, w.text.place, n, length-replicate {A = ℕ} 256 0)) w in
     let q = c.in_ok-send.ensures in
-    let n = length-replicate {A = ℕ} 256 0 in (
-      search rules,
-      more-nodes _ _ _ _ l.invariant.3 l.i l.sent _ _ l.invariant.1 (front p.ensures) q,
-      omega (arith, l.invariant.2, q, length-take p.result p.new.out, fits p.ensures p.auto.out, n),
-      l.invariant.3,
-    )
+    record {
+      sent = more-nodes _ _ _ _ l.invariant.left l.i l.sent _ (node_text a.nodes.now a.rims.now l.i) l.invariant.sent refl (omega (arith, q, e));
+      bound = omega (arith, l.invariant.bound, q, e, n);
+      left = l.invariant.left;
+    }
 
 pub returns : goal.returns
 returns g c =
     let l = c.loop-i in
-    let a = c.args in
-    let e : l.i ≡ a.used = omega arith in
-    all-nodes _ _ _ _ l.invariant.3 l.i l.sent e l.invariant.1 (omega (arith, l.invariant.2, e, few-left _ _ _ _ l.invariant.3))
+    let e : l.i ≡ c.args.used = omega (arith, l.auto.i-end, c.loop-i-test.false) in
+    all-nodes _ _ _ _ l.invariant.left l.i l.sent e l.invariant.sent (omega (arith, l.invariant.bound, e, few-left _ _ _ _ l.invariant.left))

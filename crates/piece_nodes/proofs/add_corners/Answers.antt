@@ -1,8 +1,7 @@
-use mathlib.Core.Path.{◌≡◌, sym, subst}
-use Prim.Native.Nat.{ℕ, ◌≤◌, ◌<◌}
+use mathlib.Core.Path.{sym, subst}
+use Prim.Native.Nat.{◌≤◌, ◌<◌}
 use lib.ListN.{length}
 use Rattle.nodes.specs.Growth.{InRange}
-use Rattle.piece_nodes.specs.Adding.{corner_at, Adds}
 use Rattle.piece_nodes.proofs.Adding as adding
 use native.Mathlib.Omega.{arith}
 use Rattle.piece_nodes.proofs.add_corners.Goals as goal
@@ -24,10 +23,3 @@ add_node-r-requires c =
 pub loop-i-preserved : goal.loop-i-preserved
 loop-i-preserved c =
     adding.next c.loop-i.invariant (omega (arith, c.requires.0.few)) c.new.ensures c.add_node-r.ensures.0 c.add_node-r.ensures.1
-
-pub returns : goal.returns
-returns c =
-    let a = c.args in
-    let l = c.loop-i in
-    let e : l.i ≡ length a.points.now = omega arith in
-    subst (λ (k : ℕ). Adds a.nodes.now a.used (corner_at a.points.now) k l.nodes l.at l.list) e l.invariant

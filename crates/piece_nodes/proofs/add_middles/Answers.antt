@@ -10,7 +10,7 @@ use Rattle.nodes.specs.Growth.{InRange}
 use Rattle.nodes.specs.Flat.{nodes_in}
 use Rattle.quads.specs.declared.Middle.{Middle}
 use Rattle.marks.specs.Edges.{marks_in}
-use Rattle.piece_nodes.specs.Adding.{Adds, end_at, middle_at, far_at}
+use Rattle.piece_nodes.specs.Adding.{end_at}
 use Rattle.quads.specs.Flat.{middle_of}
 use Rattle.piece_nodes.proofs.Adding as adding
 use Rattle.quads.proofs.Turns as turns
@@ -42,16 +42,6 @@ pub loop-i-init : goal.loop-i-init
 unfolding any
 loop-i-init c = (adding.start _ c.requires.0.usable.room c.requires.4, refl)
 
-pub node_at-a-requires : goal.node_at-a-requires
-node_at-a-requires c =
-    let l = c.loop-i in
-    omega (arith, adding.same_size c.requires.0 l.invariant.0 (omega (arith, c.requires.2)), c.requires.1 l.i (omega (arith, c.requires.2)), c.requires.0.usable.room)
-
-pub node_at-b-requires : goal.node_at-b-requires
-node_at-b-requires c =
-    let l = c.loop-i in
-    omega (arith, adding.same_size c.requires.0 l.invariant.0 (omega (arith, c.requires.2)), c.requires.1 _ c.next-j.ensures.1, c.requires.0.usable.room)
-
 pub add_node-r-requires : goal.add_node-r-requires
 add_node-r-requires c =
     let l = c.loop-i in
@@ -66,14 +56,4 @@ loop-i-preserved c =
     let l = c.loop-i in (
       adding.next l.invariant.0 (omega (arith, c.loop-i-test.true, c.requires.0.few)) (ap (λ (m : Middle). m.at) m) c.add_node-r.ensures.0 c.add_node-r.ensures.1,
       any_next _ l.i l.far _ l.invariant.1 (ap (λ (m : Middle). m.far) m),
-    )
-
-pub returns : goal.returns
-returns c =
-    let a = c.args in
-    let l = c.loop-i in
-    let e : l.i ≡ length a.vs.now = omega arith in (
-      subst (λ (k : ℕ). Adds a.nodes.now a.used (middle_at a.share a.nodes.now a.used a.vs.now a.marks.now (length a.vs.now)) k l.nodes l.at l.list)
-          e l.invariant.0,
-      l.invariant.1 ∙ ap (any (far_at a.share a.nodes.now a.used a.vs.now a.marks.now (length a.vs.now))) e,
     )

@@ -83,8 +83,3 @@ none-of (Some k) h = absurd (h k refl)
 pub loop-i-preserved : goal.loop-i-preserved
 loop-i-preserved c =
     course.go_on c.requires.0 _ c.loop-i.invariant (read (goal.at.loop-i-preserved c).After-piece_sides-sides) c.subdivide-t.ensures (none-of _ c.in_default.not-Some)
-
-pub returns : goal.returns
-returns c =
-    let e : c.loop-i.i ≡ c.args.pieces.now.count = omega arith in
-    course.all_done c.requires.0 _ c.loop-i.invariant e

@@ -3,23 +3,15 @@ use Prim.Native.Nat.{ℕ}
 use lib.ListN.{length, get_or}
 use lib.Ieee.{of_bits, of_int, round}
 use Rattle.laws.specs.Double.{nat, ◌/f◌}
-use Rattle.vector.specs.declared.Point.{Point}
 use Rattle.nodes.specs.Flat.{node_in_of}
 use Rattle.quads.specs.Quads as Quads
 use Rattle.quads.specs.Quads.{total}
-use Rattle.quads.proofs.Turns.{total-next}
 use native.Mathlib.Omega.{arith}
 use Rattle.quads.proofs.mean.Goals as goal
 
 pub loop-v-init : goal.loop-v-init
 unfolding total of_bits of_int round
 loop-v-init c = (refl, refl)
-
-pub loop-v-preserved : goal.loop-v-preserved
-loop-v-preserved c =
-    let l = c.loop-v in
-    let e = c.node_at-p.ensures in
-    (total-next _ l.v-index l.x _ l.invariant.0 (ap (λ (p : Point). p.x) e), total-next _ l.v-index l.y _ l.invariant.1 (ap (λ (p : Point). p.y) e))
 
 pub returns : goal.returns
 unfolding Quads.mean

@@ -4,13 +4,8 @@ use Rattle.text.specs.Text.{bytes}
 use Rattle.text.proofs.Pages.{written-on}
 use Rattle.report.specs.Report as Report
 use Rattle.report.proofs.Lengths.{refused-block-length}
-use Rattle.report.proofs.Print.{unprinted, has_room, printed}
+use Rattle.report.proofs.Print.{has_room, printed}
 use Rattle.report.proofs.print_refused_block.Goals as goal
-
-pub returns-then-out-lt-MOST_TEXT : goal.returns-then-out-lt-MOST_TEXT
-returns-then-out-lt-MOST_TEXT c =
-    let s = c.args in
-    unprinted s.out.now (Report.refused_block s.block s.code) c.if-out-lt-MOST_TEXT.true
 
 pub filled-requires : goal.filled-requires
 unfolding Report.refused_block bytes

@@ -4,13 +4,8 @@ use Rattle.text.specs.Text.{bytes}
 use Rattle.text.proofs.Pages.{written-on}
 use Rattle.report.specs.Report as Report
 use Rattle.report.proofs.Lengths.{refused-ring-length}
-use Rattle.report.proofs.Print.{unprinted, has_room, printed}
+use Rattle.report.proofs.Print.{has_room, printed}
 use Rattle.report.proofs.print_refused_ring.Goals as goal
-
-pub returns-then-out-lt-MOST_TEXT : goal.returns-then-out-lt-MOST_TEXT
-returns-then-out-lt-MOST_TEXT c =
-    let s = c.args in
-    unprinted s.out.now (Report.refused_ring s.ring s.code s.corners s.k) c.if-out-lt-MOST_TEXT.true
 
 pub filled-requires : goal.filled-requires
 unfolding Report.refused_ring bytes

@@ -4,16 +4,13 @@ use lib.Dec.{T}
 use lib.Ieee.{binary64, fits, of_bits, div}
 use lib.Ieee.Bits.{of_bits-to_bits}
 use Rattle.root.specs.Root.{root_of}
-use Rattle.root.proofs.Cases.{not_nan, pattern_pos, no_nan_bits, infinite, zeros, others, nan_is}
+use Rattle.root.proofs.Cases.{pattern_pos, no_nan_bits, infinite, zeros, others, nan_is}
 use Rattle.root.proofs.root.Goals as goal
 use Rattle.root.proofs.root.Goals.{Start}
 
 -- what owning an `f64` tells: the format holds it
 held : (c : Start) → T (fits binary64 c.args.x)
 held c = subst T (sym c.well_formed.0.1) tt
-
-pub float_to_bits-b : goal.float_to_bits-b
-float_to_bits-b c = not_nan c.args.x c.if-x.true
 
 pub root_positive-requires : goal.root_positive-requires
 root_positive-requires c = (pattern_pos c.args.x (held (goal.at.root_positive-requires c).Start) c.if-x.true, c.if-b-lt9218868437227405312.true)

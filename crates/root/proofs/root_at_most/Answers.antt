@@ -1,8 +1,7 @@
 -- `root_at_most`: by `root-above` where no root is taken.
-use mathlib.Core.Path.{sym, ap, subst}
+use mathlib.Core.Path.{sym, subst}
 use lib.Dec.{T}
-use lib.Ieee.{Float, binary64, fits, of_bits}
-use Rattle.laws.specs.Double.{◌≤f◌}
+use lib.Ieee.{binary64, fits, of_bits}
 use Rattle.root.proofs.AtLeast.{root-above}
 use Rattle.root.proofs.root_at_most.Goals as goal
 use Rattle.root.proofs.root_at_most.Goals.{Start}
@@ -14,6 +13,3 @@ held c = subst T (sym c.well_formed.0.1) tt
 pub returns-then-t : goal.returns-then-t
 unfolding of_bits
 returns-then-t c = sym (root-above c.args.x c.args.t (held (goal.at.returns-then-t c).Start) c.if-x.true c.if-t.true)
-
-pub returns : goal.returns
-returns c = ap (λ (d : Float). d ≤f c.args.t) c.root.ensures

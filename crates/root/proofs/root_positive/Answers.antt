@@ -47,34 +47,13 @@ small : (c : After-root_digits-s) → c.root_digits-s.result < 2 ^ 54 - 1
 small c =
     root-to (c.if-f-gt0.m * 2 ^ shift c.if-f-gt0.k c.from-z.result) c.root_digits-s.result (handed c.before.before.before) (got c)
 
-pub overflow_add-e : goal.overflow_add-e
-overflow_add-e c = omega (arith, (at_join (goal.at.overflow_add-e c).Joined-f-gt0).most)
-
-pub overflow_sub-e : goal.overflow_sub-e
-overflow_sub-e c = omega (arith, (leads (goal.at.overflow_sub-e c).After-from-z).high)
-
 pub overflow_sub-n : goal.overflow_sub-n
 overflow_sub-n c = (leads (goal.at.overflow_sub-n c).After-from-z).low
-
-pub overflow_add-n : goal.overflow_add-n
-overflow_add-n c = omega (arith, (leads (goal.at.overflow_add-n c).After-from-z).high)
-
-pub overflow_shl-n : goal.overflow_shl-n
-overflow_shl-n c = omega (arith, (leads (goal.at.overflow_shl-n c).After-from-z).high)
 
 pub root_digits-s-requires : goal.root_digits-s-requires
 root_digits-s-requires c =
     subst (λ (x : ℕ). (2 ^ 52 ≤ x) × (x < 2 ^ 54)) (sym (kept (c.if-f-gt0.m * 2 ^ shift c.if-f-gt0.k c.from-z.result) (handed (goal.at.root_digits-s-requires c).After-from-z)))
     ((handed (goal.at.root_digits-s-requires c).After-from-z).from, omega (arith, (handed (goal.at.root_digits-s-requires c).After-from-z).to))
-
-pub overflow_mul-result : goal.overflow_mul-result
-overflow_mul-result c = omega (arith, (at_join (goal.at.overflow_mul-result c).Joined-f-gt0).most)
-
-pub overflow_add-result-2 : goal.overflow_add-result-2
-overflow_add-result-2 c = omega (arith, small c)
-
-pub overflow_add-result-3 : goal.overflow_add-result-3
-overflow_add-result-3 c = omega (arith, (at_join (goal.at.overflow_add-result-3 c).Joined-f-gt0).most, small c)
 
 pub returns : goal.returns
 returns c =

@@ -1,10 +1,7 @@
-use Prim.Native.Nat.{◌-◌, ◌≤◌}
+use Prim.Native.Nat.{◌≤◌}
 use mathlib.Core.Path.{refl, sym, ◌∙◌}
-use mathlib.Core.Bool.{true}
 use lib.ListN.{length, take, length-take}
 use borrow.Author.Tests.{not-true, not-false}
-use Rattle.laws.proofs.Lists.{part_length}
-use Rattle.job.proofs.Runs.{not-both}
 use Rattle.run.proofs.Reaching.{begun-unwritten, can_step, finished, falls, owes, wrote}
 use native.Mathlib.Omega.{arith}
 use Rattle.run.proofs.run.Goals as goal
@@ -12,38 +9,9 @@ use Rattle.run.proofs.run.Goals as goal
 pub loop-ring-init : goal.loop-ring-init
 loop-ring-init g c = (begun-unwritten c.new-s.result c.new-s.ensures, refl, refl, refl, refl, refl)
 
-pub slice_bounds-read_block-end : goal.slice_bounds-read_block-end
-slice_bounds-read_block-end g c = sym c.loop-ring.invariant.4
-
-pub slice_bounds-bytes-end : goal.slice_bounds-bytes-end
-slice_bounds-bytes-end g c = let q = c.read_block-got in omega (arith, q.ensures, q.auto.bytes, c.loop-ring.invariant.4)
-
-pub slice_bounds-step-end : goal.slice_bounds-step-end
-slice_bounds-step-end g c =
-    let q = c.read_block-got in
-    part_length _ 512 _ (q.auto.bytes ∙ c.loop-ring.invariant.4) q.ensures
-
-pub slice_bounds-step-end-in-loop-ring : goal.slice_bounds-step-end-in-loop-ring
-slice_bounds-step-end-in-loop-ring g c = sym c.loop-ring.invariant.1
-
-pub slice_bounds-step-end-in-loop-ring-2 : goal.slice_bounds-step-end-in-loop-ring-2
-slice_bounds-step-end-in-loop-ring-2 g c = sym c.loop-ring.invariant.2
-
-pub slice_bounds-step-end-in-loop-ring-3 : goal.slice_bounds-step-end-in-loop-ring-3
-slice_bounds-step-end-in-loop-ring-3 g c = sym c.loop-ring.invariant.3
-
-pub slice_bounds-step-end-in-loop-ring-4 : goal.slice_bounds-step-end-in-loop-ring-4
-slice_bounds-step-end-in-loop-ring-4 g c = sym c.loop-ring.invariant.5
-
 pub step-stepped-requires : goal.step-stepped-requires
 step-stepped-requires g c =
     let l = c.loop-ring in (can_step _ _ _ _ l.invariant.0.reached, l.invariant.5)
-
-pub slice_bounds-tell-end : goal.slice_bounds-tell-end
-slice_bounds-tell-end g c =
-    sym
-    (c.step-stepped.auto.cells
-    ∙ c.loop-ring.invariant.5)
 
 pub tell-requires : goal.tell-requires
 tell-requires g c =

@@ -1,33 +1,16 @@
-use Prim.Native.Nat.{◌/◌}
-use mathlib.Core.Path.{◌≡◌, refl, ap, ◌∙◌}
-use lib.ListN.{length}
-use Rattle.scene.specs.Scene as Scene
-use Rattle.scene.proofs.Snaps.{across-more}
-use native.Mathlib.Omega.{arith}
-use borrow.Author.Rules.{rules}
+-- `across`: the cells are looked through from the last.
+use mathlib.Core.Path.{ap, ◌∙◌}
+use Rattle.std.proofs.Common.{rules, tests}
+use Rattle.std.proofs.lemmas.Iterator.Adapters.{YieldsList-from_rev_slice}
+use Rattle.std.proofs.lemmas.Iterator.Search.{find_from_yields_List}
+use Rattle.scene.proofs.Cells.{wanted, its-corner, corner_of, across-last}
 use Rattle.scene.proofs.across.Goals as goal
-
-pub loop-j-init : goal.loop-j-init
-unfolding Scene.across
-loop-j-init c = (search rules, search rules, search rules, refl, search rules)
-
-pub followed-found-requires : goal.followed-found-requires
-followed-found-requires c = (omega arith, omega arith)
-
-pub loop-j-preserved : goal.loop-j-preserved
-loop-j-preserved c =
-    let l = c.loop-j in
-    let a = c.args in (
-      search rules,
-      l.invariant.1,
-      l.invariant.2,
-      across-more a.cells.now a.c a.m l.j _ l.found c.followed-found.ensures.0 l.invariant.3,
-      c.followed-found.ensures.1,
-    )
 
 pub returns : goal.returns
 returns c =
-    let l = c.loop-j in
     let a = c.args in
-    let e : l.j ≡ length a.cells.now / 4 = omega arith in
-    (l.invariant.3 ∙ ap (Scene.across a.cells.now a.c a.m) e, l.invariant.4)
+    let k = c.as_chunks in
+    its-corner c.map_or.result c.find-last.result c.map_or.ensures (λ x p. search (rules, tests))
+    ∙ ap corner_of
+    (find_from_yields_List (wanted a.c a.m) _ _ _ c.find-last.ensures.ran (YieldsList-from_rev_slice k.result.0.now (cc)) (λ x b q z. search (rules, tests)))
+    ∙ across-last a.c a.m a.cells.now k.result.0.now k.ensures.front k.ensures.front_len

@@ -1,68 +1,28 @@
--- `put_quad`: four texts one after the other.
-use mathlib.Core.List.{◌++◌}
-use mathlib.Core.Path.{◌∙◌}
-use Rattle.text.proofs.Writing.{join, room, shorter}
-use Rattle.text.proofs.Chain.{room-first, room-second, room-third, three}
+-- `put_quad`: the cell and its two halves, one after the other, and the sign after them.
+use Rattle.text.proofs.Pages.{room-one, room-two, wrote-two, room-first, room-second, room-third, wrote-three}
 use Rattle.scene.specs.Scene as Scene
 use Rattle.scene.proofs.put_quad.Goals as goal
 
-pub put_cell-first-requires : goal.put_cell-first-requires
+pub put_cell-requires : goal.put_cell-requires
 unfolding Scene.quad_text
-put_cell-first-requires c =
-    let q = c.args.q in
-    let a = Scene.cell_text q.centre q.ahead q.corner q.behind in
-    let b = Scene.half_text q.first q.corner q.ahead in
-    let d = Scene.half_text q.second q.corner q.behind in
-    let h = shorter c.args.at _ (a ++ b ++ d) (Scene.snap_text q) c.requires in
-    room-first c.args.out.now c.args.at a b d h
+put_cell-requires c = room-first _ _ _ (room-one _ _ c.requires)
 
-pub put_half-second-requires : goal.put_half-second-requires
+pub put_half-requires : goal.put_half-requires
 unfolding Scene.quad_text
-put_half-second-requires c =
-    let q = c.args.q in
-    let a = Scene.cell_text q.centre q.ahead q.corner q.behind in
-    let b = Scene.half_text q.first q.corner q.ahead in
-    let d = Scene.half_text q.second q.corner q.behind in
-    let h = shorter c.args.at _ (a ++ b ++ d) (Scene.snap_text q) c.requires in
-    room-second c.args.out.now c.args.at a b d h c.put_cell-first.ensures
+put_half-requires c = room-second _ _ _ (room-one _ _ c.requires) c.put_cell.ensures
 
-pub put_half-third-requires : goal.put_half-third-requires
+pub put_half-requires-2 : goal.put_half-requires-2
 unfolding Scene.quad_text
-put_half-third-requires c =
-    let q = c.args.q in
-    let a = Scene.cell_text q.centre q.ahead q.corner q.behind in
-    let b = Scene.half_text q.first q.corner q.ahead in
-    let d = Scene.half_text q.second q.corner q.behind in
-    let h = shorter c.args.at _ (a ++ b ++ d) (Scene.snap_text q) c.requires in
-    room-third c.args.out.now c.args.at a b d h c.put_cell-first.ensures
-    c.put_half-second.ensures
+put_half-requires-2 c = room-third _ _ _ (room-one _ _ c.requires) c.put_cell.ensures c.put_half.ensures
 
 pub put_snap-requires : goal.put_snap-requires
 unfolding Scene.quad_text
 put_snap-requires c =
-    let q = c.args.q in
-    let a = Scene.cell_text q.centre q.ahead q.corner q.behind in
-    let b = Scene.half_text q.first q.corner q.ahead in
-    let d = Scene.half_text q.second q.corner q.behind in
-    let h = shorter c.args.at _ (a ++ b ++ d) (Scene.snap_text q) c.requires in
-    room c.args.out.now c.args.at (a ++ b ++ d) (Scene.snap_text q) c.requires
-    (three c.args.out.now c.args.at a b d h c.put_cell-first.ensures
-    c.put_half-second.ensures c.put_half-third.ensures)
-
-pub shape_of-out : goal.shape_of-out
-shape_of-out c =
-    c.put_snap.auto.out ∙ c.put_half-third.auto.out
-    ∙ c.put_half-second.auto.out ∙ c.put_cell-first.auto.out
+    let h = room-one _ _ c.requires in
+    room-two _ _ c.requires (wrote-three _ _ _ h c.put_cell.ensures c.put_half.ensures c.put_half-2.ensures)
 
 pub returns : goal.returns
 unfolding Scene.quad_text
 returns c =
-    let q = c.args.q in
-    let a = Scene.cell_text q.centre q.ahead q.corner q.behind in
-    let b = Scene.half_text q.first q.corner q.ahead in
-    let d = Scene.half_text q.second q.corner q.behind in
-    let h = shorter c.args.at _ (a ++ b ++ d) (Scene.snap_text q) c.requires in
-    join c.args.out.now c.args.at (a ++ b ++ d) (Scene.snap_text q) c.requires
-    (three c.args.out.now c.args.at a b d h c.put_cell-first.ensures
-    c.put_half-second.ensures c.put_half-third.ensures)
-    c.put_snap.ensures
+    let h = room-one _ _ c.requires in
+    wrote-two _ _ c.requires (wrote-three _ _ _ h c.put_cell.ensures c.put_half.ensures c.put_half-2.ensures) c.put_snap.ensures

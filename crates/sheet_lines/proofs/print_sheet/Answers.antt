@@ -1,11 +1,5 @@
-use Prim.Native.Nat.{ℕ, ◌-◌}
-use mathlib.Core.Path.{◌≡◌, refl, sym, ap, ◌∙◌}
-use mathlib.Core.Bool.{true}
-use lib.ListN.{length}
-use borrow.Author.Tests.{not-false}
-use Rattle.listing.specs.Sheet.{lines}
+use mathlib.Core.Path.{sym, ◌∙◌}
 use Rattle.listing.proofs.Tests.{usable}
-use Rattle.job.proofs.Runs.{not-both}
 use Rattle.sheet_lines.proofs.Lines.{whole-line, none_written, more-lines, few_bytes}
 use borrow.Author.Rules.{rules}
 use native.Mathlib.Omega.{arith}
@@ -18,16 +12,6 @@ loop-i-init g c = (
   none_written c.args.nodes.now,
   c.requires,
 )
-
-pub put_line-requires : goal.put_line-requires
-put_line-requires g c =
-    let l = c.loop-i in
-    let u = l.invariant.1 in
-    let h = c.loop-i-test.true in
-    (omega (arith, u.few, h), omega (arith, u.room, h), (u.ranged l.i h).0, (u.ranged l.i h).1, search rules)
-
-pub slice_bounds-send-end : goal.slice_bounds-send-end
-slice_bounds-send-end g c = sym c.put_line.auto.out
 
 pub send-requires : goal.send-requires
 send-requires g c =
@@ -62,10 +46,3 @@ loop-i-preserved g c =
       more-lines a.nodes.now l.i l.sent _ _ l.invariant.2 t c.in_ok-send.ensures,
       l.invariant.3,
     )
-
-pub returns : goal.returns
-returns g c =
-    let l = c.loop-i in
-    let a = c.args in
-    let e : l.i ≡ a.used = omega arith in
-    l.invariant.2 ∙ ap (λ (k : ℕ). length (lines a.nodes.now k)) e

@@ -1,22 +1,9 @@
-use Prim.Native.Nat.{◌+◌}
-use mathlib.Core.Path.{refl, sym, ◌∙◌}
-use native.Mathlib.Omega.{arith}
+use mathlib.Core.Path.{sym, ◌∙◌}
 use borrow.Author.Tests.{ne_eqb, eq-eqb}
-use Rattle.laws.specs.Bounded.{any}
 use Rattle.laws.proofs.Search as search-laws
 use Rattle.simple.proofs.Pairs as pairs
 use Rattle.simple.proofs.polygon_simple.Goals as goal
 use Rattle.simple.proofs.polygon_simple.Goals.{else-k-i-via-then-k-i+else-segments_cross, else-k-i-via-else-k-i, else-scan-test, then-scan-test+then-loop-j-test+then-k-i+then-segments_cross}
-
-pub returns-then-n-lt3 : goal.returns-then-n-lt3
-returns-then-n-lt3 c = pairs.too_few c.args.ring.now c.if-n-lt3.true
-
-pub scan-init : goal.scan-init
-unfolding any
-scan-init c = (refl, refl)
-
-pub loop-j-init : goal.loop-j-init
-loop-j-init c = (c.scan.invariant.0, pairs.none_before c.args.ring.now c.scan.i (c.scan.i + 2) (omega arith))
 
 pub loop-j-preserved : goal.loop-j-preserved
 loop-j-preserved c =
@@ -29,12 +16,6 @@ loop-j-preserved c =
             | else-k-i-via-else-k-i w ↦ sym j ∙ rw (eq-eqb _ _ w.if-k-i.false)
           ]),
     )
-
-pub scan-preserved : goal.scan-preserved
-scan-preserved c =
-    let l = c.loop-j in
-    let s = c.scan in
-    (l.invariant.0, search-laws.any-pass _ _ s.invariant.1 (pairs.any-fewer _ l.j _ l.invariant.1 c.loop-j-test.false))
 
 pub returns : goal.returns
 returns c =

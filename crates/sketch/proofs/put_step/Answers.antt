@@ -1,19 +1,23 @@
 -- `put_step`: both texts have room, and stand one after the other.
-use Rattle.sketch.specs.Drawn.{lead_at}
-use Rattle.sketch.proofs.Parts.{drawn-length, lead_length-at, lead_room, both, both_end}
+use Rattle.text.proofs.Pages.{room-one, room-two, wrote-two}
+use Rattle.sketch.proofs.Parts.{step-room, step-end}
 use Rattle.sketch.proofs.put_step.Goals as goal
+
+pub put_told-requires : goal.put_told-requires
+put_told-requires c =
+    let s = c.args in
+    let h = step-room s.page.now s.f s.told _ _ _ _ _ s.job.now s.i c.requires.0 s.points.now.few c.requires.3 in
+    (c.requires.0, room-one _ _ h)
 
 pub put_lead-requires : goal.put_lead-requires
 put_lead-requires c =
-    let a = c.args in
-    let short = drawn-length a.f a.told a.count a.points.now a.nodes.now a.rims.now a.cells.now c.requires.0 c.requires.1 in
-    (c.requires.2, c.requires.3, lead_room (lead_at a.job.now a.i) c.requires.4 short (lead_length-at a.job.now a.i) c.put_told-n.ensures)
+    let s = c.args in
+    let h = step-room s.page.now s.f s.told _ _ _ _ _ s.job.now s.i c.requires.0 s.points.now.few c.requires.3 in
+    (c.requires.1, c.requires.2, room-two _ _ h c.put_told.ensures)
 
 pub returns : goal.returns
 returns c =
-    let a = c.args in
-    let short = drawn-length a.f a.told a.count a.points.now a.nodes.now a.rims.now a.cells.now c.requires.0 c.requires.1 in
-    let lead = lead_length-at a.job.now a.i in (
-      both (lead_at a.job.now a.i) c.requires.4 short lead c.put_told-n.ensures c.put_lead.ensures,
-      both_end (lead_at a.job.now a.i) c.requires.4 short lead c.put_told-n.ensures c.put_lead.ensures,
-    )
+    let s = c.args in
+    let h = step-room s.page.now s.f s.told _ _ _ _ _ s.job.now s.i c.requires.0 s.points.now.few c.requires.3 in
+    let w = wrote-two _ _ h c.put_told.ensures c.put_lead.ensures in
+    (w, step-end s.page.now s.f s.told _ _ _ _ _ s.job.now s.i c.requires.0 s.points.now.few w)

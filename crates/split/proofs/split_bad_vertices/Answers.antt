@@ -1,16 +1,15 @@
 -- `split_bad_vertices`: the start shows the ring alone, and what is left after all pops is read off.
-use Rattle.std.proofs.Common.{◌≡◌, ℕ, ◌≤◌, ◌<◌, List, length, take, refl, sym, ap, ◌∙◌, subst, arith}
+use Rattle.std.proofs.Common.{◌≡◌, ℕ, ◌≤◌, List, length, take, refl, sym, ap, ◌∙◌, subst, arith}
 use lib.Dec.{lit<}
 use lib.ListN.{get_or-replicate}
 use lib.Seq.{length-take-le, take-length}
 use Rattle.laws.specs.Table.{tab}
-use Rattle.laws.proofs.Lists.{all_same}
 use Rattle.laws.proofs.Table.{length_tab, take-of}
 use Rattle.vector.specs.Rings.{most_points}
 use Rattle.parts.specs.declared.Vertex.{Vertex}
-use Rattle.parts.specs.Vertices.{no_vertex, blank, Below}
+use Rattle.parts.specs.Vertices.{no_vertex, blank}
 use Rattle.parts.specs.Layout.{Pushed}
-use Rattle.parts.proofs.Stored.{below-take}
+use Rattle.parts.proofs.Stored.{blank_below, below-take}
 use Rattle.split.specs.Split.{split_bad_vertices}
 use Rattle.split.specs.State.{own_vertex}
 use Rattle.split.proofs.Popped as Popped
@@ -27,7 +26,7 @@ own-front vs n e h =
 pub push-requires : goal.push-requires
 push-requires c =
     let n = own-length c.own_corners.result c.args.ring.now.count c.own_corners.ensures.0 c.requires.0.count in (
-      Popped.nothing-kept _ (all_same (λ v. v.at < 60) no_vertex 124 _ (lit< tt) (lit< tt)) refl,
+      Popped.nothing-kept _ (blank_below 124) refl,
       lit< tt,
       omega (arith, n, c.requires.1),
       omega (arith, n, c.requires.0.count),
@@ -40,7 +39,7 @@ pops-requires c =
     let p = c.push in
     let n = own-length c.own_corners.result c.args.ring.now.count c.own_corners.ensures.0 c.requires.0.count in (
       Popped.within-start _ (take c.args.ring.now.count c.own_corners.result) _ p.new.self p.ensures
-          (all_same (λ v. v.at < 60) no_vertex 124 _ (lit< tt) (lit< tt)) refl (λ i l. get_or-replicate 124 i blank no_vertex l) (omega (arith, n, c.requires.0.count)),
+          (blank_below 124) refl (λ i l. get_or-replicate 124 i blank no_vertex l) (omega (arith, n, c.requires.0.count)),
       c.requires.0.points,
       c.requires.2,
     )

@@ -1,75 +1,33 @@
--- `step`: laws in proofs/Answers and Stepping.
-use Rattle.step.proofs.Answers.{answered}
-use Rattle.step.proofs.Stepping.{cells_as, goes_on, has_ended}
+-- `step`: what was read is a block with the number of the state, of two bytes; what was refused leaves the cell list empty.
+use mathlib.Core.Path.{◌≡◌, sym, ◌∙◌}
 use native.Mathlib.Omega.{arith}
+use borrow.Author.Rules.{rules}
+use Rattle.blocks.specs.Fields.{pair}
+use Rattle.blocks.proofs.Accepted.{was_allowed}
+use Rattle.blocks.proofs.Counts.{few-points, all-places}
+use Rattle.job.specs.Step.{no_cells, answered, step_of}
 use Rattle.step.proofs.step.Goals as goal
 
 pub returns-then-at_end : goal.returns-then-at_end
+unfolding step_of
 returns-then-at_end c =
     let a = c.args in
-    let t = c.at_end in
-    let k = c.clear in (
-      cells_as _ _ a.ring.now a.nodes.now a.rims.now k.new.cells k.ensures
-          (has_ended a.s a.ring.now a.nodes.now a.rims.now a.bytes.now t.result t.ensures c.if-at_end.true c.closed.result
-          c.closed.ensures),
-      λ i. omega (arith, c.shared_slice_known-1.given i),
-    )
+    let e : c.fill.new.self ≡ no_cells = search rules in
+    (rw (sym c.at_end.ensures ∙ c.if-at_end.true, e) (c.end.ensures a.ring.now a.nodes.now a.rims.now), λ i. omega (arith, c.type_inv.bytes i))
 
-pub ring_block-requires : goal.ring_block-requires
-ring_block-requires c =
-    let r = c.read_block-reading in (
-      c.requires.0,
-      answered c.args.bytes.now c.args.s.block
-          (λ i. omega (
-            arith,
-            c.shared_slice_known-1.given i,
-          ))
-          r.result r.ensures,
-      c.if-s-eq0.true,
-    )
+pub take-requires : goal.take-requires
+unfolding pair
+take-requires c =
+    let b = c.args.bytes.now in
+    let n = c.args.s.block in
+    let r = c.in-Ok.reading in
+    let d = sym c.read_block.ensures ∙ c.in-Ok.is in
+    (c.requires.0, search rules, omega (arith, (was_allowed b n r d).number, c.type_inv.bytes 2, c.type_inv.bytes 3), few-points b n r d, all-places b n r d)
 
-pub returns-then-s-eq0 : goal.returns-then-s-eq0
-returns-then-s-eq0 c =
+pub returns-in-Err : goal.returns-in-Err
+unfolding step_of answered
+returns-in-Err c =
     let a = c.args in
-    let t = c.at_end in
-    let r = c.read_block-reading in
-    let k = c.clear in
-    let b = c.ring_block in (
-      cells_as _ b.result _ a.nodes.now a.rims.now k.new.cells k.ensures
-          (goes_on a.s a.ring.now a.nodes.now a.rims.now a.bytes.now t.result t.ensures
-          c.if-at_end.false r.result r.ensures _ a.nodes.now a.rims.now _
-          b.result (b.ensures a.nodes.now a.rims.now)),
-      λ i. omega (
-        arith,
-        c.shared_slice_known-1.given i,
-      ),
-    )
-
-pub chain_block-requires : goal.chain_block-requires
-chain_block-requires c =
-    let r = c.read_block-reading in (
-      c.requires.0,
-      c.clear.ensures,
-      answered c.args.bytes.now c.args.s.block
-          (λ i. omega (
-            arith,
-            c.shared_slice_known-1.given i,
-          ))
-          r.result r.ensures,
-      omega (arith, c.if-s-eq0.false),
-    )
-
-pub returns : goal.returns
-returns c =
-    let a = c.args in
-    let t = c.at_end in
-    let r = c.read_block-reading in
-    let b = c.chain_block in (
-      goes_on a.s a.ring.now a.nodes.now a.rims.now a.bytes.now t.result t.ensures
-          c.if-at_end.false
-          r.result r.ensures a.ring.now _ _ _ b.result b.ensures,
-      λ i. omega (
-        arith,
-        c.shared_slice_known-1.given i,
-      ),
-    )
+    let e : c.fill.new.self ≡ no_cells = search rules in
+    let d = sym c.read_block.ensures ∙ c.in-Err.is in
+    (rw (sym c.at_end.ensures ∙ c.if-at_end.false, d, e) (c.end-in-Err.ensures a.ring.now a.nodes.now a.rims.now), λ i. omega (arith, c.type_inv.bytes i))

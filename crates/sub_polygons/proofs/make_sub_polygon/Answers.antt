@@ -1,9 +1,8 @@
 -- `make_sub_polygon`: the part is kept or turned round by the sign of its area.
-use Prim.Native.Nat.{◌^◌}
 use mathlib.Core.Path.{◌≡◌, refl, ap, ◌∙◌}
 use mathlib.Core.Bool.{true, false}
 use native.Mathlib.Omega.{arith}
-use lib.Dec.{lit≤, lit<}
+use lib.Dec.{lit≤}
 use lib.IntN.{nat_abs}
 use Rattle.laws.proofs.Signed.{back}
 use Rattle.parts.proofs.Segments as Segments

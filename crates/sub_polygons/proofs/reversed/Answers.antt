@@ -1,6 +1,5 @@
 -- `reversed`: each turn puts one corner more, counted back, with the edge of the corner before it.
-use Rattle.std.proofs.Common.{◌≡◌, ℕ, ◌+◌, ◌-◌, ◌<◌, List, length, get_or, take, drop, reverse, refl, sym, ap, ◌∙◌, arith}
-use lib.Dec.{lit<}
+use Rattle.std.proofs.Common.{◌≡◌, ℕ, ◌+◌, ◌-◌, ◌<◌, List, length, drop, reverse, refl, ap, ◌∙◌, arith}
 use lib.ListN.{length-set, length-drop, length-reverse}
 use lib.Seq.{get_or-drop}
 use Rattle.std.specs.List.{zip}
@@ -10,13 +9,11 @@ use Rattle.std.proofs.lemmas.Iterator.Consumers.{YieldsList-turn, YieldsList-end
 use Rattle.std.proofs.lemmas.List.{length_push}
 use Rattle.std.proofs.lemmas.List.FromFn.{length-enumerate_from, get_or-enumerate_from}
 use Rattle.std.proofs.lemmas.Slice.Zip.{length-zip, get_or-zip}
-use Rattle.laws.specs.Table.{tab}
-use Rattle.laws.proofs.Lists.{all_same, all_set}
 use Rattle.laws.proofs.Table.{more, more-last, tab_none}
 use Rattle.parts.specs.declared.Vertex.{Vertex}
-use Rattle.parts.specs.Vertices.{no_vertex, vertex, backward}
+use Rattle.parts.specs.Vertices.{vertex, backward}
 use Rattle.parts.proofs.Segments as Segments
-use Rattle.parts.proofs.Stored.{reverse-at}
+use Rattle.parts.proofs.Stored.{blank_below, set_below, reverse-at}
 use Rattle.sub_polygons.proofs.reversed.Goals as goal
 use Rattle.sub_polygons.proofs.reversed.Goals.{In-Some}
 
@@ -53,7 +50,7 @@ turn c =
     )
 
 pub loop-i-init : goal.loop-i-init
-loop-i-init c = (refl, tab_none _, all_same (λ v. v.at < 60) no_vertex 60 _ (lit< tt) (lit< tt))
+loop-i-init c = (refl, tab_none _, blank_below 60)
 
 pub loop-i-preserved : goal.loop-i-preserved
 loop-i-preserved c =
@@ -68,7 +65,7 @@ loop-i-preserved c =
     rw (n, t.1) (
       length-set l.out (length l.yielded) _ ∙ l.invariant.0,
       more (backward vs m) l.out (length l.yielded) _ (omega (arith, l.invariant.0, t.0)) l.invariant.1 e,
-      all_set (λ v. v.at < 60) no_vertex l.out (length l.yielded) _ l.invariant.2 (rw t.2 (c.requires.2 _)),
+      set_below l.out (length l.yielded) _ l.invariant.2 (rw t.2 (c.requires.2 _)),
     )
 
 pub returns : goal.returns
@@ -84,5 +81,5 @@ returns c =
     let z : 0 ≡ m - 1 - length l.yielded = omega (arith, e) in (
       more-last (backward vs m) l.out (length l.yielded) m _ e (omega arith) (omega (arith, e)) l.invariant.1
           (Segments.backward-last vs m (length l.yielded) (vertex vs 0) e (ap (vertex vs) z)),
-      all_set (λ v. v.at < 60) no_vertex l.out (m - 1) _ l.invariant.2 (c.requires.2 0),
+      set_below l.out (m - 1) _ l.invariant.2 (c.requires.2 0),
     )

@@ -1,16 +1,11 @@
 -- `second_part`: the corners from the diagonal's end on, back to its start.
 use Prim.Native.Nat.{◌+◌, ◌-◌, ◌%◌}
-use native.Mathlib.Nat.{mod-lt}
 use mathlib.Core.Path.{ap, ◌∙◌}
 use lib.ListN.{length}
 use native.Mathlib.Omega.{arith}
-use borrow.Author.Rules.{rules}
 use Rattle.parts.specs.Cut.{turned_area}
 use Rattle.parts.proofs.Segments as Segments
 use Rattle.sub_polygons.proofs.second_part.Goals as goal
-
-pub segment-requires : goal.segment-requires
-segment-requires c = (search rules, mod-lt (c.args.v + c.args.k) (omega arith), omega arith, omega arith, c.requires.4)
 
 pub make_sub_polygon-requires : goal.make_sub_polygon-requires
 make_sub_polygon-requires c = (

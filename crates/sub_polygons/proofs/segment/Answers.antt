@@ -1,6 +1,5 @@
 -- `segment`: each turn puts one corner more, counted round.
-use Rattle.std.proofs.Common.{◌≡◌, ℕ, ◌+◌, ◌-◌, ◌%◌, ◌<◌, length, get_or, take, drop, refl, ap, ◌∙◌, arith}
-use lib.Dec.{lit<}
+use Rattle.std.proofs.Common.{◌≡◌, ℕ, ◌+◌, ◌-◌, ◌%◌, ◌<◌, length, take, drop, refl, ap, ◌∙◌, arith}
 use lib.ListN.{length-set}
 use lib.Seq.{get_or-take, length-take-le}
 use Rattle.std.proofs.lemmas.Iterator.{YieldsList-from_slice, YieldsList-from_take}
@@ -8,12 +7,11 @@ use Rattle.std.proofs.lemmas.Iterator.Consumers.{YieldsList-turn, YieldsList-end
 use Rattle.std.proofs.lemmas.List.{length_push}
 use Rattle.std.proofs.lemmas.List.FromFn.{length-enumerate_from, get_or-enumerate_from}
 use Rattle.laws.specs.Table.{tab}
-use Rattle.laws.proofs.Lists.{all_same, all_set}
 use Rattle.laws.proofs.Table.{more, tab_none}
 use Rattle.parts.specs.declared.Vertex.{Vertex}
-use Rattle.parts.specs.Vertices.{no_vertex, vertex}
+use Rattle.parts.specs.Vertices.{vertex}
 use Rattle.parts.proofs.Segments.{closed}
-use Rattle.parts.proofs.Stored.{turned, turned-at, length-turned}
+use Rattle.parts.proofs.Stored.{blank_below, set_below, turned, turned-at, length-turned}
 use Rattle.sub_polygons.proofs.segment.Goals as goal
 use Rattle.sub_polygons.proofs.segment.Goals.{In-Some}
 
@@ -37,7 +35,7 @@ turn c =
     (l, i, ap (λ (p : ℕ × Vertex). p.1) e ∙ get_or-take m (turned vs v) n c.in-Some.c.now l ∙ turned-at vs v n c.in-Some.c.now c.requires.1 (omega arith))
 
 pub loop-i-init : goal.loop-i-init
-loop-i-init c = (refl, tab_none _, all_same (λ v. v.at < 60) no_vertex 60 _ (lit< tt) (lit< tt))
+loop-i-init c = (refl, tab_none _, blank_below 60)
 
 pub loop-i-preserved : goal.loop-i-preserved
 loop-i-preserved c =
@@ -48,7 +46,7 @@ loop-i-preserved c =
     rw (n, t.1) (
       length-set l.out (length l.yielded) _ ∙ l.invariant.0,
       more (λ k. vertex vs ((c.args.v + k) % length vs)) l.out (length l.yielded) c.in-Some.c.now (omega (arith, l.invariant.0, t.0)) l.invariant.1 t.2,
-      all_set (λ v. v.at < 60) no_vertex l.out (length l.yielded) c.in-Some.c.now l.invariant.2 (rw t.2 (c.requires.4 _)),
+      set_below l.out (length l.yielded) c.in-Some.c.now l.invariant.2 (rw t.2 (c.requires.4 _)),
     )
 
 pub returns : goal.returns
@@ -65,4 +63,4 @@ returns c =
     let many = length-take-le m (turned vs v) (omega (arith, length-turned vs v c.requires.1)) in
     let e : length l.yielded ≡ m = omega (arith, t.1, length-enumerate_from 0 (take m (turned vs v)), many) in
     let f : take m l.out ≡ tab (λ k. vertex vs ((v + k) % length vs)) m = rw e at l.invariant.1 in
-    (closed vs (length vs) v m l.out c.requires.2 (omega arith) f, all_set (λ v. v.at < 60) no_vertex l.out (m - 1) _ l.invariant.2 (l.invariant.2 (m - 1)))
+    (closed vs (length vs) v m l.out c.requires.2 (omega arith) f, set_below l.out (m - 1) _ l.invariant.2 (l.invariant.2 (m - 1)))

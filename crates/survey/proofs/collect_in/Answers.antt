@@ -9,15 +9,6 @@ use Rattle.survey.proofs.collect_in.Goals as goal
 use Rattle.survey.proofs.collect_in.Invariants.{State}
 use Rattle.survey.proofs.collect_in.Goals.{Joined-holds, then-holds+else-k-ge-MOST_NEARBY, else-holds}
 
-pub loop-i-init : goal.loop-i-init
-loop-i-init c = (search rules, (c.requires.5, c.requires.3, c.requires.4, λ a b p q g. g))
-
-pub shape_of-numbers-then-k-ge-MOST_NEARBY : goal.shape_of-numbers-then-k-ge-MOST_NEARBY
-shape_of-numbers-then-k-ge-MOST_NEARBY c = c.loop-i.invariant.1.1 ∙ sym c.requires.3
-
-pub shape_of-xs-then-k-ge-MOST_NEARBY : goal.shape_of-xs-then-k-ge-MOST_NEARBY
-shape_of-xs-then-k-ge-MOST_NEARBY c = c.loop-i.invariant.1.2 ∙ sym c.requires.4
-
 pub returns-then-k-ge-MOST_NEARBY : goal.returns-then-k-ge-MOST_NEARBY
 unfolding inside_at
 returns-then-k-ge-MOST_NEARBY c =
@@ -25,12 +16,6 @@ returns-then-k-ge-MOST_NEARBY c =
     λ a b p r g.
     gathering.full _ _ a b q.i _ q.k _ _ _ (sym c.holds.ensures ∙ c.if-holds.true) c.loop-i-test.true c.if-k-ge-MOST_NEARBY.true q.invariant.1.0 refl
     (q.invariant.1.3 a b p r g)
-
-pub bounds-numbers-k : goal.bounds-numbers-k
-bounds-numbers-k c = omega (arith, c.loop-i.invariant.1.1)
-
-pub bounds-xs-k : goal.bounds-xs-k
-bounds-xs-k c = omega (arith, c.loop-i.invariant.1.2)
 
 -- what the branches lead to
 joined : (c : Joined-holds)
@@ -60,12 +45,6 @@ joined c =
 
 pub loop-i-preserved : goal.loop-i-preserved
 loop-i-preserved c = (search rules, joined c)
-
-pub shape_of-numbers : goal.shape_of-numbers
-shape_of-numbers c = c.loop-i.invariant.1.1 ∙ sym c.requires.3
-
-pub shape_of-xs : goal.shape_of-xs
-shape_of-xs c = c.loop-i.invariant.1.2 ∙ sym c.requires.4
 
 pub returns : goal.returns
 returns c =

@@ -1,12 +1,8 @@
--- `rounded`: the two cases of the definition.
+-- `rounded`: where it is near, by the definition's other case.
 use mathlib.Core.Path.{◌∙◌}
 use native.Mathlib.Omega.{arith}
-use Rattle.svg.proofs.Places.{rounded-far, rounded-near, few-rounded}
-use borrow.Author.Rules.{rules}
+use Rattle.svg.proofs.Places.{rounded-near, few-rounded}
 use Rattle.svg.proofs.rounded.Goals as goal
-
-pub returns-then-m-gt8388608 : goal.returns-then-m-gt8388608
-returns-then-m-gt8388608 c = (rounded-far c.args.m c.if-m-gt8388608.true, search rules)
 
 pub returns : goal.returns
 returns c = (

@@ -2,12 +2,8 @@
 use mathlib.Core.Path.{refl}
 use mathlib.Core.Bool.{true}
 use Rattle.report.specs.Report as Report
-use Rattle.told.proofs.Rows.{no_text, printed_as, has_room, tells-nothing, tells-ring, tells-block, can_show}
+use Rattle.told.proofs.Rows.{no_text, printed_as, has_room, tells-nothing, tells-ring, tells-block}
 use Rattle.told.proofs.print.Goals as goal
-
-pub print_row-requires : goal.print_row-requires
-print_row-requires c =
-    (can_show c.args.told c.args.cells.now _ _ _ c.in-Ring.is c.requires.0.shown, c.requires.0.few, c.requires.1)
 
 pub returns-in-Nothing : goal.returns-in-Nothing
 returns-in-Nothing c =
@@ -26,4 +22,4 @@ returns-in-Block c =
     let a = c.args in
     let p = c.print_refused_block in
     printed_as (Report.holds a.text.now) a.text.now _ _ p.result p.new.out (has_room a.text.now c.requires.1)
-    (tells-block a.told a.cells.now _ _ c.in-Block.is) (rw (c.from.ensures, c.from-in-Block.ensures) at p.ensures)
+    (tells-block a.told a.cells.now _ c.in-Block.is) (rw (c.from.ensures, c.from-in-Block.ensures, c.number.ensures) at p.ensures)

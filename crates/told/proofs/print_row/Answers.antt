@@ -1,9 +1,5 @@
 -- `print_row`: laws in proofs/Rows.
 use Prim.Native.Nat.{◌*◌}
-use mathlib.Core.Path.{refl}
-use native.Mathlib.Omega.{arith}
-use lib.ListN.{length}
-use Rattle.laws.proofs.Lists.{part_length}
 use Rattle.told.proofs.Rows.{row-refused, row-accepted, has_room, has_both, printed_as}
 use Rattle.report.specs.Report as Report
 use Rattle.told.proofs.print_row.Goals as goal
@@ -14,19 +10,6 @@ returns-then-v-ne0 c =
     let p = c.print_refused_ring in
     printed_as (Report.holds a.text.now) a.text.now _ _ p.result p.new.out (has_room a.text.now c.requires.2)
     (row-refused a.ring a.used a.v a.cells.now c.if-v-ne0.true) p.ensures
-
-pub overflow_sub-row : goal.overflow_sub-row
-overflow_sub-row c =
-    c.requires.0.grown c.if-v-ne0.false
-
-pub overflow_mul-end : goal.overflow_mul-end
-overflow_mul-end c =
-    let h = c.requires.0.listed c.if-v-ne0.false in
-    omega (arith, h, c.requires.1)
-
-pub slice_bounds-print_ring-end : goal.slice_bounds-print_ring-end
-slice_bounds-print_ring-end c =
-    part_length (c.args.v.cells * 4) (length c.args.cells.now) c.args.cells.now refl (c.requires.0.listed c.if-v-ne0.false)
 
 pub returns : goal.returns
 returns c =

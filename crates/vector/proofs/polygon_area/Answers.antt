@@ -1,7 +1,6 @@
 use Prim.Native.Nat.{◌+◌, ◌^◌, ◌<◌}
-use mathlib.Core.Path.{◌≡◌, refl, ap, ◌∙◌}
+use mathlib.Core.Path.{◌≡◌, ap, ◌∙◌}
 use native.Mathlib.Omega.{arith}
-use lib.Dec.{lit<}
 use lib.IntN.{ℤ, nat_abs, ◌+ℤ◌}
 use lib.ListN.{length, get_or}
 use mir.Syntax.{w64}
@@ -13,21 +12,6 @@ use Rattle.laws.proofs.Signed as signed
 use Rattle.vector.proofs.Fan as fan
 use Rattle.vector.proofs.Rings as rings
 use Rattle.vector.proofs.polygon_area.Goals as goal
-
-pub returns-in_default : goal.returns-in_default
-returns-in_default c = (rings.no_area c.args.ring.now c.in_default.ensures.item.3, omega arith)
-
-pub loop-i-init : goal.loop-i-init
-unfolding Fan.fan_to
-loop-i-init c = refl
-
-pub plus-total-requires : goal.plus-total-requires
-plus-total-requires c =
-    let l = c.loop-i in
-    let r = c.requires in (
-      rw l.invariant (omega (arith, fan.fan_small c.args.ring.now r.points l.i, l.auto.i-end, r.count)),
-      signed.small64 c.triangle-edge.result _ (lit< tt) (omega (arith, c.triangle-edge.ensures.1)),
-    )
 
 pub loop-i-preserved : goal.loop-i-preserved
 loop-i-preserved c =

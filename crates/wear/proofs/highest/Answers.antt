@@ -1,17 +1,13 @@
-use Prim.Native.Nat.{ℕ}
-use mathlib.Core.Path.{ap, ◌∙◌}
-use lib.ListN.{get_or}
-use Rattle.std.specs.Prelude.{max}
-use Rattle.wear.proofs.Laws.{highest-none, highest-next, max-greater, greater_comm}
-use native.Mathlib.Omega.{arith}
+use Rattle.std.proofs.Common.{ℕ, ap, ◌∙◌, rules}
+use Rattle.std.specs.Prelude.{unwrap_or, Option}
+use Rattle.std.proofs.lemmas.Iterator.{YieldsList-from_slice, YieldsList-from_map}
+use Rattle.std.proofs.lemmas.Iterator.Consumers.{reduce_from_yields_List}
+use Rattle.std.proofs.lemmas.List.Folds.{max_of_map}
+use Rattle.wear.proofs.Laws.{fold-highest}
 use Rattle.wear.proofs.highest.Goals as goal
 
-pub loop-c-init : goal.loop-c-init
-loop-c-init c = highest-none
-
-pub loop-c-preserved : goal.loop-c-preserved
-loop-c-preserved c =
-    let l = c.loop-c in
-    let x = get_or c.args.cuts.now l.c-index 0 in
-    c.max-most.ensures ∙ ap (λ (y : ℕ). max y l.most) c.from.ensures ∙ max-greater x l.most ∙ greater_comm x l.most
-    ∙ highest-next c.args.cuts.now l.c-index l.most (omega arith) l.invariant
+pub returns : goal.returns
+returns c =
+    let l = c.args.cuts.now in
+    let m = reduce_from_yields_List _ _ _ c.max.ensures.ran (YieldsList-from_map _ (λ x. x) (YieldsList-from_slice l (cc)) (cc) (λ x r q k. search rules)) in
+    c.unwrap_or.ensures ∙ ap (λ (o : Option ℕ). unwrap_or o 0) m ∙ max_of_map (λ x. x) l ∙ fold-highest l

@@ -1,6 +1,6 @@
 -- `pop`: whatever stack the state shows, the result shows that stack popped. The part goes out, or its two parts are
 -- pushed, first and then second.
-use Rattle.std.proofs.Common.{◌≡◌, ℕ, ◌+◌, ◌-◌, ◌*◌, ◌≤◌, ◌<◌, List, length, Some, refl, sym, ap, ◌∙◌, arith}
+use Rattle.std.proofs.Common.{◌≡◌, ℕ, ◌+◌, ◌-◌, ◌*◌, ◌≤◌, ◌<◌, List, length, Some, sym, ap, ◌∙◌, arith}
 use mathlib.Core.Option.{some}
 use Rattle.laws.specs.Table.{tab}
 use Rattle.laws.proofs.Table.{length_tab}
@@ -59,12 +59,6 @@ tops g =
     let p = Popped.top s (s.waiting.count - 1) e g.requires.0 in
     let l = Popped.lent s.waiting (s.waiting.count - 1) g.part-vs.result.now g.part-vs.ensures.corners g.part-vs.ensures.size.0 in
     (p.2, p.3, e, l.0, p.0)
-
-pub worst-worst-requires : goal.worst-worst-requires
-worst-worst-requires c =
-    let e = c.as_slice.ensures.0 ∙ c.rotated_points.ensures.0 in
-    let n = ap (λ (l : List GridPoint). length l) e ∙ length_tab _ (length c.part-vs.result.now) in
-    (c.as_slice.ensures.1, omega (arith, n, c.part-vs.ensures.size.1))
 
 pub split_polygon_at-requires : goal.split_polygon_at-requires
 split_polygon_at-requires c =

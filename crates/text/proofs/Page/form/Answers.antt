@@ -9,9 +9,6 @@ loop-b-init g c =
 pub put-requires : goal.put-requires
 put-requires g c = part_room c.loop-b.invariant c.loop-b-test.true c.number.result c.number.ensures
 
-pub overflow_add-k : goal.overflow_add-k
-overflow_add-k g c = omega (arith, c.loop-b.invariant.few, c.taken-k.ensures.1)
-
 pub loop-b-preserved : goal.loop-b-preserved
 loop-b-preserved g c =
     let t = c.taken-k in
