@@ -17,7 +17,8 @@ ghost use Rattle.arclength.specs.Arclength as Arclength;
 use vector::{GridPoint, MOST_POINTS, Point};
 
 // The length of the step to each point of a chain, and of the chain up to it.
-// Kept: two arrays, since a search for a length goes through the second alone.
+// Kept: two arrays. Of one array of pairs each equation, here and in what `point_at_arclength` asks, would be of a `map` over it,
+// and the search for a length would step over the other number of each.
 #[derive(Clone, Copy)]
 pub struct Steps {
     pub step: [f64; MOST_POINTS],
@@ -34,6 +35,7 @@ pub fn measure(chain: &[GridPoint]) -> Steps
     let mut arc = [0.0; MOST_POINTS];
     let mut end = 0.0;
     let mut last = chain[0];
+    // Kept: two arrays are written a turn, at the point's place.
     for (i, &p) in chain[1..].iter().enumerate() {
         let d = root::grid_dist(p, last);
         end += d;
@@ -61,6 +63,7 @@ fn step_at(arc: &[f64], s: f64) -> usize
 }
 
 // The point at the length s on the step from a, at the length low, to b, at the length high.
+#[tactic(auto, using(laws::proofs::Constants::zero_bits, laws::proofs::Clamp::unit_clamp))]
 fn between(a: GridPoint, low: f64, b: GridPoint, high: f64, s: f64) -> Point
     ensures { result ≡ cond (high -f low ≤f nat 0) (in_mm b) (lerp (in_mm a) (in_mm b) (Double.clamp (nat 0) (nat 1) ((s -f low) /f (high -f low)))) }
 {

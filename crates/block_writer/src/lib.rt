@@ -12,10 +12,11 @@ ghost use Rattle.blocks.specs.Writing as Writing;
 use blocks::Kind;
 
 // Coordinate k, zero where there is none.
+#[tactic(auto, using(blocks::proofs::TwosComplement::bits_read))]
 fn coordinate(points: &[i32], k: usize) -> u32
     ensures { result ≡ Writing.bits (get_or points.now k (pos 0)) }
 {
-    blocks::bits(points.get(k).copied().unwrap_or(0))
+    points.get(k).copied().unwrap_or(0).cast_unsigned()
 }
 
 // Kind, count and block number.
@@ -24,6 +25,7 @@ fn head(count: usize, number: u32) -> u32
     requires { (count ≤ 60) × (number ≤ 65535) }
     ensures { result ≡ Writing.head_word count number }
 {
+    // Kept: for `from_le_bytes` the number would first be taken apart into four bytes, of which two are zero.
     Kind::of(number) as u32 + 256 * count as u32 + 65536 * number
 }
 

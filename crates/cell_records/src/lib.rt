@@ -1,4 +1,4 @@
-// Records: the divider call over a list of cell records.
+// Cell records: the divider call over a list of cell records.
 //
 // It is the outermost layer for callers that keep cells as records of four node numbers. The call is the divider's, its
 // cells first written as plain numbers; then they go into the caller's list, one record after the other. `cell_records_c`
@@ -10,7 +10,7 @@ ghost use Rattle.limits.specs.Limits.{delivered};
 ghost use Rattle.quads.specs.declared.Cell.{Cell};
 ghost use Rattle.table.specs.Answers as Answers;
 ghost use Rattle.call.specs.Call.{cell_reserve};
-ghost use Rattle.call.specs.Lent.{lent, cell_in};
+ghost use Rattle.call.specs.Lent.{lent};
 ghost use Rattle.cell_records.specs.Records.{Numbers, RecordsPromise, written, laid_of};
 
 use divider::CellRoom;
@@ -30,26 +30,16 @@ pub struct Laid {
     pub values: Row,
 }
 
-// The cell of four numbers.
-fn cell(numbers: &[NodeNumber; 4]) -> Cell
-    ensures { result ≡ cell_in numbers.now 0 }
-{
-    Cell {
-        a: numbers[0],
-        b: numbers[1],
-        c: numbers[2],
-        d: numbers[3],
-    }
-}
-
 // The first n cells of the numbers go into the list, from place `at` on.
 fn write(cells: &mut [Cell], at: usize, numbers: &[NodeNumber; 496], n: usize)
     requires { (n ≤ 124) × (0 < n → at + n ≤ length cells.old) }
     ensures { cells.new ≡ written cells.old at numbers.now n }
 {
     let (fours, _) = numbers.as_chunks::<4>();
+    // Kept: the place is counted. Of `cells[at..].iter_mut().zip(..)` the library doesn't say what the list holds after the loop, and
+    // where there is no cell, `at` may lie beyond the list.
     for (k, four) in fours[..n].iter().enumerate() {
-        cells[at + k] = cell(four);
+        cells[at + k] = Cell::from(*four);
     }
 }
 

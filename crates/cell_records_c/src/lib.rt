@@ -1,5 +1,5 @@
-// Records for C: the divider call over a list of cell records, in a static library (`rt lib` here makes out/libcell_records_c.a;
-// embed/cells.c calls it).
+// Cell records for C: the divider call over a list of cell records, in a static library (`rt lib` here makes
+// out/libcell_records_c.a; embed/cells.c calls it).
 //
 // It stands at the top, beside the programs. A crate is a library or a static library and not both, so this is the call of
 // `cell_records` under its C name, with its promise word for word. A slice arrives as its address and its length, the row comes

@@ -22,7 +22,7 @@ pub struct Piece<'a> {
 }
 
 // What an attempt at a piece came to: the used nodes, the first cell that fails, and whether a snap was too far.
-// Kept: a flag beside the others, since it is known also where no cell fails.
+// Kept: a flag beside the others, since the definition's attempt has it in any case, and this is that record (`tried_of`).
 #[derive(Clone, Copy)]
 pub struct Tried {
     pub used: usize,

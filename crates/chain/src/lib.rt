@@ -19,7 +19,8 @@ use vector::{GridPoint, MOST_POINTS, Point};
 
 // A simplified chain: the points kept, in the places 0 to count, and in the places below count the snap point of the
 // stretch from each to the next.
-// Kept: two arrays and a count, in fixed memory; the last point kept has no snap point.
+// Kept: two arrays and a count. In an array of pairs the last point kept, which has no snap point, would have a made-up one, and
+// there is no heap for two lists of their own lengths.
 #[derive(Clone, Copy)]
 pub struct Simplified {
     pub points: [GridPoint; MOST_POINTS],
@@ -63,6 +64,7 @@ pub fn simplify_chain(chain: &[GridPoint]) -> Simplified
     let l = arclength::measure(chain);
     points[0] = chain[0];
     let mut previous = 0;
+    // Kept: as above.
     for i in 1..n {
         let after = vector::next(i, n); // not looked at where i is the last
         if stays(

@@ -4,23 +4,16 @@ use native.Mathlib.Nat.{eq-or-lt_of_le}
 use native.Mathlib.Numerals.{add-one}
 use native.Mathlib.Omega.{arith}
 use mathlib.Core.Path.{◌≡◌, refl, sym, ◌∙◌, subst}
-use mathlib.Core.Logic.{◌⊎◌, inl, inr, ⊎_elim}
+use mathlib.Core.Logic.{⊎_elim}
 use mathlib.Core.Bool.{Bool, true, false, cond}
 use lib.Dec.{T, ltb, eqb}
 use lib.Count.{ones}
-use borrow.Author.Tests.{ltb-true, ltb-false, lt-ltb, le-ltb, eq-eqb, ne_eqb, eqb-true}
-use Rattle.std.specs.Prelude.{Option, None, Some, MatchOption}
+use borrow.Author.Tests.{ltb-true, ltb-false, lt-ltb, le-ltb, eq-eqb, eqb-true}
 use Rattle.laws.specs.Bounded.{first}
-use Rattle.laws.proofs.Search.{first-at, first-least, first-le}
+use Rattle.laws.proofs.Search.{first-at, first-least}
 use Rattle.choice.specs.Search.{hits, first_of_count, least_of, IsLeast}
 
 -- ---- one choice
-pub hit : (t : ℕ → ℕ) (w k c : ℕ) → ones c ≡ k → (b : Bool) → b ≡ eqb (t c) w → b ≡ hits t w k c
-hit t w k c e b h = rw (eq-eqb (ones c) k e) h
-
-pub miss : (t : ℕ → ℕ) (w k c : ℕ) → (ones c ≡ k → ⊥) → false ≡ hits t w k c
-miss t w k c e = rw (ne_eqb (ones c) k e)
-
 is_hit : (t : ℕ → ℕ) (w k c : ℕ) → ones c ≡ k → t c ≡ w → T (hits t w k c)
 is_hit t w k c e f = rw (eq-eqb (ones c) k e, eq-eqb (t c) w f) tt
 
@@ -31,33 +24,6 @@ hit_is t w k c h = go (eqb (ones c) k) (eqb (t c) w) refl refl h
     go true true e f h = (eqb-true (ones c) k e, eqb-true (t c) w f)
     go true false e f h = absurd h
     go false b e f h = absurd h
-
--- ---- what a search from 0 ends at
-first_is : (p : ℕ → Bool) (n c : ℕ) → c < n → p c ≡ true → ((e : ℕ) → e < c → p e ≡ false) → first p n 0 ≡ c
-first_is p n c l h none = go (eq-or-lt_of_le low)
-  where
-    low : first p n 0 ≤ c
-    low = first-least p n 0 c (omega arith) (omega arith) (subst T (sym h) tt)
-
-    go : (first p n 0 ≡ c) ⊎ (first p n 0 < c) → first p n 0 ≡ c
-    go (inl e) = e
-    go (inr k) = absurd (subst T (none (first p n 0) k) (first-at p n 0 (omega (arith, low, l))))
-
-first_nowhere : (p : ℕ → Bool) (n : ℕ) → ((e : ℕ) → e < n → p e ≡ false) → first p n 0 ≡ n
-first_nowhere p n none = go (eq-or-lt_of_le low)
-  where
-    low : first p n 0 ≤ n
-    low = omega (arith, first-le p n 0)
-
-    go : (first p n 0 ≡ n) ⊎ (first p n 0 < n) → first p n 0 ≡ n
-    go (inl e) = e
-    go (inr k) = absurd (subst T (none (first p n 0) k) (first-at p n 0 (omega (arith, k))))
-
-pub first_found : (p : ℕ → Bool) (n : ℕ) (r : Option ℕ)
-    → MatchOption r ((k : ℕ) → 0 ≤ k → k < n → p k ≡ false) (λ i. (0 ≤ i) × (i < n) × (p i ≡ true) × ((k : ℕ) → 0 ≤ k → k < i → p k ≡ false))
-    → MatchOption r (first p n 0 ≡ n) (λ c. (c < n) × (first p n 0 ≡ c))
-first_found p n None h = first_nowhere p n (λ e l. h e (omega arith) l)
-first_found p n (Some i) h = (h.1, first_is p n i h.1 h.2 (λ e l. h.3 e (omega arith) l))
 
 module _ (t : ℕ → ℕ) (w n : ℕ) where
   -- ---- the choices of k points

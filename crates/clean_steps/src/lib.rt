@@ -14,7 +14,7 @@ ghost use Rattle.clean_steps.specs.Choices.{spaced_places, ValidChoice};
 use vector::{GridPoint, MOST_POINTS};
 
 // A choice of a ring's places, those in the first count places, and the tolerance that cleaning has in it.
-// Kept: an array with its count, in fixed memory.
+// Kept: an array with its count. There is no heap, and a slice owns no places, of which each step leaves fewer.
 #[derive(Clone, Copy)]
 pub struct Choice<'a> {
     pub ring: &'a [GridPoint; MOST_POINTS],
@@ -37,7 +37,11 @@ impl<'a> Choice<'a> {
         let mut count: usize = 1;
         for &p in &self.places[1..self.count] {
             let last = places[count - 1];
-            if !nearness::near(self.ring[last as usize], self.ring[p as usize], self.tol) {
+            if !nearness::near(
+                self.ring[usize::from(last)],
+                self.ring[usize::from(p)],
+                self.tol,
+            ) {
                 places[count] = p;
                 count += 1;
             }
@@ -50,12 +54,12 @@ impl<'a> Choice<'a> {
     pub fn opened(&self) -> usize
         ensures { (result ≤ self.now.count) × (result ≡ Steps.opened self.now.tol (chosen self.now) self.now.count) }
     {
-        let first = self.ring[self.places[0] as usize];
+        let first = self.ring[usize::from(self.places[0])];
         let after = &self.places[self.count.min(1)..self.count];
         let closing = after
             .iter()
             .rev()
-            .take_while(|p| nearness::near(first, self.ring[**p as usize], self.tol))
+            .take_while(|p| nearness::near(first, self.ring[usize::from(**p)], self.tol))
             .count();
         self.count - closing
     }

@@ -1,5 +1,4 @@
 -- Laws of the corner measure and of the worst corner.
-pub mod Quadrants
 pub mod Scan
 pub mod Steps
 pub mod Measured

@@ -5,11 +5,11 @@ use native.Mathlib.Omega.{arith}
 use mathlib.Core.Path.{◌≡◌, refl, sym, ap, ◌∙◌, subst}
 use mathlib.Core.Logic.{◌⊎◌, inl, inr}
 use mathlib.Core.Bool.{Bool, true, false, not, ◌&&◌, ◌||◌, beq, true≢false, false≢true}
-use lib.IntN.{ℤ, pos, negsuc, neg_ℤ, nat_abs, ◌+ℤ◌, ◌-ℤ◌, ◌*ℤ◌, -ℤ-+ℤ_cancel, +ℤ_idl}
+use lib.IntN.{ℤ, pos, negsuc, neg_ℤ, nat_abs, ◌*ℤ◌}
 use lib.Signed.{non_neg}
 use lib.Dec.{T, T_not}
 use Rattle.laws.proofs.Booleans.{or_l, or_r}
-use Rattle.laws.proofs.Integers.{opposite, size-zero, nat_abs_mul, nat_abs_neg}
+use Rattle.laws.proofs.Integers.{no_difference, opposite, size-zero, nat_abs_mul, nat_abs_neg}
 use Rattle.vector.specs.declared.GridPoint.{GridPoint}
 use Rattle.laws.specs.Integer.{eq_z}
 use Rattle.vector.specs.Grid.{origin, dot, cross, same}
@@ -49,10 +49,6 @@ clash false false true false e f = true≢false e
 clash false false false true e f = false≢true e
 clash false false false false e f = true≢false f
 
--- the two products of a cross product that is zero are equal
-level : (z w : ℤ) → z -ℤ w ≡ pos 0 → z ≡ w
-level z w e = sym (-ℤ-+ℤ_cancel z w) ∙ ap (λ x. x +ℤ w) e ∙ +ℤ_idl w
-
 -- by the sizes: all four coordinates are above zero, or a step is zero
 sizes : (a b c d : ℕ) → a * d ≡ b * c → a * c ≡ b * d → ((0 < a) × (0 < b) × (0 < c) × (0 < d)) ⊎ (((a ≡ 0) × (b ≡ 0)) ⊎ ((c ≡ 0) × (d ≡ 0)))
 sizes zero zero c d e f = inr (inl (refl, refl))
@@ -81,7 +77,7 @@ both_zero u v e f =
     (sym (nat_abs_mul u.x v.x) ∙ ap nat_abs o ∙ nat_abs_neg (u.y *ℤ v.y) ∙ nat_abs_mul u.y v.y))
   where
     l : u.x *ℤ v.y ≡ u.y *ℤ v.x
-    l = level (u.x *ℤ v.y) (u.y *ℤ v.x) e
+    l = no_difference (u.x *ℤ v.y) (u.y *ℤ v.x) e
 
     o : u.x *ℤ v.x ≡ neg_ℤ (u.y *ℤ v.y)
     o = opposite (u.x *ℤ v.x) (u.y *ℤ v.y) f

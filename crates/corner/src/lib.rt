@@ -35,6 +35,7 @@ impl Corner {
     }
 }
 
+#[tactic(auto, using(laws::proofs::Signed::back, laws::proofs::Signed::cast_asks))]
 fn size(z: i64) -> f64
     requires { nat_abs z ≤ 2 ^ 49 }
     ensures { result ≡ nat (nat_abs z) }
@@ -51,6 +52,7 @@ fn quotient(s: i64, c: i64) -> f64
 }
 
 // The measure of the corner between the step u into it and the step v out of it.
+#[tactic(auto, using(laws::proofs::Signed::back, laws::proofs::Constants::two_bits, laws::proofs::Constants::four_bits, laws::proofs::SignedTests::from_zero), unfolding(crate::specs::Corner::measure, crate::specs::Corner::by_quadrant))]
 fn measure(u: GridPoint, v: GridPoint) -> f64
     requires { Step u × Step v }
     ensures { result ≡ Corners.measure u v }
@@ -89,7 +91,8 @@ pub fn worst(part: &[GridPoint]) -> Corner
         at: 0,
         measure: corner_at(part[n - 1], part[0], part[vector::next(0, n)]),
     };
-    // Kept: a corner is three places of the part, the last of them round its end, so the loop counts places.
+    // Kept: a corner is three places of the part. Over `windows(3)` the last corner, whose next point is the first, would be a copy
+    // of the body behind the loop, as corner 0 is one before it, and the place that is answered would be counted beside.
     for i in 1..n {
         let measure = corner_at(part[i - 1], part[i], part[vector::next(i, n)]);
         if worst.measure <= measure {

@@ -34,6 +34,7 @@ impl Side {
 }
 
 // The cosine of the angle between two sides.
+#[tactic(auto, using(laws::proofs::Signed::back, laws::proofs::Constants::one_is, laws::proofs::Clamp::sign_clamp), unfolding(crate::specs::Cosine::cosine))]
 pub fn cosine(a: Side, b: Side) -> f64
     ensures { result ≡ Cosine.cosine a.step b.step }
 {

@@ -16,7 +16,7 @@ use std::cmp::Ordering;
 use text::Page;
 
 // A coordinate in mm as it is shown: so many ten-thousandths, with a minus or without.
-// Kept: a sign beside a number that holds with either, so no Option.
+// Kept: the number holds with a sign and without, so that an enum would hold it in both of its cases.
 #[derive(Clone, Copy)]
 pub struct Decimal {
     pub minus: bool,

@@ -28,6 +28,7 @@ fn point<R: Read>(input: &mut R) -> GridPoint
 }
 
 // An answer as the list has it.
+// Kept: no `From` beside `Crossing`, since only this list has numbers for the three.
 fn told(c: Crossing) -> u32 {
     match c {
         Crossing::Apart => 0,

@@ -51,6 +51,8 @@ fn wear_record<R: Read>(input: &mut R) -> bool {
 // The smallest ring still refused: the ring and its chain, two numbers a point.
 fn smallest_ring<R: Read>(input: &mut R) -> bool {
     let size = words::word(input);
+    // Kept: replay reads two lists so too, of other sizes: one function for all would be generic in the size, and answer two arrays
+    // with two counts.
     let r = words::count_to(input, 256);
     let c = words::count_to(input, 256);
     let mut ring = [0i32; 256];

@@ -41,7 +41,8 @@ pub fn best_diagonal(limits: Limits, part: &[GridPoint]) -> Option<usize>
     let next = Side::new(part[1].sub(o));
     let prev = Side::new(part[n - 1].sub(o));
     let mut best: Option<Best> = None;
-    // Kept: k is the corner that is answered, and its distance from both ends is what the range says.
+    // Kept: the range says which corners are asked, from 2 to n - 2. Over the part's points, of which this reads one a turn, it would
+    // be `enumerate().take(n - 1).skip(2)`, for a k that is needed all the same.
     for k in 2..n - 1 {
         if let Some(score) = judge::judge(limits, o, part[k], next, prev) {
             if improves(score, best) && obstacles::is_unobstructed(part, k) {

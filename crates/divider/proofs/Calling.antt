@@ -1,35 +1,37 @@
--- The call over lent lists by the outcome of its tests: refused, or what the core does; and the promise from what was left. As a call of a list of calls it
--- leaves what specs/LentCalls says (`as_called`).
-use Prim.Native.Nat.{ℕ, ◌+◌, ◌/◌, ◌≤◌}
+-- A call over lent lists by the outcome of its tests: refused, or what the core does; that a call with a chain is one (`by_chain`); and the promise from what
+-- was left. As a call of a list of calls it leaves what call's specs/LentCalls says (`as_called`).
+use Prim.Native.Nat.{ℕ, ◌/◌, ◌≤◌}
 use native.Mathlib.Omega.{arith}
 use mathlib.Core.Path.{◌≡◌, sym, ap, ◌∙◌, subst}
+use mathlib.Core.Bool.{cond}
 use mathlib.Core.List.{List}
+use lib.Dec.{eqb}
 use lib.ListN.{length}
 use lib.Ieee.{Float}
+use borrow.Author.Tests.{ne_eqb}
 use Rattle.laws.proofs.Table.{length_tab}
 use Rattle.marks.specs.declared.MarkedRing.{MarkedRing}
 use Rattle.marks.specs.Part.{Part}
 use Rattle.limits.specs.declared.Limits.{Limits}
 use Rattle.limits.specs.Limits.{delivered}
+use Rattle.quads.specs.declared.Cell.{Cell}
 use Rattle.table.specs.declared.Row.{Row}
 use Rattle.table.specs.Answers.{refused_row}
 use Rattle.table.specs.Refusals.{first_of}
-use Rattle.table.proofs.Refusals.{all_pass}
-use Rattle.call.specs.Call.{Lists, Call, cell_reserve}
-use Rattle.call.specs.Divide.{CallAnswer, ring_tests, answered, core, start_of}
+use Rattle.call.specs.Call.{Lists, Call, lists_of}
+use Rattle.call.specs.Divide.{CallAnswer, refused, ring_tests, answered, core, start_of}
 use Rattle.call.specs.Demand.{Ready, Prepared}
-use Rattle.call.specs.Lent.{point_in, cell_in, all_cells, LentRecords, call_of_records, tests_by, Lent, divide_lent}
+use Rattle.call.specs.Lent.{point_in, cell_in, all_cells, LentRecords, call_of_records, Lent, divide_lent}
 use Rattle.call.specs.LentCalls.{Given, numbers, Pool, lend, answer_of, leaves}
-use Rattle.call.proofs.Tests.{Passed, passed}
 use Rattle.call.proofs.Course as Course
-use Rattle.call.proofs.Course.{outcome_of, prepared}
+use Rattle.call.proofs.Course.{outcome_of}
 use Rattle.call.proofs.Demand.{demand3_lent}
 use Rattle.split.specs.Split.{split_bad_vertices}
-use Rattle.entry.specs.Refusal.{refusal}
+use Rattle.entry.specs.Refusal.{refusal, points_refusal, lists_refusal}
+use Rattle.entry.proofs.Tests.{told, lists_ready}
 use Rattle.divider.specs.declared.CellRoom.{CellRoom}
 use Rattle.divider.specs.Promise.{Leaves, Promise}
-use Rattle.marks.specs.Edges.{part_in}
-use Rattle.divider.specs.Steps.{OnPaper, Prepares, lists_in, CanDivideRing, divide_into, HasRoom}
+use Rattle.divider.specs.Steps.{Passing, Prepares, lists_in, CanDivideRing, tested_lists, divide_by, divide_into, HasRoom}
 use Rattle.divider.proofs.Leaving.{refused-leaves}
 
 -- ---- the core, by the outcome of its tests
@@ -49,76 +51,82 @@ module _ (L : Limits) (r : ℕ) (p : Part) (l : List Float) (u : ℕ) (rs q : Li
   core-laid n e z v m t o h =
       rw (Course.goes_on lists (ring_tests p.points) (answered L r p lists (split_bad_vertices L p) (outcome_of L p lists)) (sym e ∙ z)) h
 
--- ---- the call
-module _ (L : Limits) (l : LentRecords) (q : List ℕ) (k : ℕ) where
+-- ---- a call, by its tests before those of the lists, and by these
+module _ (L : Limits) (e r : ℕ) (p : Part) (l : List Float) (u : ℕ) (t q : List ℕ) (k : ℕ) (cs : List Cell) (w : CellRoom) where
+  abbrev y : Lists
+  y = tested_lists l u t cs w.used
+
+  abbrev x : Lists
+  x = lists_in l u t q k
+
+  abbrev by : CallAnswer
+  by = divide_by L e r p y x
+
+  pub refused-early : (n : ℕ) → n ≡ e → (n ≡ 0 → ⊥) → Leaves by (refused_row n u k) l l t q q
+  refused-early n d z =
+      let f = ne_eqb e 0 (λ f. z (d ∙ f)) in
+      rw (f, f, ← d) (refused-leaves l u t q k n)
+
+  pub refused-late : (n : ℕ) → 0 ≡ e → n ≡ lists_refusal L r y → (n ≡ 0 → ⊥) → Leaves by (refused_row n u k) l l t q q
+  refused-late n d f z =
+      let g = ne_eqb (lists_refusal L r y) 0 (λ h. z (f ∙ h)) in
+      rw (← d, g, ← f) (refused-leaves l u t q k n)
+
+  pub reached : 0 ≡ e → 0 ≡ lists_refusal L r y → (i : Part) → i ≡ p → (v : Row) (m : List Float) (s o : List ℕ) → Leaves (core L r i x) v l m s q o
+      → Leaves by v l m s q o
+  reached d f i g v m s o h = rw (← d, ← f) (subst (λ (p : Part). Leaves (core L r p x) v l m s q o) g h)
+
+  -- the ring that was prepared, and the numbers that have room for its cells
+  module _ (f : 0 ≡ lists_refusal L r y) (h : Passing L r p) (m : MarkedRing) (b : Prepares p m) (o : length cs ≡ w.places) (room : HasRoom L w q)
+      (at : w.at ≡ k) where
+    tested : Ready L r y
+    tested = lists_ready L r y (sym f)
+
+    pub can-divide : CanDivideRing L r m l u t q k
+    can-divide =
+        let g = room.reserve r h.few (omega (arith, tested.cells_free, tested.stored, o)) in
+        let n = length_tab (cell_in q) (length q / 4) in
+        record {
+          cuts = h.cuts;
+          held = b.held;
+          prepared =
+              subst (λ (p : Part). Prepared L r p x) (sym b.part)
+              (record {
+                few = h.few;
+                fewer = h.fewer;
+                sheet = h.sheet;
+                edged = h.edged;
+                snaps = h.snaps;
+                ready =
+                    record {
+                      listed = tested.listed;
+                      stored = omega (arith, at, g, n);
+                      places = tested.places;
+                      used = tested.used;
+                      rimmed = tested.rimmed;
+                      nodes_free = tested.nodes_free;
+                      cells_free = omega (arith, at, g, n);
+                    };
+              });
+        }
+
+-- ---- a call with a chain
+module _ (L : Limits) (l : LentRecords) where
   abbrev c : Call
   c = call_of_records l
 
-  abbrev x : Lists
-  x = lists_in l.nodes l.node_count_of l.rims q k
+  abbrev e : ℕ
+  e = points_refusal L l.ring l.chain l.size
 
-  abbrev core_of : CallAnswer
-  core_of = core L (length c.ring) (start_of c) x
-
-  pub call-refused : (n : ℕ) → n ≡ refusal L l → (n ≡ 0 → ⊥) → Leaves (divide_into L l q k) (refused_row n l.node_count_of k) l.nodes l.nodes l.rims q q
+  pub by_chain : (q : List ℕ) (k : ℕ) (v : Row) (m : List Float) (t o : List ℕ)
+      → Leaves (divide_by L e (length l.ring / 2) (start_of c) (lists_of c) (lists_in l.nodes l.node_count_of l.rims q k)) v l.nodes m t q o
+      → Leaves (divide_into L l q k) v l.nodes m t q o
   unfolding refusal
-  call-refused n e z =
-      rw (Course.turned-away x (tests_by (λ cs. cs) L l) core_of (λ f. z (e ∙ f)), ← e) (refused-leaves l.nodes l.node_count_of l.rims q k n)
-
-  module _ (n : ℕ) (e : n ≡ refusal L l) (z : n ≡ 0) where
-    pub through : Passed L c
-    unfolding refusal
-    through = passed L c (all_pass (tests_by (λ cs. cs) L l) tt (sym e ∙ z)).1
-
-    pub ring_read : OnPaper l.ring
-    ring_read = record { few = omega (arith, through.to, length_tab (point_in l.ring) (length l.ring / 2)); sheet = through.ring }
-
-    pub chain_read : OnPaper l.chain
-    chain_read = record { few = omega (arith, through.chain.few, length_tab (point_in l.chain) (length l.chain / 2)); sheet = through.chain.each }
-
-    -- the ring that was prepared, and the numbers that have room for its cells
-    module _ (m : MarkedRing) (b : Prepares l.ring l.chain l.size m) (w : CellRoom) (at : w.at ≡ k) (places : length l.cells ≡ w.places)
-        (used : l.cell_count_of ≡ w.used) (h : HasRoom L w q) where
-      own : length c.ring ≡ length l.ring / 2
-      own = length_tab (point_in l.ring) (length l.ring / 2)
-
-      room : k + cell_reserve L (length c.ring) ≤ length q / 4
-      room = omega (arith, at, h.reserve (length c.ring) through.to (omega (arith, through.ready.cells_free, through.ready.stored, places, used)))
-
-      ready : Ready L (length c.ring) x
-      ready =
-          let n = length_tab (cell_in q) (length q / 4) in
-          let y = through.ready in
-          record {
-            listed = y.listed;
-            stored = omega (arith, room, n);
-            places = y.places;
-            used = y.used;
-            rimmed = y.rimmed;
-            nodes_free = y.nodes_free;
-            cells_free = omega (arith, room, n);
-          }
-
-      prepared-here : Prepared L (length c.ring) (start_of c) x
-      prepared-here =
-          let y = prepared L c through in
-          record { few = y.few; fewer = y.fewer; sheet = y.sheet; edged = y.edged; snaps = y.snaps; ready = ready }
-
-      pub can-divide : CanDivideRing L (length l.ring / 2) m l.nodes l.node_count_of l.rims q k
-      can-divide =
-          record {
-            cuts = through.cuts;
-            held = b.held;
-            prepared = subst (λ (r : ℕ). Prepared L r (part_in m) x) own (subst (λ (p : Part). Prepared L (length c.ring) p x) (sym b.part) prepared-here);
-          }
-
-      pub call-divided : (v : Row) (n : List Float) (t o : List ℕ) → Leaves (core L (length l.ring / 2) (part_in m) x) v l.nodes n t q o
-          → Leaves (divide_into L l q k) v l.nodes n t q o
-      unfolding refusal
-      call-divided v n t o f =
-          rw (Course.goes_on x (tests_by (λ cs. cs) L l) core_of (sym e ∙ z))
-          (subst (λ (r : ℕ). Leaves (core L r (start_of c) x) v l.nodes n t q o) (sym own)
-          (subst (λ (p : Part). Leaves (core L (length l.ring / 2) p x) v l.nodes n t q o) b.part f))
+  by_chain q k v m t o h =
+      let x = lists_in l.nodes l.node_count_of l.rims q k in
+      subst (λ (r : ℕ). Leaves (cond (eqb (refusal L l) 0) (core L r (start_of c) x) (refused x (refusal L l))) v l.nodes m t q o)
+      (sym (length_tab (point_in l.ring) (length l.ring / 2)))
+      (subst (λ (n : ℕ). Leaves (cond (eqb n 0) (core L (length l.ring / 2) (start_of c) x) (refused x n)) v l.nodes m t q o) (sym (told L l)) h)
 
 -- ---- the promise
 pub promised : (L : Limits) (l : Lent) (v : Row) (m : List Float) (t p : List ℕ) → Leaves (divide_lent L l) v l.nodes m t l.cells p → Promise L l v m t p

@@ -123,7 +123,6 @@ module _ (L : Limits) (r : ℕ) (m : MarkedRing) (l : List Float) (u : ℕ) (rs 
           record {
             usable = usable;
             sheet = o;
-            kept = d.pieces;
             fair = λ i b. subst (λ (y : List Part). ValidPiece (get_or y i no_part)) (sym shown.pieces) (NodeList.fair L r p x s i (rw count_is at b));
             fits = rw outcome-is (omega (arith, node-room, length_in l (length l / 2), h.ready.places));
             room = rw outcome-is (omega (arith, node-room));

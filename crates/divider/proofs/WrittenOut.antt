@@ -6,7 +6,7 @@ use native.Mathlib.Omega.{arith}
 use mathlib.Core.Path.{◌≡◌, refl, sym, ap, ◌∙◌}
 use mathlib.Core.List.{List, [], ◌∷◌, ◌++◌, append_assoc}
 use lib.ListN.{length, get_or, take, drop, length-append, length-drop, take-append-drop}
-use lib.Seq.{length-take-le, take-append-le, drop-append-le, take-append-add, drop-append-add, drop-drop}
+use lib.Seq.{take-nil, drop-nil, length-take-le, take-append-le, drop-append-le, take-append-add, drop-append-add, drop-drop}
 use lib.Ieee.{Float}
 use Rattle.vector.specs.declared.Point.{Point}
 use Rattle.nodes.specs.Flat.{nodes_in, flat, over}
@@ -37,22 +37,14 @@ module _ {A B : Type 0} {w : ℕ} {each : A → List B} {out : List A → List B
 
   pub out-take : (k : ℕ) (xs : List A) → out (take k xs) ≡ take (k * w) (out xs)
   out-take zero xs = s.none ∙ ap (λ (n : ℕ). take n (out xs)) (sym (zero-mul w))
-  out-take (suc k) [] = s.none ∙ sym (ap (take (suc k * w)) s.none ∙ take_none (suc k * w))
-    where
-      take_none : (n : ℕ) → ◌≡◌ {A = List B} (take n []) []
-      take_none zero = refl
-      take_none (suc n) = refl
+  out-take (suc k) [] = s.none ∙ sym (ap (take (suc k * w)) s.none ∙ take-nil (suc k * w))
   out-take (suc k) (a ∷ xs) =
       let e : suc k * w ≡ length (each a) + k * w = suc-mul k w ∙ omega (arith, s.long a) in
       s.more a (take k xs) ∙ ap (λ (l : List B). each a ++ l) (out-take k xs) ∙ sym (rw (e, s.more a xs) (take-append-add (each a) (out xs) (k * w)))
 
   pub out-drop : (k : ℕ) (xs : List A) → out (drop k xs) ≡ drop (k * w) (out xs)
   out-drop zero xs = ap (λ (n : ℕ). drop n (out xs)) (sym (zero-mul w))
-  out-drop (suc k) [] = s.none ∙ sym (ap (drop (suc k * w)) s.none ∙ drop-none (suc k * w))
-    where
-      drop-none : (n : ℕ) → ◌≡◌ {A = List B} (drop n []) []
-      drop-none zero = refl
-      drop-none (suc n) = refl
+  out-drop (suc k) [] = s.none ∙ sym (ap (drop (suc k * w)) s.none ∙ drop-nil (suc k * w))
   out-drop (suc k) (a ∷ xs) =
       let e : suc k * w ≡ length (each a) + k * w = suc-mul k w ∙ omega (arith, s.long a) in
       out-drop k xs ∙ sym (rw (e, s.more a xs) (drop-append-add (each a) (out xs) (k * w)))

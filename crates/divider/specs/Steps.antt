@@ -1,23 +1,27 @@
 -- The steps of a call: the ring that it prepares, as an array holds it, and what the core asks for. Definitions only.
-use Rattle.std.specs.Prelude.{ℕ, ◌+◌, ◌/◌, ◌≤◌, ◌≡◌, List, ℤ, length, Float, Result, Ok, Err}
+use Rattle.std.specs.Prelude.{ℕ, ◌+◌, ◌/◌, ◌≤◌, ◌≡◌, cond, eqb, List, ℤ, length, Float, Result, Ok, Err}
+use Rattle.vector.specs.declared.Point.{Point}
 use Rattle.vector.specs.Size.{AllOnSheet}
 use Rattle.vector.specs.Rings.{most_points}
-use Rattle.chain.specs.Chain.{simplify_chain}
-use Rattle.clean.specs.Clean.{clean_polygon}
+use Rattle.marks.specs.declared.EdgeMark.TheVariants.{Snap}
 use Rattle.marks.specs.declared.MarkedRing.{MarkedRing}
-use Rattle.marks.specs.Marks.{marked}
+use Rattle.marks.specs.Part.{Part}
 use Rattle.marks.specs.Edges.{part_in, ValidMarkedRing}
 use Rattle.limits.specs.declared.Limits.{Limits}
 use Rattle.nodes.specs.Flat.{nodes_in}
+use Rattle.nodes.specs.Growth.{InRange}
+use Rattle.quads.specs.declared.Cell.{Cell}
+use Rattle.cells.specs.Stages.{mark_at}
 use Rattle.table.specs.declared.Answer.{Answer}
 use Rattle.table.specs.declared.Refusal.{Refusal}
 use Rattle.table.specs.declared.Row.{Row}
 use Rattle.table.specs.Answers.{values, number_of, refused_row}
 use Rattle.call.specs.Call.{Lists, cell_reserve}
-use Rattle.call.specs.Divide.{CallAnswer, refused_or, core, start_of}
+use Rattle.call.specs.Divide.{CallAnswer, refused, refused_or, core, start_of}
 use Rattle.call.specs.Demand.{Prepared}
 use Rattle.call.specs.Marked.{all_points}
 use Rattle.call.specs.Lent.{all_cells, LentRecords, call_of_records, tests_by}
+use Rattle.entry.specs.Refusal.{lists_refusal}
 use Rattle.divider.specs.declared.CellRoom.{CellRoom}
 
 -- the points of a ring or a chain that was lent are not too many, and are on the sheet
@@ -25,9 +29,19 @@ pub record OnPaper (l : List ℤ) : Type 0 where
   pub few : length l / 2 ≤ most_points
   pub sheet : AllOnSheet (all_points l)
 
--- m is the cleaned ring with the marks that the chain gives it
-pub record Prepares (ring chain : List ℤ) (size : ℕ) (m : MarkedRing) : Type 0 where
-  pub part : part_in m ≡ marked (simplify_chain (all_points chain)) (clean_polygon size (all_points ring))
+-- a ring of r points, cleaned to p with its marks, passed the tests before those of the lists, and the set is of at most 32 cuts
+pub record Passing (L : Limits) (r : ℕ) (p : Part) : Type 0 where
+  pub cuts : L.cuts ≤ 32
+  pub from : 3 ≤ r
+  pub few : r ≤ most_points
+  pub fewer : length p.points ≤ r
+  pub sheet : AllOnSheet p.points
+  pub edged : length p.edges ≡ length p.points
+  pub snaps : (i : ℕ) (q : Point) → mark_at p i ≡ Snap q → InRange q
+
+-- m is the cleaned ring p with its marks
+pub record Prepares (p : Part) (m : MarkedRing) : Type 0 where
+  pub part : part_in m ≡ p
   pub held : ValidMarkedRing m
 
 -- the lists that doubles and numbers hold, u and k of their places used, t the rim marks
@@ -44,6 +58,15 @@ pub record CanDivideRing (L : Limits) (r : ℕ) (m : MarkedRing) (l : List Float
   pub cuts : L.cuts ≤ 32
   pub held : ValidMarkedRing m
   pub prepared : Prepared L r (part_in m) (lists_in l u t q k)
+
+-- the lists that are tested, of whose cells only their number is looked at
+abbrev pub tested_lists : List Float → ℕ → List ℕ → List Cell → ℕ → Lists
+tested_lists l u t cs k = record { nodes = nodes_in l (length l / 2); node_count_of = u; rims = t; cells = cs; cell_count_of = k }
+
+-- "tested in rising order": a ring of r points, cleaned to p, that the tests before those of the lists refuse with e, or not, 0; then those of the lists y; and
+-- else what the core does over x
+abbrev pub divide_by : Limits → ℕ → ℕ → Part → Lists → Lists → CallAnswer
+divide_by L e r p y x = let n = cond (eqb e 0) (lists_refusal L r y) e in cond (eqb n 0) (core L r p x) (refused x n)
 
 -- a call whose cells go to place k of the numbers q on, which need not be the list that is tested
 abbrev pub divide_into : Limits → LentRecords → List ℕ → ℕ → CallAnswer

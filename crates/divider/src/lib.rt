@@ -1,8 +1,8 @@
 // Divider: the whole call, from a ring to its cells over the lists that a caller lends.
 //
-// It is where the way of a ring comes together. An entry tests, prepares a ring with the marks of its edges, and hands it
-// to the core: the tests of the cleaned ring, the split, and the cells of its pieces. Whatever is handed over, the call
-// ends, returns one row of the table and says of every place of the lists what is left there. specs/Promise has the
+// It is where the way of a ring comes together. A request is tested, its ring is prepared with the marks of its edges, and
+// handed to the core: the tests of the cleaned ring, the split, and the cells of its pieces. Whatever is handed over, the
+// call ends, returns one row of the table and says of every place of the lists what is left there. specs/Promise has the
 // promise, in which stands what holds of every accepted ring.
 
 #![tactic(auto)]
@@ -19,11 +19,14 @@ ghost use Rattle.table.specs.Answers as Answers;
 ghost use Rattle.table.specs.Refusals.{first_of};
 ghost use Rattle.call.specs.Divide.{Whole, outcome_of, answered, core, ring_tests};
 ghost use Rattle.divider.specs.Promise.{Leaves, Promise};
-ghost use Rattle.divider.specs.Steps.{OnPaper, Prepares, lists_in, returned, CanDivideRing, divide_into, HasRoom};
+ghost use Rattle.divider.specs.Steps.{lists_in, returned, CanDivideRing, tested_lists, divide_by, divide_into, HasRoom};
+
+mod requests;
 
 use limits::Limits;
 use marks::MarkedRing;
 use nodes::{Collected, MOST_NEARBY, NodeNumber};
+pub use requests::{ByChain, Request};
 use table::{Answer, Refusal};
 use vector::Ring;
 
@@ -47,7 +50,8 @@ fn ring_refusal(ring: &Ring) -> Result<u64, Refusal>
     Ok(area.unsigned_abs())
 }
 
-// Kept: the lists come one by one from C; a struct of their `&mut`s adds to each contract that its references stay the same.
+// Kept: here and in the crates below the lists stand side by side, as C hands them over; a struct of their `&mut`s adds to each
+// contract that its references stay the same.
 
 // The pieces of a ring of `own` points that passed every test, and their cells over the places from cell_count on. Its
 // doubled area is the one that the tests found, and the used nodes nearby were collected.
@@ -128,24 +132,6 @@ pub fn divide_core(
     ))
 }
 
-// The ring of a call, cleaned, with the marks that the chain gives its edges.
-fn prepared(ring: &[i32], chain: &[i32], size: u32) -> MarkedRing
-    requires { OnPaper ring.now × OnPaper chain.now }
-    ensures { Prepares ring.now chain.now size result }
-{
-    let n = ring.len() / 2;
-    let m = chain.len() / 2;
-    let own = lent_points::points(ring, n);
-    let clean = clean::clean_polygon(&own, size);
-    let run = lent_points::points(chain, m);
-    let simplified = chain::simplify_chain(run.as_slice());
-    let edges = marks::mark_edges(clean.ring.as_slice(), &simplified);
-    MarkedRing {
-        ring: clean.ring,
-        edges,
-    }
-}
-
 // The answer of a call: that of its last step, or the refusal of one, with the caller's two counts.
 pub fn answer_of(step: Result<Answer, Refusal>, nodes: usize, cells: usize) -> Answer
     ensures { Answers.values result ≡ returned step nodes cells }
@@ -162,12 +148,10 @@ pub struct CellRoom {
     pub at: usize,
 }
 
-// The steps of a divider call: its tests, the ring that is prepared, and the core. The first that refuses ends them.
-fn divide_steps(
+// The steps of a call: its tests, the ring that is prepared, and the core. The first that refuses ends them.
+fn divide_steps<R: Request>(
     limits: Limits,
-    ring: &[i32],
-    chain: &[i32],
-    size: u32,
+    request: R,
     nodes: &mut [f64],
     node_count: usize,
     rims: &mut [u8],
@@ -176,21 +160,13 @@ fn divide_steps(
 ) -> Result<Answer, Refusal>
     requires { HasRoom limits room cells.old }
     ensures { (cs : List Cell) → length cs ≡ room.places
-        → Leaves (divide_into limits (record {
-          ring = ring.now;
-          chain = chain.now;
-          size = size;
-          nodes = nodes.old;
-          node_count_of = node_count;
-          rims = rims.old;
-          cells = cs;
-          cell_count_of = room.used;
-        }) cells.old room.at)
+        → Leaves (divide_by limits (R.early limits request) (R.points request) (R.part request)
+        (tested_lists nodes.old node_count rims.old cs room.used) (lists_in nodes.old node_count rims.old cells.old room.at))
         (returned result node_count room.at) nodes.old nodes.new rims.new cells.old cells.new }
 {
-    entry::points_refusal(limits, ring, chain, size)?;
-    let own = ring.len() / 2;
-    let w = extent::window(ring, chain);
+    request.refusal(limits)?;
+    let own = request.own();
+    let w = request.window(limits);
     let mut numbers = [0; MOST_NEARBY];
     let mut xs = [0.0; MOST_NEARBY];
     let near = entry::lists_refusal(
@@ -205,7 +181,7 @@ fn divide_steps(
         &mut numbers,
         &mut xs,
     )?;
-    let marked = prepared(ring, chain, size);
+    let marked = request.prepared();
     let found = Collected {
         near,
         numbers: &numbers,
@@ -215,6 +191,29 @@ fn divide_steps(
         limits, &marked, own, nodes, node_count, rims, cells, room.at, found,
     )
 }
+
+// A request with a set of limits, its cells written as numbers: every entry, whatever the marks come from.
+pub fn divide_request<R: Request>(
+    limits: Limits,
+    request: R,
+    nodes: &mut [f64],
+    node_count: usize,
+    rims: &mut [u8],
+    cells: &mut [NodeNumber],
+    room: CellRoom,
+) -> Answer
+    requires { HasRoom limits room cells.old }
+    ensures { (cs : List Cell) → length cs ≡ room.places
+        → Leaves (divide_by limits (R.early limits request) (R.points request) (R.part request)
+        (tested_lists nodes.old node_count rims.old cs room.used) (lists_in nodes.old node_count rims.old cells.old room.at))
+        (Answers.values result) nodes.old nodes.new rims.new cells.old cells.new }
+{
+    let step = divide_steps(limits, request, nodes, node_count, rims, cells, room);
+    answer_of(step, node_count, room.at)
+}
+
+// Kept: a ring, its chain and its size come one by one from C, as the lists do. An entry that takes a `ByChain` would have
+// each caller build one, and promise the same of its three fields; a caller that has one hands it to `divide_request`.
 
 // The divider call with a set of limits, its cells written as numbers.
 pub fn divide_with(
@@ -242,10 +241,8 @@ pub fn divide_with(
         }) cells.old room.at)
         (Answers.values result) nodes.old nodes.new rims.new cells.old cells.new }
 {
-    let step = divide_steps(
-        limits, ring, chain, size, nodes, node_count, rims, cells, room,
-    );
-    answer_of(step, node_count, room.at)
+    let request = ByChain { ring, chain, size };
+    divide_request(limits, request, nodes, node_count, rims, cells, room)
 }
 
 // The divider call with the caller's set of limits, over the lists that the caller lends.
@@ -283,6 +280,8 @@ pub fn divide_set(
 }
 
 // The divider call with the set on delivery.
+// Kept: C has an entry with a set and one without. One function for both would take an `Option` of a set, and its promise
+// would be a match on it.
 pub fn divide(
     ring: &[i32],
     chain: &[i32],

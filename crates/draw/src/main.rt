@@ -142,7 +142,8 @@ fn draw<R: Read, W: Write>(input: &mut R, output: &mut W) -> Result<Ended, Cut>
 {
     let mut d = Drawing::new();
     let mut sent: u64 = 0;
-    // Kept: the state says when the run ends; no list is gone over, but a byte is read at each turn, and a read can fail.
+    // Kept: the state says when the run ends, which is the loop's own test. Over `input.bytes()` it would be an `if` with a `return`
+    // at each turn.
     while d.state.draft.wrong.is_none() {
         let Some(b) = read_byte(input)? else {
             return finish(output, &mut d, &mut sent);

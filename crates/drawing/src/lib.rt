@@ -84,7 +84,8 @@ pub enum Phase {
 
 // The ring that is open: the line that it begins at; its sheet size and how many points there are of it and of its chain; the
 // number of its block; what is wrong, if something is; and whether the last step wrote a pair.
-// Kept: a step from a drawing with something wrong may write a pair too, so that one enum for `wrong` and `wrote` would say less.
+// Kept: a step from a drawing with something wrong may write a pair too, so that one enum for `wrong` and `wrote` would have four
+// cases, two of which hold what is wrong.
 #[derive(Clone, Copy)]
 pub struct Draft {
     pub began: u32,
@@ -239,7 +240,8 @@ fn chain_line(o: Draft) -> Draft
 
 // The state between two bytes: how many may still come, the number of the line from 1, its bytes so far, whether its comment
 // has begun, and the open ring.
-// Kept: a comment begins after any number of bytes, which stay those of the line.
+// Kept: a flag, since a comment begins after any number of bytes, which stay those of the line: an enum in its place would hold
+// `length` in both of its cases.
 #[derive(Clone, Copy)]
 pub struct State {
     pub left: u32,

@@ -106,7 +106,9 @@ pub fn points_refusal(limits: Limits, ring: &[i32], chain: &[i32], size: u32) ->
 
 // The first refusal of the lists for a ring of `own` points, 3 and 4, or the nodes that were collected. Of the cell list only
 // the number of its places is looked at. Where the counts fit, the used nodes in the window are collected.
-#[tactic(auto, using(crate::proofs::Tests::counts_hold, crate::proofs::Tests::over))]
+// Kept: of the node list, its count, the rim marks and the cells this reads the first three and lends none on, where the core
+// writes all. A struct of them would be borrowed here with cells that nothing looks at, and that `cell_records` has not.
+#[tactic(auto, using(crate::proofs::Tests::counts_hold, crate::proofs::Tests::over, crate::proofs::Tests::looked_all, crate::proofs::Tests::all, survey::proofs::Gathering::held))]
 pub fn lists_refusal(
     limits: Limits,
     own: usize,

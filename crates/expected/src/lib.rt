@@ -25,46 +25,39 @@ fn same_row<R: Read>(input: &mut R, v: Row) -> bool {
     same
 }
 
-// Number i of the node list: new ones from `at` on come from the file, all others are as they were.
-fn node_before<R: Read>(input: &mut R, before: &[f64], i: usize, at: usize, n: usize) -> f64 {
+// Element i of a list after a call: the n from `at` on come from the file, all others are as they were.
+fn after<R: Read, T: Field>(input: &mut R, was: T, i: usize, at: usize, n: usize) -> T {
     if at <= i && i - at < n {
-        return f64::read(input);
+        return T::read(input);
     }
-    before.get(i).copied().unwrap_or(0.0)
+    was
 }
 
 fn same_nodes<R: Read>(input: &mut R, nodes: &[f64], before: &[f64], at: usize) -> bool {
     let n = words::count(input);
     let mut same = true;
     for (i, node) in nodes.iter().enumerate() {
-        same &= words::same_bits(*node, node_before(input, before, i, at, n));
+        let was = before.get(i).copied().unwrap_or(0.0);
+        same &= words::same_bits(*node, after(input, was, i, at, n));
     }
     same
 }
 
-// Number i of the cell list, which was filled with 65,535 before the call.
-fn cell_before<R: Read>(input: &mut R, i: usize, at: usize, n: usize) -> u32 {
-    if at <= i && i - at < n {
-        return words::word(input);
-    }
-    65535
-}
-
+// The cell list was filled with 65,535 before the call.
 fn same_cells<R: Read>(input: &mut R, cells: &[u32]) -> bool {
     let at = words::count(input);
     let n = words::count(input);
     let mut same = true;
     for (i, cell) in cells.iter().enumerate() {
-        same &= *cell == cell_before(input, i, at, n);
+        same &= *cell == after(input, 65535, i, at, n);
     }
     same
 }
 
-// Mark i after a call: the first n come from the file, all others are as they were. A list that has none gives 255, which is
-// no mark.
-fn mark_after(want: &[u8], before: &[u8], i: usize, n: usize) -> u8 {
+// Whether mark i after a call is as it should be: the first n come from the file, all others are as they were.
+fn same_mark(mark: &u8, want: &[u8], before: &[u8], i: usize, n: usize) -> bool {
     let list = if i < n { want } else { before };
-    list.get(i).copied().unwrap_or(255)
+    list.get(i) == Some(mark)
 }
 
 fn same_rims<R: Read>(input: &mut R, rims: &[u8], before: &[u8]) -> bool {
@@ -73,7 +66,7 @@ fn same_rims<R: Read>(input: &mut R, rims: &[u8], before: &[u8]) -> bool {
     words::read_packed(input, &mut want, n);
     rims.iter()
         .enumerate()
-        .all(|(i, mark)| *mark == mark_after(&want, before, i, n))
+        .all(|(i, mark)| same_mark(mark, &want, before, i, n))
 }
 
 // All that a call leaves: its row and every place of its lists, of which `before` and `marks` are what it found.
@@ -102,20 +95,22 @@ fn same_points<R: Read>(input: &mut R, points: &[i32]) -> bool {
 }
 
 fn same_reading<R: Read>(input: &mut R, r: &Reading) -> bool {
-    let (kind, count, size) = match r.block {
-        Block::Ring { count, size } => (Kind::Ring, count, size),
-        Block::Chain { count } => (Kind::Chain, count, 0),
+    let kind = match r.block {
+        Block::Ring { .. } => Kind::Ring,
+        Block::Chain { .. } => Kind::Chain,
     };
     let mut same = words::word(input) == 0;
     same &= words::word(input) == kind as u32;
-    same &= words::count(input) == count;
-    same &= words::word(input) == size;
+    same &= words::count(input) == r.block.count();
+    same &= words::word(input) == r.block.size();
     same & same_points(input, &r.points)
 }
 
 pub fn same_block<R: Read>(input: &mut R, number: u32, r: Result<Reading, Refused>) -> bool {
     match r {
         Ok(reading) => same_reading(input, &reading),
-        Err(refused) => { (refused.block == number) & (words::word(input) == refused.why.number()) }
+        Err(refused) => {
+            (refused.block == number) & words::is_word(input, u64::from(refused.why))
+        }
     }
 }

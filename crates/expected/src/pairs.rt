@@ -9,6 +9,7 @@ pub fn same_pair<R: Read>(input: &mut R, code: u64, out: &[u8; 1536]) -> bool {
     let answered = words::is_word(input, code);
     let n = words::count(input);
     let mut want = [0u8; 1536];
+    // Kept: whole words are laid over what was found; `words::same_bytes` reads a count of bytes, of which the last word may be part.
     words::fill(&mut want);
     words::read_packed(input, &mut want, n * 4);
     answered & (*out == want)

@@ -25,6 +25,8 @@ use table::Row;
 use wear::Wear;
 
 // The divider call: one row of the table, and the lists as it says: nodes, their rim marks, and cells.
+// Kept: C has an entry with a set of limits and one without, here and with given marks: an `Option` of a set is no type of
+// C's.
 pub fn ring_divide(
     ring: &[i32],
     chain: &[i32],
@@ -44,7 +46,7 @@ pub fn ring_divide(
 }
 
 // The five values of a set, held together.
-// Kept: C hands them over one by one.
+// Kept: C hands them over one by one, so that each entry puts them together once; a set by value would be another C call.
 fn set_of(corner: f64, least: f64, greatest: f64, cuts: u32, share: f64) -> Limits
     ensures { result ≡ record { cuts = cuts; corner = corner; least = least; greatest = greatest; share = share } }
 {
@@ -85,6 +87,7 @@ pub fn ring_divide_set(
 }
 
 // The divider call with given marks: 0 straight, 1 snapped to its given point, 2 snapped to the outline.
+// Kept: C hands the four lists of the marks over one by one, and has this entry without a set and the next with one.
 pub fn ring_divide_marked(
     ring: &[i32],
     kinds: &[u8],

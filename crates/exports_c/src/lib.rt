@@ -4,6 +4,7 @@
 // It stands at the top, beside the programs. A crate is a library or a static library and not both, so each function is that of
 // `exports` under its C name, with its promise word for word. A slice arrives as its address and its length, a struct comes back
 // by value. Nothing is asked of a caller.
+// Kept: one call each beside those of `exports`, since a C function has one name and no type parameter.
 #![tactic(auto)]
 
 ghost use Rattle.std.specs.Prelude.{◌≡◌, length};

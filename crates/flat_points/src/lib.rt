@@ -5,7 +5,6 @@
 
 #![tactic(auto)]
 
-ghost use Rattle.std.specs.Prelude.{◌≡◌};
 ghost use Rattle.clean_steps.specs.Choices.{bent_places};
 ghost use Rattle.clean_steps.specs.Chosen.{chosen, Leaves};
 
@@ -20,13 +19,14 @@ pub fn bent<'a>(r: &Choice<'a>) -> Choice<'a>
     let mut out = *r;
     let places = &mut out.places;
     let mut count: usize = 0;
+    // Kept: a turn looks at a place and at both beside it, round the ring.
     for (i, &here) in r.places[..n].iter().enumerate() {
         let before = r.places[vector::prev(i, n)];
         let after = r.places[vector::next(i, n)];
         if !nearness::flat(
-            r.ring[before as usize],
-            r.ring[here as usize],
-            r.ring[after as usize],
+            r.ring[usize::from(before)],
+            r.ring[usize::from(here)],
+            r.ring[usize::from(after)],
             r.tol,
         ) {
             places[count] = here;

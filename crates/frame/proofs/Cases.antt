@@ -11,7 +11,6 @@ use lib.IntN.{ℤ, pos}
 use Rattle.std.specs.Prelude.{Ok, Err}
 use Rattle.std.specs.Simd.{first_chunks}
 use Rattle.text.proofs.Chunks.{chunk_at}
-use Rattle.blocks.specs.Writing.{bits}
 use Rattle.svg.specs.Place.{point_place, unit_place}
 use borrow.Author.Tests.{lt-ltb, le-ltb}
 use Rattle.blocks.specs.declared.Reading.{Reading}
@@ -101,7 +100,7 @@ module _ (ps : List ℤ) (m n i : ℕ) (pairs : List (List ℤ)) (e : pairs ≡ 
   unfolding point_place
   place k b =
       let a = get_or-take m pairs i [] l ∙ ap (λ fs. get_or fs i []) e in
-      ap (λ p. unit_place (bits (get_or p k (pos 0)))) a ∙ ap (λ x. unit_place (bits x)) (chunk_at 2 n i k ps (pos 0) h b)
+      ap (λ p. unit_place (get_or p k (pos 0))) a ∙ ap unit_place (chunk_at 2 n i k ps (pos 0) h b)
 
   pub x_place : point_place (get_or (take m pairs) i []) 0 ≡ point_place ps (i * 2)
   x_place = let z : i * 2 + 0 ≡ i * 2 = omega arith in place 0 (omega arith) ∙ ap (point_place ps) z

@@ -7,17 +7,17 @@
 
 ghost use Rattle.std.specs.Prelude.{◌≡◌, ◌+◌, ◌*◌, ◌≤◌, ◌<◌, length};
 ghost use Rattle.text.specs.Page.{Room, Wrote};
-ghost use Rattle.blocks.specs.Blocks.{points};
 ghost use Rattle.job.specs.Run.{block_at};
 ghost use Rattle.frame.specs.Bounds as Bounds;
 ghost use Rattle.frame.specs.Head as Head;
 
-use blocks::{Block, Reading};
+use blocks::Reading;
 use std::marker::Model;
 use svg::ORIGIN;
 use text::Page;
 
 // The box of all points so far; none of its sides is beyond the highest place.
+// Kept: not extent's box of doubles: one for both would have a type parameter, and tests of an order in which a NaN is.
 #[derive(Clone, Copy)]
 pub struct Extent {
     pub left: u64,
@@ -80,14 +80,6 @@ pub fn block_at(job: &[u8], i: usize) -> &[u8]
     &rest[..rest.len().min(512)]
 }
 
-fn count_of(block: Block) -> usize
-    ensures { result ≡ points block }
-{
-    match block {
-        Block::Ring { count, .. } | Block::Chain { count } => count,
-    }
-}
-
 // The least power of ten of which forty are more than the size.
 #[tactic(auto, using(crate::proofs::Cases::decade_one, crate::proofs::Cases::decade_above, crate::proofs::Cases::decade_bounds))]
 fn decade(size: u64) -> u64
@@ -116,6 +108,7 @@ fn step_for(size: u64) -> u64
 }
 
 impl Extent {
+    // Kept: no Option: as in the definition a box begins with no point in it and is widened.
     #[tactic(auto, unfolding(crate::specs::Bounds::no_point))]
     fn none() -> Extent
         ensures { result ≡ Bounds.no_point }
@@ -149,7 +142,7 @@ impl Extent {
     {
         let mut e = self;
         let (pairs, _) = reading.points.as_chunks::<2>();
-        for pair in &pairs[..count_of(reading.block).min(60)] {
+        for pair in &pairs[..reading.block.count().min(60)] {
             e = e.with(svg::point_place(pair, 0), svg::point_place(pair, 1));
         }
         e

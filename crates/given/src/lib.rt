@@ -11,11 +11,13 @@ ghost use Rattle.vector.specs.Rings.{points_of};
 ghost use Rattle.marks.specs.declared.EdgeMark.TheVariants.{Straight};
 ghost use Rattle.call.specs.Marked as Marked;
 ghost use Rattle.outline.specs.Outline.{nearest_boundary_point};
+ghost use Rattle.given_tests.specs.Lent.{lent_in};
 ghost use Rattle.given.specs.Steps.{sought, OutlineRead, places_in, MarksOf, mark_left, Laid, Survive};
 
 mod lead;
 
 use clean::CleanedRing;
+use given_tests::Marking;
 use lead::LeadLine;
 use marks::{Edge, EdgeMark};
 use vector::{GridPoint, MOST_POINTS, Point, Ring};
@@ -29,41 +31,38 @@ impl LeadLine {
     }
 }
 
-// How many points each loop has, in the first places.
+// How many points each loop has, in the first places; the places after them hold 0.
 fn loop_counts(loops: &[u32]) -> [usize; 20]
     requires { length loops.now ≤ 20 }
     ensures { take (length loops.now) result ≡ loops.now }
 {
-    let mut out = [0usize; 20];
-    for (i, m) in loops.iter().enumerate() {
-        out[i] = *m as usize;
-    }
-    out
+    std::array::from_fn(|i| loops.get(i).map_or(0, |m| *m as usize))
 }
 
 // The outline that is sought: the one lent where it is called for, and else none.
-fn lead_line(kinds: &[u8], outline: &[i32], loops: &[u32]) -> LeadLine
-    requires { Marked.outline_out kinds.now outline.now loops.now ≡ false }
-    ensures { OutlineRead kinds.now outline.now loops.now result }
+fn lead_line(marking: Marking<'_>) -> LeadLine
+    requires { Marked.outline_out marking.kinds.now marking.outline.now marking.loops.now ≡ false }
+    ensures { OutlineRead marking.entry.kinds.now marking.entry.outline.now marking.entry.loops.now result }
 {
-    if !given_tests::called_for(kinds) {
+    if !given_tests::called_for(marking.kinds) {
         return LeadLine {
             points: [GridPoint::ORIGIN; MOST_POINTS],
             loops: [0; 20],
             count: 0,
         };
     }
-    let own = lent_points::points(outline, outline.len() / 2);
+    let own = lent_points::points(marking.outline, marking.outline.len() / 2);
     let points = own.points;
     LeadLine {
-        points: points,
-        loops: loop_counts(loops),
-        count: loops.len(),
+        points,
+        loops: loop_counts(marking.loops),
+        count: marking.loops.len(),
     }
 }
 
 // The mark of the edge from a to b, of a kind and with its given point.
-// Kept: the kinds are the bytes of the C interface, and this is the one `match` on them.
+// Kept: the kinds are the bytes that C lends. An enum would be made of each byte by a `match` with a case for those that the
+// tests refuse, to be matched here again, once.
 #[tactic(auto, unfolding(call::specs::Marked::mark_of, call::specs::Marked::lead_point))]
 fn given_mark(kind: u8, p: Point, a: GridPoint, b: GridPoint, lead: &LeadLine) -> EdgeMark
     ensures { result ≡ Marked.mark_of kind p (Marked.lead_point (sought lead.now) a b) }
@@ -79,7 +78,7 @@ fn given_mark(kind: u8, p: Point, a: GridPoint, b: GridPoint, lead: &LeadLine) -
 }
 
 // The same where the edge stays, and else straight: it joins two kept points over dropped ones.
-// Kept: the kind is handed on as the byte that the caller lent.
+// Kept: the kind is the byte that the caller lent, handed on to the one `match` on it, above.
 fn surviving_mark(
     stays: bool,
     kind: u8,
@@ -102,23 +101,23 @@ fn surviving_mark(
 fn marks_left(
     ring: &Ring,
     clean: &CleanedRing,
-    kinds: &[u8],
-    snaps: &[f64],
+    marking: Marking<'_>,
     lead: &LeadLine,
 ) -> [Edge; MOST_POINTS]
-    requires { MarksOf ring.now kinds.now snaps.now clean.now }
-    ensures { Laid (mark_left ring.now clean.now kinds.now snaps.now (sought lead.now)) clean.now.ring.count result }
+    requires { MarksOf ring.now marking.kinds.now marking.snaps.now clean.now }
+    ensures { Laid (mark_left ring.now clean.now marking.entry.kinds.now marking.entry.snaps.now (sought lead.now)) clean.now.ring.count result }
 {
     let places = &clean.places[..clean.ring.count];
     let mut edges = [Edge::STRAIGHT; MOST_POINTS];
+    // Kept: a turn looks at a kept place and at the next one round the cleaned ring, so that it counts them.
     for (j, place) in places.iter().enumerate() {
         let k = usize::from(*place);
         let after = vector::next(k, ring.count);
         let kept = usize::from(places[vector::next(j, places.len())]);
-        let p = nodes::point_at(snaps, k);
+        let p = nodes::point_at(marking.snaps, k);
         let mark = surviving_mark(
             kept == after,
-            kinds[k],
+            marking.kinds[k],
             p,
             ring.points[k],
             ring.points[after],
@@ -133,14 +132,11 @@ fn marks_left(
 pub fn surviving_marks(
     ring: &Ring,
     clean: &CleanedRing,
-    kinds: &[u8],
-    snaps: &[f64],
-    outline: &[i32],
-    loops: &[u32],
+    marking: Marking<'_>,
 ) -> [Edge; MOST_POINTS]
-    requires { MarksOf ring.now kinds.now snaps.now clean.now × (Marked.outline_out kinds.now outline.now loops.now ≡ false) }
-    ensures { Survive (record { kinds = kinds.now; snaps = snaps.now; outline = outline.now; loops = loops.now })
-        (points_of ring.now) (places_in clean.now) result }
+    requires { MarksOf ring.now marking.kinds.now marking.snaps.now clean.now
+        × (Marked.outline_out marking.kinds.now marking.outline.now marking.loops.now ≡ false) }
+    ensures { Survive (lent_in marking.entry) (points_of ring.now) (places_in clean.now) result }
 {
-    marks_left(ring, clean, kinds, snaps, &lead_line(kinds, outline, loops))
+    marks_left(ring, clean, marking, &lead_line(marking))
 }

@@ -9,20 +9,34 @@ use lib.ListN.{length, get_or, take}
 use lib.Seq.{take-length}
 use lib.Dec.{ltb, eqb}
 use lib.Ieee.{Float}
-use borrow.Author.Tests.{lt-ltb, ltb-false, ne_eqb, eqb-true}
+use borrow.Author.Tests.{lt-ltb, ltb-false, ne_eqb, eq-eqb, eqb-true}
 use Rattle.laws.specs.Bounded.{any}
 use Rattle.laws.proofs.Booleans.{is_true, is_false, not-of, neither, or-true}
-use Rattle.laws.proofs.Search.{any_hit, any_none}
+use Rattle.laws.proofs.Search.{any_hit, any_none, any_ext, any_listed}
+use Rattle.std.specs.List.{list_any, enumerate_from}
+use Rattle.std.proofs.lemmas.List.FromFn.{length-enumerate_from, get_or-enumerate_from}
 use Rattle.outline.specs.Outline.{total}
 use Rattle.outline.proofs.Scan.{total_up, sum_more, loops-few}
 use Rattle.nodes.specs.Flat.{node_in_of}
-use Rattle.call.specs.Marked.{mark_out, loops_out}
+use Rattle.call.specs.Marked.{mark_out, marks_out, loops_out}
 
 abbrev pub calls : List ℕ → ℕ → Bool
 calls kinds i = eqb (get_or kinds i 0) 2
 
-abbrev pub out_at : List ℕ → List Float → ℕ → Bool
-out_at kinds snaps i = mark_out (get_or kinds i 0) (node_in_of snaps i)
+abbrev pub out_of : List Float → ℕ × ℕ → Bool
+out_of snaps p = mark_out p.1 (node_in_of snaps p.0)
+
+-- the library's search over the kinds and their places, where the counts are right
+pub marks_listed : (kinds : List ℕ) (snaps : List Float) (n : ℕ) → length kinds ≡ n → not (eqb (length snaps) (n * 2)) ≡ false
+    → list_any (out_of snaps) (enumerate_from 0 kinds) ≡ marks_out kinds snaps n
+unfolding marks_out
+marks_listed kinds snaps n e h =
+    let ps = enumerate_from 0 kinds in
+    any_listed (out_of snaps) (0, 0) ps
+    ∙ ap (any (λ i. out_of snaps (get_or ps i (0, 0)))) (length-enumerate_from 0 kinds ∙ e)
+    ∙ any_ext (λ i. out_of snaps (get_or ps i (0, 0))) (λ i. out_of snaps (i, get_or kinds i 0)) n
+    (λ i l. ap (out_of snaps) (get_or-enumerate_from 0 kinds i (0, 0) (omega arith) ∙ ap (λ k. (k, get_or kinds i 0)) (omega arith)))
+    ∙ simp (eq-eqb _ _ e, h)
 
 -- ---- loops
 abbrev pub short : List ℕ → ℕ → Bool

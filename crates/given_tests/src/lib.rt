@@ -11,8 +11,19 @@ ghost use Rattle.call.specs.Marked as Marked;
 
 use vector::{MOST_POINTS, Point};
 
+// The marks of a ring's edges as a caller lends them: the kind of each, 0 straight, 1 snapped to its given point, 2 snapped
+// to the outline; the points, in mm; and the outline with the number of points of each of its loops.
+#[derive(Clone, Copy)]
+pub struct Marking<'a> {
+    pub kinds: &'a [u8],
+    pub snaps: &'a [f64],
+    pub outline: &'a [i32],
+    pub loops: &'a [u32],
+}
+
 // A mark that is of no kind, or whose given point is out of limits.
-// Kept: the kinds are the bytes of the C interface, and an enum for them would only be matched back to these two tests.
+// Kept: the kinds are the bytes of the C interface, and each of three places asks another thing of them: this one, `called_for`
+// and given's one `match`. An enum would be made of each byte first, where one of no kind is refused here.
 #[tactic(auto, unfolding(call::specs::Marked::mark_out))]
 fn mark_out(kind: u8, p: Point) -> bool
     ensures { result ≡ Marked.mark_out kind p }
@@ -22,19 +33,17 @@ fn mark_out(kind: u8, p: Point) -> bool
 
 // 13: the marks of a ring of n points. The given point of a mark that is not of kind 1 may be anything.
 #[tactic(auto, unfolding(call::specs::Marked::marks_out))]
-pub fn marks_out(n: usize, kinds: &[u8], snaps: &[f64]) -> bool
+pub fn marks_out(n: usize, marking: Marking<'_>) -> bool
     requires { n ≤ most_points }
-    ensures { result ≡ Marked.marks_out kinds.now snaps.now n }
+    ensures { result ≡ Marked.marks_out marking.entry.kinds.now marking.entry.snaps.now n }
 {
-    if kinds.len() != n || snaps.len() != n * 2 {
-        return true;
-    }
-    for (i, kind) in kinds.iter().enumerate() {
-        if mark_out(*kind, nodes::point_at(snaps, i)) {
-            return true;
-        }
-    }
-    false
+    let Marking { kinds, snaps, .. } = marking;
+    kinds.len() != n
+        || snaps.len() != n * 2
+        || kinds
+            .iter()
+            .enumerate()
+            .any(|(i, &kind)| mark_out(kind, nodes::point_at(snaps, i)))
 }
 
 // Whether some mark snaps to the outline.
@@ -65,14 +74,14 @@ fn loops_out(loops: &[u32], n: usize) -> bool
 
 // 14: the outline, where it is called for. Where it is not, it may be anything.
 #[tactic(auto, unfolding(call::specs::Marked::outline_out))]
-pub fn outline_out(kinds: &[u8], outline: &[i32], loops: &[u32]) -> bool
-    ensures { result ≡ Marked.outline_out kinds.now outline.now loops.now }
+pub fn outline_out(marking: Marking<'_>) -> bool
+    ensures { result ≡ Marked.outline_out marking.entry.kinds.now marking.entry.outline.now marking.entry.loops.now }
 {
-    let n = outline.len() / 2;
-    called_for(kinds)
-        && (outline.len() % 2 != 0
+    let n = marking.outline.len() / 2;
+    called_for(marking.kinds)
+        && (marking.outline.len() % 2 != 0
             || n == 0
             || MOST_POINTS < n
-            || loops_out(loops, n)
-            || lent_points::any_outside(outline))
+            || loops_out(marking.loops, n)
+            || lent_points::any_outside(marking.outline))
 }

@@ -14,7 +14,7 @@ use lib.IntN.{ℤ, pos}
 use lib.Ieee.{Float}
 use Rattle.std.specs.Prelude.{Result, Ok, Err}
 use Rattle.blocks.proofs.Accepted.{was_allowed}
-use Rattle.blocks.proofs.Counts.{points, few-points, all-places}
+use Rattle.blocks.proofs.Counts.{points, few_points, all-places}
 use Rattle.blocks.specs.declared.Block.{Block}
 use Rattle.blocks.specs.declared.Block.TheVariants.{Ring, Chain}
 use Rattle.blocks.specs.declared.Reading.{Reading}
@@ -22,7 +22,7 @@ use Rattle.blocks.specs.declared.Refused.{Refused}
 use Rattle.blocks.specs.Fields.{pair}
 use Rattle.blocks.specs.Blocks.{read_block}
 use Rattle.state.specs.declared.State.{State}
-use Rattle.told.specs.declared.Told.{Told}
+use Rattle.told.specs.Text.{Tells}
 use Rattle.job.specs.Step.{Step, text_of, ends, waits, divides, taken, answered, step_of}
 use Rattle.job.specs.Run.{Bytes, Course, onward, ran, block_at, read_to}
 
@@ -50,12 +50,12 @@ module _ (s : State) (ps : List ℤ) (l : List Float) (rs : List ℕ) where
   accepted qs (Ring count size) = (refl, refl)
   accepted qs (Chain count) = (refl, refl)
 
-  ends-ended : (t : Told) → (ends s ps l rs t).state.ended ≡ true
+  ends-ended : (t : Tells) → (ends s ps l rs t).state.ended ≡ true
   unfolding ends
   ends-ended t = refl
 
   module _ (few : s.count ≤ 60) (long : length ps ≡ 120) where
-    ends_held : (t : Told) → Held (ends s ps l rs t).state (ends s ps l rs t).points
+    ends_held : (t : Tells) → Held (ends s ps l rs t).state (ends s ps l rs t).points
     unfolding ends
     ends_held t = record { few = few; long = long }
 
@@ -72,28 +72,28 @@ module _ (s : State) (ps : List ℤ) (l : List Float) (rs : List ℕ) where
         let f = was_allowed b s.block r e in
         let a = accepted r.points r.block in
         inr (record { whole = f.whole; number = f.number; next = a.0; going = a.1 })
-    by_answer (Err e) d = inl (ends-ended (Told.Block e))
+    by_answer (Err e) d = inl (ends-ended (Tells.Block e))
 
     pub outcome : ((step_of s ps l rs b).state.ended ≡ true) ⊎ Went s b (step_of s ps l rs b)
     unfolding step_of
     outcome =
-        either (λ (e : Step). (e.state.ended ≡ true) ⊎ Went s b e) (eqb (s.block % 2) 0 && eqb (length b) 0) (ends s ps l rs Told.Nothing)
+        either (λ (e : Step). (e.state.ended ≡ true) ⊎ Went s b e) (eqb (s.block % 2) 0 && eqb (length b) 0) (ends s ps l rs Tells.Nothing)
         (answered s ps l rs (read_block b s.block))
-        (inl (ends-ended Told.Nothing))
+        (inl (ends-ended Tells.Nothing))
         (by_answer (read_block b s.block) refl)
 
     answered-held : s.count ≤ 60 → length ps ≡ 120 → (a : Result Reading Refused) → read_block b s.block ≡ a
         → Held (answered s ps l rs a).state (answered s ps l rs a).points
     unfolding answered
-    answered-held f g (Ok r) e = taken-held f g r.points r.block (few-points b s.block r e) (all-places b s.block r e)
-    answered-held f g (Err e) d = ends_held f g (Told.Block e)
+    answered-held f g (Ok r) e = taken-held f g r.points r.block (few_points b s.block r e) (all-places b s.block r e)
+    answered-held f g (Err e) d = ends_held f g (Tells.Block e)
 
     pub step-held : s.count ≤ 60 → length ps ≡ 120 → Held (step_of s ps l rs b).state (step_of s ps l rs b).points
     unfolding step_of
     step-held f g =
-        either (λ (e : Step). Held e.state e.points) (eqb (s.block % 2) 0 && eqb (length b) 0) (ends s ps l rs Told.Nothing)
+        either (λ (e : Step). Held e.state e.points) (eqb (s.block % 2) 0 && eqb (length b) 0) (ends s ps l rs Tells.Nothing)
         (answered s ps l rs (read_block b s.block))
-        (ends_held f g Told.Nothing)
+        (ends_held f g Tells.Nothing)
         (answered-held f g (read_block b s.block) refl)
 
     -- a number of two bytes

@@ -9,8 +9,7 @@ use Rattle.blocks.specs.declared.Block.TheVariants.{Ring, Chain}
 use Rattle.blocks.specs.declared.Reading.{Reading}
 use Rattle.blocks.specs.declared.Refused.{Refused}
 use Rattle.blocks.specs.Blocks.{read_block}
-use Rattle.told.specs.declared.Told.{Told}
-use Rattle.told.specs.Text.{told_text, CanTell}
+use Rattle.told.specs.Text.{Tells, tells_of, told_text, CanTell}
 use Rattle.state.specs.declared.State.{State}
 use Rattle.job.specs.declared.Stepped.{Stepped}
 
@@ -22,7 +21,7 @@ pub record Step : Type 0 where
   pub nodes : List Float
   pub rims : List ℕ
   pub cells : List ℕ
-  pub told : Told
+  pub told : Tells
 
 -- the text that is printed of it
 abbrev pub text_of : Step → List ℕ
@@ -36,7 +35,7 @@ no_cells = replicate 496 0
 abbrev pub closed : State → State
 closed s = record { block = s.block; count = s.count; size = s.size; used = s.used; ended = true }
 
-unfoldable pub ends : State → List ℤ → List Float → List ℕ → Told → Step
+unfoldable pub ends : State → List ℤ → List Float → List ℕ → Tells → Step
 ends s ps l rs t = record { state = closed s; points = ps; nodes = l; rims = rs; cells = no_cells; told = t }
 
 -- a ring block: its ring waits for its chain, and nothing is told yet
@@ -48,7 +47,7 @@ waits s l rs count size qs =
       nodes = l;
       rims = rs;
       cells = no_cells;
-      told = Told.Nothing;
+      told = Tells.Nothing;
     }
 
 -- the call of the ring that waits, with its chain, over the run's node list and the rim marks beside it
@@ -66,7 +65,7 @@ divides s ps l rs chain =
       nodes = over l a.nodes;
       rims = a.rims;
       cells = over_cells no_cells a.cells;
-      told = Told.Ring (s.block / 2) s.used a.row;
+      told = Tells.Ring (s.block / 2) s.used a.row;
     }
 
 -- a block with the points qs, as it was read
@@ -77,13 +76,13 @@ taken s ps l rs qs (Chain count) = divides s ps l rs (take (count * 2) qs)
 -- a block that was read, or was refused: "A block refusal ends the run with `block NUMBER refused CODE`"
 unfoldable pub answered : State → List ℤ → List Float → List ℕ → Result Reading Refused → Step
 answered s ps l rs (Ok r) = taken s ps l rs r.points r.block
-answered s ps l rs (Err e) = ends s ps l rs (Told.Block e)
+answered s ps l rs (Err e) = ends s ps l rs (Tells.Block e)
 
 -- the step over the bytes b of the next block: 512 of them, or what is left of the input, or none where it has ended. "part of a block, or the input ends
 -- after a ring block" is 9, with the number "of the missing chain block"; where the input ends after a chain block, or is empty, nothing is printed
 unfoldable pub step_of : State → List ℤ → List Float → List ℕ → List ℕ → Step
 step_of s ps l rs b =
-    cond (eqb (s.block % 2) 0 && eqb (length b) 0) (ends s ps l rs Told.Nothing) (answered s ps l rs (read_block b s.block))
+    cond (eqb (s.block % 2) 0 && eqb (length b) 0) (ends s ps l rs Tells.Nothing) (answered s ps l rs (read_block b s.block))
 
 -- the code's step answered r, and left the points q, the nodes m, the rim marks w and the cells p; and what it tells can be printed
 pub record Steps (e : Step) (r : Stepped) (q : List ℤ) (m : List Float) (w p : List ℕ) : Type 0 where
@@ -92,8 +91,8 @@ pub record Steps (e : Step) (r : Stepped) (q : List ℤ) (m : List Float) (w p :
   pub nodes : m ≡ e.nodes
   pub rims : w ≡ e.rims
   pub cells : p ≡ e.cells
-  pub told : r.told ≡ e.told
-  pub tells : CanTell r.told p
+  pub told : tells_of r.told ≡ e.told
+  pub tells : CanTell (tells_of r.told) p
 
 -- a step can be made: the ring that waits has at most 60 points, in their places
 pub record CanStep (s : State) (ps : List ℤ) : Type 0 where

@@ -7,11 +7,12 @@
 #![tactic(auto)]
 
 ghost use Rattle.std.specs.Prelude.{◌≡◌, ◌*◌, ◌≤◌, ◌<◌, length, take};
+ghost use Rattle.table.specs.Answers as Answers;
 ghost use Rattle.job.specs.Step.{no_cells, divides, Steps, CanStep};
 
 use nodes::NodeNumber;
 use state::State;
-use table::Row;
+use table::Answer;
 use told::Told;
 
 // The state after a step, and what it tells of its block.
@@ -19,6 +20,17 @@ use told::Told;
 pub struct Stepped {
     pub state: State,
     pub told: Told,
+}
+
+// The count of nodes that an answer leaves listed.
+fn listed(answer: Answer) -> usize
+    ensures { result ≡ (Answers.values answer).nodes }
+{
+    match answer {
+        Answer::Divided { nodes, .. }
+        | Answer::Refused { nodes, .. }
+        | Answer::Failed { nodes, .. } => nodes,
+    }
 }
 
 // Divides the ring that waits, with the first `run` points of a chain, over the node list and the empty cell list. It is never
@@ -40,7 +52,7 @@ pub fn divide_ring(
     let end = s.count * 2;
     let stop = run * 2;
     let used = s.used;
-    let row = Row::from(divider::divide(
+    let answer = divider::divide(
         &ring[..end],
         &chain[..stop],
         s.size,
@@ -49,16 +61,16 @@ pub fn divide_ring(
         rims,
         cells,
         0,
-    ));
+    );
     let told = Told::Ring {
-        ring: (s.block / 2) as u64,
+        ring: u64::from(s.block / 2),
         used,
-        row,
+        answer,
     };
     let next = s.block + 1;
     let state = State {
         block: next,
-        used: row.nodes as usize,
+        used: listed(answer),
         ended: false,
         ..s
     };

@@ -1,7 +1,7 @@
 // Judge: what the ends and the two cosines say of a diagonal, whether it may be taken and the larger cosine, by which the best is
 // chosen.
 //
-// It stands on cosine, and on corner for the limits; the diagonal asks it of each one before it looks for what stands in the way.
+// It stands on cosine and on limits; the diagonal asks it of each one before it looks for what stands in the way.
 
 #![tactic(auto)]
 
@@ -23,11 +23,11 @@ fn larger(x: f64, y: f64) -> f64
     if x < y { y } else { x }
 }
 
-#[tactic(auto, unfolding(crate::specs::Judge::in_range))]
+#[tactic(auto, using(laws::proofs::Booleans::and_comm), unfolding(crate::specs::Judge::in_range, limits::specs::Sets::between))]
 fn in_range(limits: Limits, c: f64) -> bool
     ensures { result ≡ Judge.in_range limits c }
 {
-    c <= limits.greatest && limits.least <= c
+    limits::between(limits.least, limits.greatest, c)
 }
 
 // The cosines of the diagonal from o to q with the two sides at o.
@@ -65,6 +65,7 @@ impl Cosines {
 
 // The larger cosine of the diagonal from o to q, if it may be taken: its ends differ, and both cosines are between the limits.
 // The sides are the steps from o to the next corner and to the one before.
+#[tactic(auto, using(vector::proofs::Same::derived_same), unfolding(crate::specs::Judge::judged))]
 pub fn judge(limits: Limits, o: GridPoint, q: GridPoint, next: Side, prev: Side) -> Option<f64>
     requires { OnSheet o × OnSheet q }
     ensures { result ≡ Judge.judged limits o q next.step prev.step }

@@ -11,7 +11,7 @@ ghost use Rattle.choice.specs.Search as Rule;
 ghost use Rattle.least.specs.Trial.{trial_of, choice_of};
 
 // The choices among the first points of a ring, of which one is wanted whose own ring gets a number.
-// Kept: the number is that of a row, by which a ring's own run and those of its choices are compared, and which C is answered.
+// Kept: any number may be wanted; a `lone_ring::Fault`, which is one of four, would ask more of a caller.
 #[derive(Clone, Copy)]
 pub struct Search<'a> {
     pub ring: &'a [i32],
@@ -57,11 +57,6 @@ impl Search<'_> {
             (λ c. (c < 2 ^ self.now.points)
             × (choice_of self.now.ring.now self.now.chain.now self.now.size self.now.points self.now.wanted ≡ c)) }
     {
-        for k in 3..self.points + 1 {
-            if let Some(c) = self.first_of_count(k as u32) {
-                return Some(c);
-            }
-        }
-        None
+        (3..self.points as u32 + 1).find_map(|k| self.first_of_count(k))
     }
 }

@@ -1,2 +1,3 @@
 -- Laws for the code of this crate.
 pub mod Reading
+pub mod Made

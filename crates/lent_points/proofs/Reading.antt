@@ -1,18 +1,19 @@
 -- The scan of the points place by place, and the points as an array holds them.
 use Prim.Native.Nat.{ℕ, zero, suc, ◌+◌, ◌-◌, ◌*◌, ◌≤◌, ◌<◌}
 use native.Mathlib.Omega.{arith}
-use native.Mathlib.Numerals.{unary_clauses}
+use native.Mathlib.Decide.{dec_le}
 use mathlib.Core.Path.{◌≡◌, refl, sym, ap, ◌∙◌}
 use mathlib.Core.Bool.{Bool}
 use mathlib.Core.List.{List, [], ◌∷◌, ◌++◌}
 use lib.IntN.{ℤ, pos}
-use lib.ListN.{length, get_or, set, take, drop, replicate, take-append-drop}
-use lib.Seq.{drop-set-lt, drop-drop, get_or-take}
+use lib.ListN.{length, get_or, take, replicate, length-append, length-replicate}
+use lib.Seq.{get_or-take, length-take-le}
 use Rattle.laws.specs.Bounded.{any}
+use Rattle.std.proofs.lemmas.List.{ext_get_or, get_or_past}
+use Rattle.laws.proofs.Lists.{all_same}
 use Rattle.laws.proofs.Search.{any_ext, any_listed}
 use Rattle.std.specs.List.{list_any}
 use Rattle.std.specs.Simd.{first_chunks}
-use Rattle.laws.specs.Table.{tab}
 use Rattle.laws.proofs.Table.{length_tab, get_d_tab}
 use Rattle.vector.specs.declared.GridPoint.{GridPoint}
 use Rattle.vector.specs.Grid.{origin}
@@ -53,20 +54,30 @@ any-outside-pairs l n ps e f h =
     ∙ any_ext (λ i. outside (pair_in l n i)) (outside_at l) n (λ i k. ap outside (pair_at l n i h k))
     ∙ sym (any-outside-is l n)
 
--- so it is with the first n pairs
-pub pair_among : (l : List ℤ) (m n i : ℕ) (ps : List (List ℤ)) → ps ≡ first_chunks 2 m l → m * 2 ≤ length l → n ≤ m → i < n
-    → point_in (get_or (take n ps) i []) 0 ≡ point_in l i
-pair_among l m n i ps e h o k = ap (λ p. point_in p 0) (get_or-take n ps i [] k ∙ ap (λ ps. get_or ps i []) e) ∙ pair_at l m i h (omega (arith, o, k))
+-- so it is with the first n pairs, and after them there is no pair and no point
+pub pair_among : (l : List ℤ) (m n i : ℕ) (ps : List (List ℤ)) → ps ≡ first_chunks 2 m l → length ps ≡ m → m * 2 ≤ length l → n ≤ m
+    → point_in (get_or (take n ps) i []) 0 ≡ get_or (points_in l n) i origin
+pair_among l m n i ps e f h o = go (dec_le (suc i) n)
+  where
+    none : n ≤ i → point_in (get_or (take n ps) i []) 0 ≡ get_or (points_in l n) i origin
+    none k =
+        ap (λ p. point_in p 0) (get_or_past (take n ps) i [] (omega (arith, length-take-le n ps (omega arith))))
+        ∙ sym (get_or_past (points_in l n) i origin (omega (arith, length_tab (point_in l) n)))
 
--- ---- an array of 60 that is filled from the front: the rest is as it was
-drop-same : {A : Type 0} (i n : ℕ) (x : A) → drop i (replicate n x) ≡ replicate (n - i) x
-drop-same zero n x = simp unary_clauses refl
-drop-same (suc i) zero x = let e : 0 ≡ 0 - suc i = omega arith in ap (λ (k : ℕ). replicate k x) e
-drop-same (suc i) (suc n) x = simp unary_clauses (drop-same i n x)
+    go : Dec (i < n) → point_in (get_or (take n ps) i []) 0 ≡ get_or (points_in l n) i origin
+    go (yes k) =
+        ap (λ p. point_in p 0) (get_or-take n ps i [] k ∙ ap (λ ps. get_or ps i []) e) ∙ pair_at l m i h (omega arith)
+        ∙ sym (get_d_tab (point_in l) n i origin k)
+    go (no k) = none (omega arith)
 
-pub fill_more : {A : Type 0} (out m : List A) (i : ℕ) (x : A) → drop i out ≡ drop i m → drop (i + 1) (set out i x) ≡ drop (i + 1) m
-fill_more out m i x e = drop-set-lt (i + 1) out i x (omega arith) ∙ sym (drop-drop 1 i out) ∙ ap (drop 1) e ∙ drop-drop 1 i m
+-- ---- a list at the front of an array of 60, and the rest the same
+pub padded_at : {A : Type 0} (m : List A) (n : ℕ) (d : A) (i : ℕ) → get_or (m ++ replicate n d) i d ≡ get_or m i d
+padded_at [] n d i = all_same (λ x. x ≡ d) d n d refl refl i
+padded_at (x ∷ m) n d zero = refl
+padded_at (x ∷ m) n d (suc i) = padded_at m n d i
 
-pub filled : {A : Type 0} (f : ℕ → A) (out : List A) (n : ℕ) (x : A) → take n out ≡ tab f n → drop n out ≡ drop n (replicate 60 x)
-    → out ≡ tab f n ++ replicate (60 - n) x
-filled f out n x a b = sym (take-append-drop n out) ∙ (λ j. a j ++ (b ∙ drop-same n 60 x) j)
+pub padded : {A : Type 0} (l m : List A) (n : ℕ) (d : A) → length m ≡ n → n ≤ 60 → length l ≡ 60 → ((i : ℕ) → i < 60 → get_or l i d ≡ get_or m i d)
+    → l ≡ m ++ replicate (60 - n) d
+padded l m n d a b c e =
+    ext_get_or d l (m ++ replicate (60 - n) d) (simp (length-append, length-replicate) (omega arith))
+    (λ i h. e i (omega arith) ∙ sym (padded_at m (60 - n) d i))

@@ -25,14 +25,6 @@ pub contains_is : (r : RangeInclusive Float) (x : Float) → range_inclusive_exh
     → range_inclusive_contains float_partial_cmp r x ≡ (le (range_inclusive_start r) x && le x (range_inclusive_end r))
 contains_is r x e = rw e (λ i. le_is (range_inclusive_start r) x i && le_is x (range_inclusive_end r) i)
 
-pub zero_is : (b : ℕ) → b ≡ 0 → of_bits binary64 b ≡ nat 0
-unfolding of_bits of_int round
-zero_is b e = ap (of_bits binary64) e
-
-pub two_is : (b : ℕ) → b ≡ 0x4000_0000_0000_0000 → of_bits binary64 b ≡ nat 2
-unfolding of_bits of_int round
-two_is b e = ap (of_bits binary64) e
-
 pub minus_one_is : (b : ℕ) → b ≡ 0x3FF0_0000_0000_0000 → neg (of_bits binary64 b) ≡ nat 0 -f nat 1
 unfolding of_bits of_int round sub add neg sum
 minus_one_is b e = ap (λ (n : ℕ). neg (of_bits binary64 n)) e

@@ -57,7 +57,7 @@ impl Limits {
 
 // A value is between two, ends allowed. A NaN is not.
 #[tactic(auto, using(crate::proofs::Literals::contains_is), unfolding(crate::specs::Sets::between))]
-fn between(low: f64, high: f64, x: f64) -> bool
+pub fn between(low: f64, high: f64, x: f64) -> bool
     ensures { result ≡ Sets.between low high x }
 {
     (low..=high).contains(&x)
@@ -72,7 +72,7 @@ fn cosines_out(least: f64, greatest: f64) -> bool
 }
 
 // 15: the set of limits.
-#[tactic(auto, using(crate::proofs::Literals::zero_is, laws::proofs::Constants::one_is, crate::proofs::Literals::two_is), unfolding(crate::specs::Sets::limits_out))]
+#[tactic(auto, using(laws::proofs::Constants::zero_bits, laws::proofs::Constants::one_is, laws::proofs::Constants::two_bits), unfolding(crate::specs::Sets::limits_out))]
 pub fn limits_out(limits: Limits) -> bool
     ensures { result ≡ Sets.limits_out limits }
 {

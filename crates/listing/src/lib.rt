@@ -76,6 +76,7 @@ fn line(page: &mut Page, nodes: &[f64], i: usize)
 }
 
 // The line of node i, from the place `at` on; answers the place after it.
+// Kept: a list and a place, as a caller had them; `line` is the same on a page.
 pub fn put_line(out: &mut [u8], at: usize, nodes: &[f64], i: usize) -> usize
     requires { (i < 1000000) × (i * 2 + 1 < length nodes.now)
         × Within 1024 (get_or nodes.now (i * 2) nan) × Within 1024 (get_or nodes.now (i * 2 + 1) nan) × (at + 65 ≤ length out.old) }
@@ -91,7 +92,8 @@ fn put_lines(out: &mut [u8], nodes: &[f64], count: usize) -> usize
     ensures { Written out.old 0 (Sheet.lines nodes.now count) result out.new }
 {
     let mut page = Page { out, at: 0 };
-    // Kept: a node's number stands in its line, so that `line` has the nodes and a number, as the sheet's one line alone has.
+    // Kept: over the pairs of numbers `line` would be handed a number, x and y, which `put_line` would take out of the list by
+    // itself, and the definition of node i's line would be two.
     for i in 0..count {
         line(&mut page, nodes, i);
     }
@@ -104,10 +106,7 @@ pub fn nodes_out(nodes: &[f64], count: usize) -> bool
     ensures { result ≡ Sheet.nodes_out nodes.now count }
 {
     let places = nodes.len() / 2;
-    if places < count || MOST_PLACES < places {
-        return true;
-    }
-    !nodes::all_held(nodes, count * 2)
+    places < count || MOST_PLACES < places || !nodes::all_held(nodes, count * 2)
 }
 
 // The sheet of the first `node_count` nodes: 0, or 3 or 17 and no byte written. Kept: a number, which C reads.

@@ -1,7 +1,9 @@
 -- 02, Card 13: the number that a ring gets "on an empty node list".
-use Rattle.std.specs.Prelude.{ℕ, ◌/◌, List, length, replicate, ℤ}
+use Rattle.std.specs.Prelude.{ℕ, ◌/◌, ◌<◌, ◌⊎◌, List, length, replicate, ℤ}
 use Rattle.laws.specs.Double.{naught}
 use Rattle.limits.specs.Limits.{delivered}
+use Rattle.lone_ring.specs.declared.Fault.{Fault}
+use Rattle.lone_ring.specs.declared.Fault.TheVariants.{UnderThree, NotSimple, NoArea, Cell}
 use Rattle.call.specs.Lent.{Lent, divide_lent}
 
 abbrev pub points : List ℤ → ℕ
@@ -24,3 +26,13 @@ trial_lent ring chain size =
 -- the number that the examination entry gives there, 0 of a ring that is divided
 unfoldable pub number_of : List ℤ → List ℤ → ℕ → ℕ
 number_of ring chain size = (divide_lent delivered (trial_lent ring chain size)).row.code
+
+-- "refuses on an empty node list with 5, 6, 7 or 8": the four numbers, and one that is "none of these four"
+abbrev pub number_of_fault : Fault → ℕ
+number_of_fault UnderThree = 5
+number_of_fault NotSimple = 6
+number_of_fault NoArea = 7
+number_of_fault Cell = 8
+
+abbrev pub is_other : ℕ → Type 0
+is_other n = (n < 5) ⊎ (8 < n)

@@ -7,30 +7,56 @@ use lib.IntN.{ℤ}
 use lib.ListN.{length, length-append, length-drop, length-replicate}
 use lib.Seq.{length-take-le}
 use Rattle.laws.specs.Table.{tab}
+use Rattle.laws.proofs.Table.{length_tab}
+use Rattle.limits.specs.declared.Limits.{Limits}
 use Rattle.vector.specs.declared.GridPoint.{GridPoint}
 use Rattle.vector.specs.declared.Ring.{Ring}
 use Rattle.vector.specs.Rings.{points_of, OnSheetRing}
+use Rattle.vector.specs.Size.{OnSheet}
 use Rattle.vector.proofs.Rings as rings
 use Rattle.clean.specs.declared.CleanedRing.{CleanedRing}
 use Rattle.clean.specs.Clean.{clean_polygon}
 use Rattle.clean.specs.Places.{kept_places, Rising}
 use Rattle.clean.specs.Rings.{as_cleaned, Cleaned}
 use Rattle.survivors.specs.Survivors.{surviving}
+use Rattle.clean.proofs.Kept.{clean_length, clean_each}
 use Rattle.clean.proofs.Places.{pick-length, kept_image, kept-rising}
 use Rattle.marks.specs.declared.Edge.{Edge}
 use Rattle.marks.specs.declared.EdgeMark.TheVariants.{Straight}
 use Rattle.marks.specs.Edges.{marks_in}
-use Rattle.call.specs.Marked.{Marking, all_points, given_mark, marked_by}
-use Rattle.call.proofs.Marked.{marks_in_lem}
+use Rattle.call.specs.Marked.{Marking, all_points, given_mark, marked_by, marks_out}
+use Rattle.call.specs.Lent.{point_in}
+use Rattle.call.proofs.Marked.{marks_in_lem, marked-edges, snaps_in}
 use Rattle.given.specs.Steps.{places_in, MarksOf, Survive}
-use Rattle.marked.specs.Steps.{Tested, Prepares}
+use Rattle.divider.specs.Steps.{Passing, Prepares}
+use Rattle.marked.specs.Steps.{early_refusal}
+use Rattle.marked.proofs.Refusing.{Tested, tested}
+
+-- a ring and marks that none of their tests refuses
+pub passing : (L : Limits) (ring : List ℤ) (g : Marking) (size : ℕ) → early_refusal L ring g size ≡ 0
+    → Passing L (length ring / 2) (marked_by size g (all_points ring))
+unfolding marked_by
+passing L ring g size z =
+    let p = tested L ring g size z in
+    let r = all_points ring in
+    let n = length_tab (point_in ring) (length ring / 2) in
+    let m = ap (marks_out g.kinds g.snaps) n ∙ p.marks in
+    record {
+      cuts = p.cuts;
+      from = p.from;
+      few = p.few;
+      fewer = omega (arith, clean_length size r, n);
+      sheet = clean_each OnSheet size r p.sheet;
+      edged = marked-edges size g r;
+      snaps = snaps_in size g r p.sheet m p.outline;
+    }
 
 -- as many places are kept as points are left
 kept-many : (size : ℕ) (r : List GridPoint) → length (kept_places size r) ≡ length (clean_polygon size r)
 kept-many size r = sym (ap length (kept_image size r) ∙ pick-length r (kept_places size r))
 
 -- own is the ring as it was read, of which cleaning left c
-module _ (ring : List ℤ) (g : Marking) (size : ℕ) (h : Tested ring g) (own : Ring) (v : OnSheetRing own) (n : own.count ≡ length ring / 2)
+module _ (L : Limits) (ring : List ℤ) (g : Marking) (size : ℕ) (h : Tested L ring g) (own : Ring) (v : OnSheetRing own) (n : own.count ≡ length ring / 2)
     (a : points_of own ≡ all_points ring)
     (c : CleanedRing) (w : Cleaned size (points_of own) c) where
   many : length (points_of own) ≡ own.count
@@ -60,7 +86,7 @@ module _ (ring : List ℤ) (g : Marking) (size : ℕ) (h : Tested ring g) (own :
         kept = subst (λ (k : ℕ). Rising k (places_in c)) many (subst (Rising (length (points_of own))) (sym w.places) (kept-rising size (points_of own)));
       }
 
-  pub prepares : (es : List Edge) → Survive g (points_of own) (places_in c) es → Prepares ring g size (record { ring = c.ring; edges = es })
+  pub prepares : (es : List Edge) → Survive g (points_of own) (places_in c) es → Prepares (marked_by size g (all_points ring)) (record { ring = c.ring; edges = es })
   unfolding marked_by
   prepares es x =
       let k : length (places_in c) ≡ c.ring.count = ap length w.places ∙ left in

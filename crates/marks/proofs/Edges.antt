@@ -3,12 +3,15 @@ use Prim.Native.Nat.{ℕ, suc, ◌+◌, ◌≤◌, ◌<◌}
 use native.Mathlib.Numerals.{add-one}
 use native.Mathlib.Omega.{arith}
 use mathlib.Core.Path.{◌≡◌, refl, sym, ap, ◌∙◌}
-use mathlib.Core.Bool.{cond}
+use mathlib.Core.Bool.{Bool, cond}
 use mathlib.Core.List.{List, [], ◌∷◌, ◌++◌, map}
 use lib.ListN.{length, get_or, set, replicate, take, length-set}
 use lib.Seq.{take-suc, take-set-le, get_or-set_same, get_or-set_other}
-use lib.Dec.{ltb}
+use lib.Dec.{ltb, eqb}
 use borrow.Author.Tests.{lt-ltb, le-ltb}
+use Rattle.std.specs.List.{count_by}
+use Rattle.std.proofs.lemmas.List.{map-append}
+use Rattle.std.proofs.lemmas.List.Recursion.{is_count_by}
 use Rattle.laws.specs.Bounded.{first}
 use Rattle.laws.specs.Table.{tab}
 use Rattle.laws.proofs.Lists.{all_same}
@@ -27,18 +30,22 @@ use Rattle.marks.specs.Marks.{joins, mark, marks_to}
 use Rattle.marks.specs.Edges.{marks_in, straight_edge, Marked}
 
 -- ---- one edge more
-map_snoc : (l : List Edge) (e : Edge) → map (λ (e : Edge). e.mark) (l ++ (e ∷ [])) ≡ map (λ (e : Edge). e.mark) l ++ (e.mark ∷ [])
-map_snoc [] e = refl
-map_snoc (d ∷ l) e = ap (λ (m : List EdgeMark). d.mark ∷ m) (map_snoc l e)
-
 pub marks-more : (es : List Edge) (i : ℕ) → i < length es → marks_in es (i + 1) ≡ marks_in es i ++ ((get_or es i straight_edge).mark ∷ [])
 marks-more es i h =
-    rw (add-one i) (ap (map (λ (e : Edge). e.mark)) (take-suc es i straight_edge h) ∙ map_snoc (take i es) (get_or es i straight_edge))
+    rw (add-one i) (ap (map (λ (e : Edge). e.mark)) (take-suc es i straight_edge h) ∙ map-append (λ (e : Edge). e.mark) (take i es) (get_or es i straight_edge ∷ []))
 
-pub count-more : (l : List EdgeMark) (m : EdgeMark) → mark_count (l ++ (m ∷ [])) ≡ mark_count l + mark_count (m ∷ [])
-count-more [] m = omega arith
-count-more (Straight ∷ l) m = count-more l m
-count-more (Snap p ∷ l) m = let e = count-more l m in omega arith
+abbrev pub snapped : Edge → Bool
+snapped e = eqb (mark_count (e.mark ∷ [])) 1
+
+one-more : (m : EdgeMark) (ms : List EdgeMark) → mark_count (m ∷ ms) ≡ cond (eqb (mark_count (m ∷ [])) 1) (1 + mark_count ms) (mark_count ms)
+one-more Straight ms = refl
+one-more (Snap p) ms = omega arith
+
+-- the edges that are marked, counted one by one
+pub counted : (es : List Edge) → count_by snapped es ≡ mark_count (map (λ (e : Edge). e.mark) es)
+counted es =
+    sym (is_count_by (λ (ds : List Edge). mark_count (map (λ (e : Edge). e.mark) ds)) snapped refl
+    (λ e ds. one-more e.mark (map (λ (d : Edge). d.mark) ds)) es)
 
 -- ---- the mark of an edge, by the stretch found
 module _ (s : Simplified) (a b : GridPoint) (j : ℕ) (e : j ≡ first (λ k. joins a b (stretch_in s.points s.snaps k)) s.count 0) where

@@ -5,10 +5,11 @@
 
 #![tactic(auto)]
 
-ghost use Rattle.std.specs.Prelude.{◌≡◌, [], ◌∷◌, ◌≤◌, length};
+ghost use Rattle.std.specs.Prelude.{◌≡◌, [], ◌∷◌, ◌≤◌, ◌<◌, length, eqb};
+ghost use Rattle.laws.specs.Bounded.{first, below};
 ghost use Rattle.vector.specs.declared.Point.{Point};
 ghost use Rattle.vector.specs.Rings.{OnSheetPoints};
-ghost use Rattle.chain.specs.Kept.{stretches_in};
+ghost use Rattle.chain.specs.Kept.{stretch_in, stretches_in};
 ghost use Rattle.marks.specs.Part.{mark_count};
 ghost use Rattle.marks.specs.Marks as Marks;
 ghost use Rattle.marks.specs.Edges.{Marked, part_in, ValidMarkedRing};
@@ -17,14 +18,14 @@ use chain::Simplified;
 use vector::{GridPoint, MOST_POINTS, Point, Ring};
 
 // An edge is straight, or carries the point it snaps to.
+// Kept: no Option<Point>: the specification names the form, "Straight, or Snap holding the two doubles of the point".
 #[derive(Clone, Copy)]
 pub enum EdgeMark {
     Straight,
     Snap(Point),
 }
 
-// A mark as an array holds it.
-// Kept: the wrapper, by which specs/ and the crates above read the marks of an array.
+// A mark as an array holds it: by this name definitions and contracts read an array of marks.
 #[derive(Clone, Copy)]
 pub struct Edge {
     pub mark: EdgeMark,
@@ -37,48 +38,56 @@ impl Edge {
 }
 
 // A ring with the marks of its edges, one for each point: what is split and laid out, wherever the marks came from.
-// Kept: the marks stand beside the points, since most steps read the points alone.
+// Kept: the specification names this form ("held beside the ring's points"). A list of pairs would put the 24 bytes of a mark between
+// two points for the area, the test of crossings and the diagonals, which take a list of points.
 #[derive(Clone, Copy)]
 pub struct MarkedRing {
     pub ring: Ring,
     pub edges: [Edge; MOST_POINTS],
 }
 
-// The stretch from p to q joins a and b, in either sense.
-fn joins(p: GridPoint, q: GridPoint, a: GridPoint, b: GridPoint) -> bool
-    ensures { (s : Point) → result ≡ Marks.joins a b (record { from = p; to = q; snap = s }) }
+// Stretch j of the simplified chain joins a and b, in either sense.
+fn joins(chain: &Simplified, j: usize, a: GridPoint, b: GridPoint) -> bool
+    requires { (chain.now.count ≤ 59) × (j < chain.now.count) }
+    ensures { result ≡ Marks.joins a b (stretch_in chain.now.points chain.now.snaps j) }
 {
+    let p = chain.points[j];
+    let q = chain.points[j + 1];
     p == a && q == b || p == b && q == a
 }
 
-// The marks of the ring along the simplified chain. The search for an edge ends at the first stretch that joins its ends.
+// The number of the first stretch of the simplified chain that joins a and b.
+fn stretch_between(chain: &Simplified, a: GridPoint, b: GridPoint) -> Option<usize>
+    requires { chain.now.count ≤ 59 }
+    ensures { result ≡ below chain.now.count (first (λ j. Marks.joins a b (stretch_in chain.now.points chain.now.snaps j)) chain.now.count 0) }
+{
+    (0..chain.count).find(
+        |&j|
+            requires { (chain.now.count ≤ 59) × (j < chain.now.count) }
+        { joins(chain, j, a, b) },
+    )
+}
+
+// The marks of the ring along the simplified chain.
 pub fn mark_edges(ring: &[GridPoint], chain: &Simplified) -> [Edge; MOST_POINTS]
     requires { OnSheetPoints ring.now × (chain.now.count ≤ 59) }
     ensures { Marked (stretches_in chain.now) ring.now (length ring.now) result }
 {
     let mut edges = [Edge::STRAIGHT; MOST_POINTS];
+    // Kept: a turn looks at a point, at the next one round the ring and at the edge's place, which is the point's.
     for (i, &a) in ring.iter().enumerate() {
         let b = ring[vector::next(i, ring.len())];
-        // Kept: nested loops left by a label, one of the forms that are named for edges set beside stretches.
-        'search: for j in 0..chain.count {
-            if joins(chain.points[j], chain.points[j + 1], a, b) {
-                edges[i] = Edge {
-                    mark: EdgeMark::Snap(chain.snaps[j]),
-                };
-                break 'search;
-            }
+        if let Some(j) = stretch_between(chain, a, b) {
+            edges[i].mark = EdgeMark::Snap(chain.snaps[j]);
         }
     }
     edges
 }
 
-fn weight(m: EdgeMark) -> usize
-    ensures { (result ≡ mark_count (m ∷ [])) × (result ≤ 1) }
+fn is_marked(m: EdgeMark) -> bool
+    ensures { result ≡ eqb (mark_count (m ∷ [])) 1 }
 {
-    match m {
-        EdgeMark::Straight => 0,
-        EdgeMark::Snap(_) => 1,
-    }
+    matches!(m, EdgeMark::Snap(_))
 }
 
 // How many of the ring's edges are marked.
@@ -86,9 +95,6 @@ pub fn mark_count(ring: &MarkedRing) -> usize
     requires { ValidMarkedRing ring.now }
     ensures { (result ≡ mark_count (part_in ring.now).edges) × (result ≤ ring.now.ring.count) }
 {
-    let mut total = 0;
-    for e in &ring.edges[..ring.ring.count] {
-        total += weight(e.mark);
-    }
-    total
+    let edges = &ring.edges[..ring.ring.count];
+    edges.iter().filter(|e| is_marked(e.mark)).count()
 }

@@ -17,8 +17,8 @@ ahead (negsuc n) false h = absurd (subst T h tt)
 pub flat_no : (b : Bool) (z w : ℤ) → z ≡ w → le_z z (pos 0) ≡ true → false ≡ b && lt_z (pos 0) w
 flat_no b z w e h = rw (← e, ahead z true h) (sym (and-false b))
 
-pub flat-test : (b d : Bool) (z w : ℤ) → b ≡ d → z ≡ w → le_z z (pos 0) ≡ false → b ≡ d && lt_z (pos 0) w
-flat-test b d z w f e h = rw (← e, ahead z false h) (f ∙ go d)
+pub flat_test : (b d : Bool) (z w : ℤ) → b ≡ d → z ≡ w → le_z z (pos 0) ≡ false → b ≡ d && lt_z (pos 0) w
+flat_test b d z w f e h = rw (← e, ahead z false h) (f ∙ go d)
   where
     go : (d : Bool) → d ≡ d && true
     go true = refl

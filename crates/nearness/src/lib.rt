@@ -24,6 +24,7 @@ pub fn near(a: GridPoint, b: GridPoint, tol: f64) -> bool
 
 // Whether p is within tolerance of the segment joining a and b. The two products are whole numbers, so their quotient is
 // rounded once.
+#[tactic(auto, using(laws::proofs::Signed::back, vector::proofs::Same::derived_same, laws::proofs::Clamp::unit_clamp), unfolding(crate::specs::Nearness::point_segment_distance))]
 fn near_segment(p: GridPoint, a: GridPoint, b: GridPoint, tol: f64) -> bool
     requires { OnSheet p × OnSheet a × OnSheet b }
     ensures { result ≡ (Nearness.point_segment_distance p a b ≤f tol) }
@@ -39,6 +40,7 @@ fn near_segment(p: GridPoint, a: GridPoint, b: GridPoint, tol: f64) -> bool
 
 // Whether p lies within tolerance of the segment joining its neighbours a and b, and the way does not turn back at it.
 // The exact test comes first: it costs no division.
+#[tactic(auto, using(laws::proofs::Signed::back, crate::proofs::Flatness::flat_no, crate::proofs::Flatness::flat_test), unfolding(crate::specs::Nearness::is_flat))]
 pub fn flat(a: GridPoint, p: GridPoint, b: GridPoint, tol: f64) -> bool
     requires { OnSheet a × OnSheet p × OnSheet b }
     ensures { result ≡ Nearness.is_flat tol a p b }

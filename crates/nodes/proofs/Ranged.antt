@@ -9,7 +9,8 @@ use lib.IntN.{pos}
 use lib.Dec.{T}
 use lib.ListN.{length, get_or, take, drop}
 use Rattle.std.specs.Prelude.{Option}
-use Rattle.std.specs.List.{fold}
+use Rattle.std.specs.List.{fold, list_any}
+use Rattle.std.proofs.Math.Bool.{or-false, or_assoc}
 use Rattle.std.specs.Iterator.Runs.{Run, ItemsCountUp}
 use Rattle.std.proofs.Common.{length-take, length-drop, get_or-take, get_or-drop}
 use lib.Ieee.{Float, nan, fin, le}
@@ -18,7 +19,7 @@ use Rattle.laws.specs.Bounded.{any}
 use Rattle.laws.specs.Within.{Within}
 use Rattle.laws.proofs.Between.{tested_1024}
 use Rattle.laws.proofs.Constants.{least_1024, most_1024}
-use Rattle.laws.proofs.Search.{any_at, any-fails, any_ext}
+use Rattle.laws.proofs.Search.{any_at, any-fails, any_ext, any_listed}
 use Rattle.nodes.specs.Flat.{node_in_of, held}
 
 pub held-is : (x : Float) → (le (fin true 1 (pos 10)) x && le x (fin false 1 (pos 10))) ≡ held x
@@ -36,26 +37,13 @@ abbrev pub out : List Float → ℕ → Bool
 out l i = not (held (get_or l i nan))
 
 -- ---- passes
-or-assoc : (a b c : Bool) → ((a || b) || c) ≡ (a || (b || c))
-or-assoc true b c = refl
-or-assoc false b c = refl
-
-any_front : (q : ℕ → Bool) (n : ℕ) → any q (suc n) ≡ (q 0 || any (λ j. q (suc j)) n)
-unfolding any
-any_front q zero = or_end (q 0)
-  where
-    or_end : (b : Bool) → (false || b) ≡ (b || false)
-    or_end true = refl
-    or_end false = refl
-any_front q (suc n) = ap (λ (b : Bool). b || q (suc n)) (any_front q n) ∙ or-assoc (q 0) (any (λ j. q (suc j)) n) (q (suc n))
-
 -- a flag that gathers the tests of a list's elements, which are those of its places
+listed : {A : Type 0} (p : A → Bool) (l : List A) (b : Bool) → fold (λ f x. f || p x) b l ≡ (b || list_any p l)
+listed p [] b = sym (or-false b)
+listed p (x ∷ xs) b = listed p xs (b || p x) ∙ or_assoc b (p x) (list_any p xs)
+
 pub any_fold : {A : Type 0} (p : A → Bool) (d : A) (l : List A) (b : Bool) → fold (λ f x. f || p x) b l ≡ (b || any (λ j. p (get_or l j d)) (length l))
-unfolding any
-any_fold p d [] true = refl
-any_fold p d [] false = refl
-any_fold p d (x ∷ xs) b =
-    any_fold p d xs (b || p x) ∙ or-assoc b (p x) (any (λ j. p (get_or xs j d)) (length xs)) ∙ ap (λ (c : Bool). b || c) (sym (any_front (λ j. p (get_or (x ∷ xs) j d)) (length xs)))
+any_fold p d l b = listed p l b ∙ ap (λ (c : Bool). b || c) (any_listed p d l)
 
 -- a flag that gathers the tests of n numbers from a on
 pub any_run : {S : Type 0} {steps : S → Option ℕ → S → Type 0} (u : Run steps) (x y : ℕ) → ItemsCountUp u x y → u.whole ≡ true → (q : ℕ → Bool) (a n : ℕ) → x ≡ a → y ≡ a + n

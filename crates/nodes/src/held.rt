@@ -4,7 +4,9 @@ ghost use Rattle.std.specs.Prelude.{◌≡◌, not, ◌||◌, false, ◌≤◌, 
 ghost use Rattle.std.specs.List.{fold};
 ghost use Rattle.nodes.specs.Flat as Flat;
 
-// Whether a number is such a coordinate: finite and within 1,024 mm. Kept: no `contains`, since both ends are compared at once.
+// Whether a number is such a coordinate: finite and within 1,024 mm.
+// Kept: both ends are compared at once. `contains` asks for one after the other and takes 3.1 µs for 1.9 a pass over 1,536 nodes;
+// of two forms as short the faster stands (docs/DECISIONS.md).
 pub fn is_held(x: f64) -> bool
     ensures { result ≡ Flat.held x }
 {

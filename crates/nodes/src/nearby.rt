@@ -30,8 +30,8 @@ pub struct Window {
 }
 
 // What was collected: of the nodes in the first `old` places those in the window, `count` of them. Where there are more
-// than MOST_NEARBY they are not all held, and `count` is one above that. Kept: no Option, since the survey goes on counting
-// with it from block to block, and ValidNearby asks by `≤` alone whether all are held.
+// than MOST_NEARBY they are not all held, and `count` is one above that. Kept: no Option. The survey goes on with it
+// from block to block, by one definition, `counted`, and ValidNearby asks by `≤` whether all are held; both would be a match.
 #[derive(Clone, Copy)]
 pub struct Nearby {
     pub window: Window,
@@ -39,7 +39,10 @@ pub struct Nearby {
     pub count: usize,
 }
 
-// The collected nodes of a ring's box as they are looked through: their numbers, rising, and their x.
+// The collected nodes of a ring's box as they are looked through: their numbers, rising, and their x, in two lists since the
+// search goes through the x alone.
+// Kept: no ghost field says of which list they are, ValidCollected. It would have to hold that list lent for reading, and all but
+// one of the functions that are handed it write the list.
 #[derive(Clone, Copy)]
 pub struct Collected<'a> {
     pub near: Nearby,

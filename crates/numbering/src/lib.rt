@@ -21,9 +21,9 @@ use vector::Point;
 
 // The first used place with p's key. Where the collected nodes decide, only these and the nodes after the first `old` places
 // are looked at; else all are.
-fn find_nearby(nodes: &[f64], used: usize, p: Point, found: Collected<'_>) -> Option<usize>
-    requires { Usable nodes.now used × InRange p × ValidCollected nodes.now used found }
-    ensures { result ≡ below used (number (nodes_in nodes.now used) p) }
+fn find_nearby(list: Used<'_>, p: Point, found: Collected<'_>) -> Option<usize>
+    requires { InRange p × ValidCollected list.nodes.now list.used found }
+    ensures { result ≡ below list.entry.used (number (nodes_in list.entry.nodes.now list.entry.used) p) }
 {
     let near = found.near;
     let key = SoughtPoint::new(p.x, p.y);
@@ -31,7 +31,7 @@ fn find_nearby(nodes: &[f64], used: usize, p: Point, found: Collected<'_>) -> Op
     if near.decides(key.x, key.y) {
         let numbers = found.numbers;
         let listed = Listed {
-            nodes,
+            nodes: list.nodes,
             old: near.old,
             numbers,
             xs: found.xs,
@@ -42,7 +42,7 @@ fn find_nearby(nodes: &[f64], used: usize, p: Point, found: Collected<'_>) -> Op
         }
         from = near.old;
     }
-    search::find_from(Used { nodes, used }, from, key)
+    search::find_from(list, from, key)
 }
 
 // p's number: the first place with its key, or else a new place, where p is written.
@@ -52,7 +52,7 @@ pub fn add_node(nodes: &mut [f64], used: usize, p: Point, found: Collected<'_>) 
     ensures { (result ≡ placed (nodes_in nodes.old used) p)
         × (nodes.new ≡ over nodes.old (add_node (nodes_in nodes.old used) p)) }
 {
-    if let Some(i) = find_nearby(nodes, used, p, found) {
+    if let Some(i) = find_nearby(Used { nodes, used }, p, found) {
         return Placed {
             number: i as NodeNumber,
             used,

@@ -10,7 +10,7 @@ ghost use Rattle.std.specs.Prelude.{◌≡◌, ◌+◌, ◌^◌, ◌≤◌, ◌<
 ghost use Rattle.numeral.specs.Numeral as Numeral;
 
 // What a number says: its sign, the digits as one number, and ten to the number of decimals.
-// Kept: every number has a sign, a zero too, and its digits hold with either.
+// Kept: every number has a sign, a zero too, so that an enum of the two signs would hold the same two fields in both cases.
 #[derive(Clone, Copy, Debug, PartialEq, Eq)]
 pub struct Said {
     pub minus: bool,

@@ -23,7 +23,7 @@ fn clear_of(n: usize, k: usize, e: usize) -> bool
 }
 
 // Whether the diagonal to corner k crosses an edge that touches neither end. The scan ends at the first crossing.
-// Kept: the scan over edges, left by a label, is a form of the project.
+// Kept: a loop left by a label is the form that the specification names for the scan over pairs of edges, and for this one.
 fn blocked(part: &[GridPoint], k: usize) -> bool
     requires { OnSheetPoints part.now × (k < length part.now) }
     ensures { result ≡ any (Obstacles.blocks part.now k) (length part.now) }
@@ -32,6 +32,7 @@ fn blocked(part: &[GridPoint], k: usize) -> bool
     let o = part[0];
     let q = part[k];
     let mut found = false;
+    // Kept: as above.
     'scan: for e in 0..n {
         if clear_of(n, k, e) && segments::segments_cross(o, q, part[e], part[vector::next(e, n)]) {
             found = true;

@@ -10,6 +10,7 @@ use Rattle.std.specs.Option.{unwrap_or, option_copied}
 use Rattle.std.specs.Slice.{IsItemAt}
 use lib.ListN.{get_or-eq_default, length, get_or, take, drop, length-map, length-drop, get_or-map}
 use lib.Seq.{get_or-take, get_or-drop, length-take-le}
+use Rattle.std.proofs.lemmas.List.{get_or_default, take-map}
 use Rattle.laws.specs.Table.{tab}
 use Rattle.laws.proofs.Table.{length_tab, get_d_tab, is_tab, tab_ext}
 use Rattle.vector.specs.declared.GridPoint.{GridPoint}
@@ -18,12 +19,12 @@ use Rattle.marks.specs.declared.EdgeMark.{EdgeMark}
 use Rattle.marks.specs.declared.Edge.{Edge}
 use Rattle.marks.specs.Edges.{marks_in, straight_edge}
 use Rattle.marks.specs.Part.{Part, no_part}
-use Rattle.parts.specs.declared.Vertex.{Vertex}
-use Rattle.parts.specs.declared.PartList.{PartList}
+use Rattle.parts.specs.declared.list.Vertex.{Vertex}
+use Rattle.parts.specs.declared.list.PartList.{PartList}
 use Rattle.parts.specs.Vertices.{no_vertex, vertex, corner_point, edge_at}
-use Rattle.parts.specs.Layout.{end, size, nth, ValidParts}
+use Rattle.parts.specs.Layout.{end, size, nth}
 use Rattle.parts.specs.Pieces.{piece_in, marks_of}
-use Rattle.parts.proofs.Stored.{get_or-other, rises, kept_rises}
+use Rattle.parts.proofs.Stored.{rises, kept_rises}
 use Rattle.parts.proofs.Segments.{from_first}
 use Rattle.parts.specs.Layout.{corners_of}
 
@@ -38,19 +39,14 @@ module _ (p : PartList) (i : ℕ) (l : i < p.count) where
   piece-nth ring es = get_d_tab (nth ring es p) p.count i no_part l
 
   -- where the piece stands, as the code reads it
-  pub placed : ValidParts p → (end p i + 3 ≤ end p (i + 1)) × (end p (i + 1) ≤ end p i + 60) × (end p (i + 1) ≤ 124) × (end p (i + 1) - end p i ≡ size p i)
-  placed k =
+  pub placed : (end p i + 3 ≤ end p (i + 1)) × (end p (i + 1) ≤ end p i + 60) × (end p (i + 1) ≤ 124) × (end p (i + 1) - end p i ≡ size p i)
+  placed =
       let f = ap (end p) (sym (add-one i)) in
-      let s = k.step i l in
-      let t = rises p p.count (kept_rises p k) (p.count - suc i) (suc i) (omega arith) in
-      (omega (arith, f, s.0), omega (arith, f, s.1), omega (arith, f, t, k.fits), ap (λ (e : ℕ). e - end p i) (sym f))
+      let s = p.step i l in
+      let t = rises p p.count (kept_rises p) (p.count - suc i) (suc i) (omega arith) in
+      (omega (arith, f, s.0), omega (arith, f, s.1), omega (arith, f, t, p.fits), ap (λ (e : ℕ). e - end p i) (sym f))
 
 -- ---- marks
-take-map : {A B : Type 0} (f : A → B) (n : ℕ) (l : List A) → take n (map f l) ≡ map f (take n l)
-take-map f zero l = refl
-take-map f (suc n) [] = refl
-take-map f (suc n) (x ∷ l) = ap (λ (r : List _). f x ∷ r) (take-map f n l)
-
 -- the marks of the ring's part are those of the first n edges
 pub marks-taken : (n : ℕ) (marks : List Edge) → take n (marks_of marks) ≡ marks_in marks n
 marks-taken n marks = take-map (λ (e : Edge). e.mark) n marks
@@ -62,17 +58,17 @@ mark_at marks vs i = get_or marks (vertex vs i).edge straight_edge
 -- what the code reads of it
 pub mark-read : (marks : List Edge) (k : ℕ) (r : Option (Bor Edge)) → IsItemAt marks k r → unwrap_or (option_copied r) straight_edge ≡ get_or marks k straight_edge
 mark-read marks k None h = sym (get_or-eq_default marks straight_edge h.3)
-mark-read marks k (Some x) h = h.1 ∙ get_or-other marks k x.now straight_edge h.3.0
+mark-read marks k (Some x) h = h.1 ∙ get_or_default marks k x.now straight_edge h.3.0
 
 map_tab : {A B : Type 0} (f : A → B) (g : ℕ → A) (n : ℕ) (d : A) → map f (tab g n) ≡ tab (λ i. f (g i)) n
 map_tab f g n d =
     is_tab (map f (tab g n)) (λ i. f (g i)) n (f d) (length-map (tab g n) f ∙ length_tab g n)
     (λ i l. get_or-map f (tab g n) i d ∙ ap f (get_d_tab g n i d l))
 
-pub marks-are : (p : PartList) (i : ℕ) → i < p.count → (marks out : List Edge)
+pub marks_are : (p : PartList) (i : ℕ) → i < p.count → (marks out : List Edge)
     → take (size p i) out ≡ tab (λ j. mark_at marks p.corners (end p i + j)) (size p i) → (ring : List GridPoint)
     → marks_of (take (size p i) out) ≡ (piece_in ring (marks_of marks) p i).edges
-marks-are p i l marks out e ring =
+marks_are p i l marks out e ring =
     let f : Edge → EdgeMark = (λ e. e.mark) in
     ap marks_of e ∙ map_tab f (λ j. mark_at marks p.corners (end p i + j)) (size p i) straight_edge
     ∙ tab_ext (λ j. f (mark_at marks p.corners (end p i + j))) (λ j. edge_at (marks_of marks) p.corners (end p i + j)) (size p i)

@@ -3,6 +3,8 @@ use Prim.Native.Nat.{ℕ, suc, ◌+◌, ◌-◌, ◌%◌, ◌≤◌, ◌<◌}
 use native.Mathlib.Nat.{mod-eq_of_lt, add-mod_right, add-zero, zero-add, add-mod-mod, add_comm}
 use native.Mathlib.Numerals.{add-one}
 use native.Mathlib.Omega.{arith}
+use native.Mathlib.Bridge.{le_prop}
+use mathlib.Core.HLevel.{is_prop→PathP}
 use mathlib.Core.Path.{◌≡◌, refl, sym, ap, ◌∙◌}
 use mathlib.Core.Bool.{Bool, true, false, cond}
 use mathlib.Core.List.{List, [], ◌∷◌, ◌++◌, reverse}
@@ -18,7 +20,7 @@ use Rattle.vector.specs.declared.GridPoint.{GridPoint}
 use Rattle.vector.specs.Grid.{origin, polygon_area}
 use Rattle.marks.specs.declared.EdgeMark.{EdgeMark}
 use Rattle.marks.specs.declared.EdgeMark.TheVariants.{Straight}
-use Rattle.parts.specs.declared.Vertex.{Vertex}
+use Rattle.parts.specs.declared.list.Vertex.{Vertex}
 use Rattle.parts.specs.Cut.{rotate, oriented, make_sub_polygon, turned_area, first_points, second_points, first_part, second_part}
 use Rattle.parts.specs.Vertices.{no_vertex, vertex, corner_point, edge_at, part_of, straight, closing, backward}
 
@@ -29,6 +31,10 @@ by_sign z w b e h = ap non_neg (sym e) ∙ same z ∙ h
     same : (z : ℤ) → non_neg z ≡ le_z (pos 0) z
     same (pos n) = sym (le-leb 0 n (omega arith))
     same (negsuc n) = refl
+
+-- ---- a corner is its two numbers
+pub same_vertex : (x y : Vertex) → x.at ≡ y.at → x.edge ≡ y.edge → x ≡ y
+same_vertex x y p q = λ i. record { at = p i; edge = q i; below = is_prop→PathP (λ j. p j < 60) (λ j. le_prop) x.below y.below i }
 
 -- ---- a turn of the two loops that copy, and what they leave
 module _ (vs : List Vertex) (n v m : ℕ) where
@@ -41,10 +47,9 @@ module _ (vs : List Vertex) (n v m : ℕ) where
   closing-last i j h e = rw (le-ltb (m - 1) (m - 1) (omega arith), ← h) (ap (λ (k : ℕ). straight (vertex vs k)) e)
 
 module _ (vs : List Vertex) (m : ℕ) where
-  pub backward_in : (i : ℕ) (a : Vertex) → i < m - 1 → a ≡ vertex vs (m - 1 - i)
-      → ◌≡◌ {A = Vertex} (record { at = a.at; edge = (vertex vs (m - 2 - i)).edge }) (backward vs m i)
+  pub backward_in : (i : ℕ) (c : Vertex) → i < m - 1 → c.at ≡ (vertex vs (m - 1 - i)).at → c.edge ≡ (vertex vs (m - 2 - i)).edge → c ≡ backward vs m i
   unfolding backward
-  backward_in i a h e = rw (lt-ltb i (m - 1) h, e)
+  backward_in i c h e f = rw (lt-ltb i (m - 1) h) (same_vertex c _ e f)
 
   pub backward-last : (i : ℕ) (a : Vertex) → i ≡ m - 1 → a ≡ vertex vs (m - 1 - i) → straight a ≡ backward vs m (m - 1)
   unfolding backward
@@ -56,7 +61,7 @@ unfolding backward
 backward-front vs m i l =
     let a = get_or-take m vs (m - 1 - i) no_vertex (omega arith) in
     let b = get_or-take m vs (m - 2 - i) no_vertex (omega arith) in
-    λ j. cond (ltb i (m - 1)) (record { at = (a j).at; edge = (b j).edge }) (straight (a j))
+    λ j. cond (ltb i (m - 1)) (record { at = (a j).at; edge = (b j).edge; below = (a j).below }) (straight (a j))
 
 pub back-front : (vs : List Vertex) (m : ℕ) → m ≤ length vs → (r : List Vertex)
     → take (length (take m vs)) r ≡ tab (backward (take m vs) (length (take m vs))) (length (take m vs)) → take m r ≡ tab (backward vs m) m

@@ -3,24 +3,20 @@ use Prim.Native.Nat.{ℕ, zero, suc, ◌+◌, ◌-◌, ◌%◌, ◌≤◌, ◌<�
 use native.Mathlib.Numerals.{add-one}
 use native.Mathlib.Omega.{arith}
 use mathlib.Core.Path.{◌≡◌, refl, sym, ap, ◌∙◌}
-use mathlib.Core.Bool.{Bool, true, false}
 use mathlib.Core.Path.{subst}
 use mathlib.Core.List.{List, [], ◌∷◌, ◌++◌, reverse}
-use lib.Dec.{lit<}
-use lib.ListN.{length, get_or, take, drop, set, replicate, length-set, length-append, length-take, length-drop, get_or-append}
+use lib.ListN.{length, get_or, take, drop, set, length-append, length-take, length-drop, get_or-append}
 use lib.Seq.{take-length, get_or-set_same, get_or-set_other, get_or-take, get_or-drop, get_or-append-add, length-take-le}
 use borrow.Rule.Slice.PartMut.{put_mid}
-use lib.Dec.{ltb}
-use borrow.Author.Tests.{ltb-true, ltb-false}
+use Rattle.std.proofs.lemmas.List.{get_or_default}
 use Rattle.laws.specs.Table.{tab}
-use Rattle.laws.proofs.Lists.{all_same, all_set}
 use Rattle.laws.proofs.Table.{tab_ext, take_tab, rotation_of, reverse_of, get_d_tab}
 use Rattle.vector.specs.declared.GridPoint.{GridPoint}
 use Rattle.marks.specs.declared.EdgeMark.{EdgeMark}
-use Rattle.parts.specs.declared.Vertex.{Vertex}
-use Rattle.parts.specs.declared.PartList.{PartList}
-use Rattle.parts.specs.Vertices.{no_vertex, blank, vertex, corner_point, edge_at, part_of, Below}
-use Rattle.parts.specs.Layout.{end, part_at, nth, stack_of, list_of, ValidParts, Packed, Stored, Pushed}
+use Rattle.parts.specs.declared.list.Vertex.{Vertex}
+use Rattle.parts.specs.declared.list.PartList.{PartList}
+use Rattle.parts.specs.Vertices.{no_vertex, vertex, corner_point, edge_at, part_of}
+use Rattle.parts.specs.Layout.{end, part_at, nth, stack_of, list_of, Packed, Stored, Pushed}
 use Rattle.parts.proofs.Segments.{read, point-of, edge_of}
 
 -- ---- parts whose corners agree
@@ -48,8 +44,8 @@ pub rises : (p : PartList) (t : ℕ) → ((j : ℕ) → j < t → end p j ≤ en
 rises p t m zero j q = let z : j ≡ t = omega arith in rw z (omega arith)
 rises p t m (suc d) j q = let a = rises p t m d (suc j) (omega arith) in let b = m j (omega arith) in omega arith
 
-pub kept_rises : (p : PartList) → ValidParts p → (j : ℕ) → j < p.count → end p j ≤ end p (suc j)
-kept_rises p k j l = omega (arith, (k.step j l).0)
+pub kept_rises : (p : PartList) (j : ℕ) → j < p.count → end p j ≤ end p (suc j)
+kept_rises p j l = omega (arith, (p.step j l).0)
 
 -- what lies below a store stays
 module _ (ring : List GridPoint) (es : List EdgeMark) (p r : PartList) where
@@ -80,33 +76,6 @@ module _ (ring : List GridPoint) (es : List EdgeMark) (p r : PartList) where
     pub same-list : list_of ring es r t ≡ list_of ring es p t
     same-list = tab_ext (nth ring es r) (nth ring es p) t (nth-same t e m h)
 
--- what stands in a list doesn't hang on the default
-pub get_or-other : {A : Type 0} (l : List A) (i : ℕ) (d e : A) → i < length l → get_or l i d ≡ get_or l i e
-get_or-other [] i d e l = absurd (omega arith)
-get_or-other (x ∷ xs) zero d e l = refl
-get_or-other (x ∷ xs) (suc i) d e l = get_or-other xs i d e (omega (arith, l))
-
--- ---- places that hold numbers of points, in a part of a list and in a list of two parts
-pub below-take : (n : ℕ) (vs : List Vertex) → Below vs → Below (take n vs)
-below-take zero vs b i = lit< tt
-below-take (suc n) [] b i = lit< tt
-below-take (suc n) (v ∷ vs) b zero = b zero
-below-take (suc n) (v ∷ vs) b (suc i) = below-take n vs (λ j. b (suc j)) i
-
-pub below-drop : (n : ℕ) (vs : List Vertex) → Below vs → Below (drop n vs)
-below-drop n vs b i = rw (get_or-drop n vs i no_vertex) (b (n + i))
-
-pub below-append : (vs ws : List Vertex) → Below vs → Below ws → Below (vs ++ ws)
-below-append [] ws b c i = c i
-below-append (v ∷ vs) ws b c zero = b zero
-below-append (v ∷ vs) ws b c (suc i) = below-append vs ws (λ j. b (suc j)) c i
-
-pub blank_below : (n : ℕ) → Below (replicate n blank)
-blank_below n = all_same (λ (v : Vertex). v.at < 60) no_vertex n blank (lit< tt) (lit< tt)
-
-pub set_below : (vs : List Vertex) (i : ℕ) (c : Vertex) → Below vs → c.at < 60 → Below (set vs i c)
-set_below vs i c b h = all_set (λ (v : Vertex). v.at < 60) no_vertex vs i c b h
-
 -- ---- corners ps put over those from place a on
 unseen : {A : Type 0} (l : List A) (i j : ℕ) (x d : A) → j < i → get_or (set l i x) j d ≡ get_or l j d
 unseen l i j x d h = get_or-set_other l i j x d (λ e. omega (arith, e))
@@ -133,9 +102,6 @@ module _ (vs ps : List Vertex) (a : ℕ) (l : a + length ps ≤ length vs) where
         ∙ get_or-drop (length ps) (drop a vs) j no_vertex ∙ get_or-drop a vs (length ps + j) no_vertex ∙ ap (vertex vs) (sym e);
   }
 
-  pub laid-below : Below vs → Below ps → Below laid
-  laid-below b c = below-append (take a vs) _ (below-take a vs b) (below-append ps _ c (below-drop (length ps) (drop a vs) (below-drop a vs b)))
-
   pub length-laid : length laid ≡ length vs
   length-laid =
       omega (
@@ -147,87 +113,57 @@ module _ (vs ps : List Vertex) (a : ℕ) (l : a + length ps ≤ length vs) where
         length-drop a vs,
       )
 
--- ---- what a push gives
-module _ (p : PartList) (k : ValidParts p) (few : p.count < 33) (ps : List Vertex) (n : ℕ) (h3 : 3 ≤ n) (h60 : n ≤ 60) (room : end p p.count + n ≤ 124)
-    (c : List Vertex) (s : Stored p.corners (end p p.count) ps n c) (b : Below c) (long : length c ≡ 124) where
-  abbrev after : PartList
-  after = record { corners = c; ends = set p.ends (p.count + 1) (end p p.count + n); count = p.count + 1 }
+-- ---- what a push gives: r is p with the first n corners of ps put at its end, and one end more
+module _ (p : PartList) (few : p.count < 33) (wide : length p.ends ≡ 34) (ps : List Vertex) (n : ℕ) (r : PartList)
+    (s : Stored p.corners (end p p.count) ps n r.corners) (ends : r.ends ≡ set p.ends (p.count + 1) (end p p.count + n)) (count : r.count ≡ p.count + 1) where
+  old-end : (j : ℕ) → j ≤ p.count → end r j ≡ end p j
+  old-end j q = ap (λ (l : List ℕ). get_or l j 0) ends ∙ unseen p.ends (p.count + 1) j (end p p.count + n) 0 (omega arith)
 
-  old-end : (j : ℕ) → j ≤ p.count → end after j ≡ end p j
-  old-end j q = unseen p.ends (p.count + 1) j (end p p.count + n) 0 (omega arith)
+  new-end : end r (p.count + 1) ≡ end p p.count + n
+  new-end =
+      ap (λ (l : List ℕ). get_or l (p.count + 1) 0) ends ∙ get_or-set_same p.ends (p.count + 1) (end p p.count + n) 0 (omega (arith, wide))
 
-  new-end : end after (p.count + 1) ≡ end p p.count + n
-  new-end = get_or-set_same p.ends (p.count + 1) (end p p.count + n) 0 (omega (arith, k.wide))
+  new-suc : end r (suc p.count) ≡ end p p.count + n
+  new-suc = ap (end r) (sym (add-one p.count)) ∙ new-end
 
-  new-suc : end after (suc p.count) ≡ end p p.count + n
-  new-suc = ap (end after) (sym (add-one p.count)) ∙ new-end
-
-  step-at : (j : ℕ) → j < p.count + 1 → (t : Bool) → ltb j p.count ≡ t → (end after j + 3 ≤ end after (suc j)) × (end after (suc j) ≤ end after j + 60)
-  step-at j q true e =
-      let l : j < p.count = ltb-true j p.count e in
-      let x = old-end j (omega arith) in
-      let y = old-end (suc j) (omega arith) in
-      let s = k.step j l in
-      (omega (arith, s.0), omega (arith, s.1))
-  step-at j q false e =
-      let g : j ≡ p.count = omega (arith, ltb-false j p.count e) in
-      let x = old-end p.count (omega arith) in
-      let y = new-suc in
-      rw g (omega arith, omega arith)
-
-  is-kept : ValidParts after
-  is-kept =
-      record {
-        few = omega arith;
-        wide = simp length-set k.wide;
-        long = long;
-        step = λ j q. step-at j q (ltb j p.count) refl;
-        fits = rw new-end room;
-        below = b;
-      }
-
-  new-part : (ring : List GridPoint) (es : List EdgeMark) → nth ring es after p.count ≡ part_of ring es ps n
+  new-part : (ring : List GridPoint) (es : List EdgeMark) → nth ring es r p.count ≡ part_of ring es ps n
   new-part ring es =
       let x = old-end p.count (omega arith) in
-      let y : end after (suc p.count) - end after p.count ≡ n = omega (arith, new-suc, x) in
-      (λ j. part_at ring es c (x j) (y j)) ∙ same-part ring es c ps (end p p.count) n s.high
+      let y : end r (suc p.count) - end r p.count ≡ n = omega (arith, new-suc, x) in
+      (λ j. part_at ring es r.corners (x j) (y j)) ∙ same-part ring es r.corners ps (end p p.count) n s.high
 
-  is-packed : Packed p → Packed after
+  is-packed : Packed p → Packed r
   is-packed h = record {
     start = old-end 0 (omega arith) ∙ h.start;
-    corners = λ i l m. let g = new-end in s.rest i (omega arith) ∙ h.corners i (omega arith) m;
-    ends = λ j l. get_or-set_other p.ends (p.count + 1) j (end p p.count + n) 0 (λ e. omega (arith, e)) ∙ h.ends j (omega arith);
+    corners = λ i l m. let g = ap (end r) count ∙ new-end in s.rest i (omega arith) ∙ h.corners i (omega arith) m;
+    ends =
+        λ j l. ap (λ (l : List ℕ). get_or l j 0) ends
+        ∙ get_or-set_other p.ends (p.count + 1) j (end p p.count + n) 0 (λ e. omega (arith, e, count)) ∙ h.ends j (omega (arith, count));
   }
 
-  pub is_pushed : Pushed p ps n after
+  pub is_pushed : Pushed p ps n r
   unfolding stack_of tab
   is_pushed = record {
-    kept = is-kept;
-    count = refl;
-    last = new-end;
+    count = count;
+    last = ap (end r) count ∙ new-end;
     stack =
-        λ ring es. ap (stack_of ring es after) (add-one p.count)
-        ∙ (λ j. new-part ring es j ∷ same-stack ring es p after p.count old-end (kept_rises p k) s.low j);
+        λ ring es. ap (stack_of ring es r) (count ∙ add-one p.count)
+        ∙ (λ j. new-part ring es j ∷ same-stack ring es p r p.count old-end (kept_rises p) s.low j);
     list =
-        λ ring es. ap (list_of ring es after) (add-one p.count)
-        ∙ (λ j. same-list ring es p after p.count old-end (kept_rises p k) s.low j ++ (new-part ring es j ∷ []));
+        λ ring es. ap (list_of ring es r) (count ∙ add-one p.count)
+        ∙ (λ j. same-list ring es p r p.count old-end (kept_rises p) s.low j ++ (new-part ring es j ∷ []));
     packed = is-packed;
   }
 
 -- the same as the code has it: a is where the parts end, and qs is what was copied
-pub pushed-at : (p : PartList) → ValidParts p → p.count < 33 → (ps : List Vertex) → 3 ≤ length ps → length ps ≤ 60 → end p p.count + length ps ≤ 124
-    → Below ps → (a m : ℕ) (qs : List Vertex) → a ≡ end p p.count → m ≡ length ps → qs ≡ ps
-    → Pushed p ps (length ps) (record { corners = put_mid a m p.corners qs; ends = set p.ends (p.count + 1) (a + length ps); count = p.count + 1 })
-pushed-at p k few ps h3 h60 room b a m qs ea em eq =
-    let l : end p p.count + length ps ≤ length p.corners = omega (arith, k.long) in
-    let r =
-    is_pushed p k few ps (length ps) h3 h60 room (laid p.corners ps (end p p.count) l) (laid-stored p.corners ps (end p p.count) l)
-    (laid-below p.corners ps (end p p.count) l k.below b) (length-laid p.corners ps (end p p.count) l ∙ k.long) in
-    let sa = sym ea in
-    let sm = sym em in
-    let sq = sym eq in
-    subst (Pushed p ps (length ps))
-    (λ j. record { corners = put_mid (sa j) (sm j) p.corners (sq j); ends = set p.ends (p.count + 1) (sa j + length ps); count = p.count + 1 }) r
+pub pushed-at : (p : PartList) → p.count < 33 → length p.ends ≡ 34 → length p.corners ≡ 124 → (ps : List Vertex) → end p p.count + length ps ≤ 124
+    → (a m : ℕ) (qs : List Vertex) → a ≡ end p p.count → m ≡ length ps → qs ≡ ps → (r : PartList) → r.corners ≡ put_mid a m p.corners qs
+    → r.ends ≡ set p.ends (p.count + 1) (a + length ps) → r.count ≡ p.count + 1 → Pushed p ps (length ps) r
+pushed-at p few wide long ps room a m qs ea em eq r corners ends count =
+    let l : end p p.count + length ps ≤ length p.corners = omega (arith, long) in
+    let c : r.corners ≡ laid p.corners ps (end p p.count) l = corners ∙ (λ j. put_mid (ea j) (em j) p.corners (eq j)) in
+    is_pushed p few wide ps (length ps) r (subst (Stored p.corners (end p p.count) ps (length ps)) (sym c) (laid-stored p.corners ps (end p p.count) l))
+    (ends ∙ ap (λ (k : ℕ). set p.ends (p.count + 1) (k + length ps)) ea) count
 
 -- ---- the corners from v on, and then round, as the code goes through them
 abbrev pub turned : List Vertex → ℕ → List Vertex
@@ -243,7 +179,7 @@ turned-at vs v i d h l =
     let a = take_tab vs (length vs) no_vertex (omega arith) in
     let e : vs ≡ tab (vertex vs) (length vs) = sym (take-length vs) ∙ a in
     let b : take (length vs - v) (drop v vs) ≡ drop v vs = ap (λ (k : ℕ). take k (drop v vs)) (sym (length-drop v vs)) ∙ take-length (drop v vs) in
-    get_or-other (turned vs v) i d no_vertex (omega (arith, length-turned vs v h))
+    get_or_default (turned vs v) i d no_vertex (omega (arith, length-turned vs v h))
     ∙ ap (λ (m : List Vertex). vertex (m ++ take v vs) i) b
     ∙ ap (λ (m : List Vertex). vertex (drop v m ++ take v m) i) e
     ∙ ap (λ (m : List Vertex). vertex m i) (rotation_of (vertex vs) (length vs) v h no_vertex)

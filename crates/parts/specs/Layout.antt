@@ -1,13 +1,12 @@
 -- Parts one after the other, as the code holds them: part j has the corners from end j to end j + 1. Read back as the stack of parts and as the list of pieces.
-use Rattle.std.specs.Prelude.{ℕ, zero, suc, ◌+◌, ◌-◌, ◌≤◌, ◌<◌, ◌≡◌, List, [], ◌∷◌, ◌++◌, length, get_or}
+use Rattle.std.specs.Prelude.{ℕ, zero, suc, ◌+◌, ◌-◌, ◌≤◌, ◌<◌, ◌≡◌, List, [], ◌∷◌, ◌++◌, get_or}
 use Rattle.laws.specs.Table.{tab}
 use Rattle.vector.specs.declared.GridPoint.{GridPoint}
-use Rattle.vector.specs.Rings.{most_points}
 use Rattle.marks.specs.declared.EdgeMark.{EdgeMark}
 use Rattle.marks.specs.Part.{Part}
-use Rattle.parts.specs.declared.Vertex.{Vertex}
-use Rattle.parts.specs.declared.PartList.{PartList}
-use Rattle.parts.specs.Vertices.{blank, vertex, corner_point, edge_at, part_of, Below}
+use Rattle.parts.specs.declared.list.Vertex.{Vertex}
+use Rattle.parts.specs.declared.list.PartList.{PartList}
+use Rattle.parts.specs.Vertices.{blank, vertex, corner_point, edge_at, part_of}
 
 abbrev pub end : PartList → ℕ → ℕ
 end p j = get_or p.ends j 0
@@ -35,15 +34,6 @@ stack_of ring es p (suc t) = nth ring es p t ∷ stack_of ring es p t
 abbrev pub list_of : List GridPoint → List EdgeMark → PartList → ℕ → List Part
 list_of ring es p t = tab (nth ring es p) t
 
--- what the arrays have room for, and each part three corners or more and no more than 60
-pub record ValidParts (p : PartList) : Type 0 where
-  pub few : p.count ≤ 33
-  pub wide : length p.ends ≡ 34
-  pub long : length p.corners ≡ 124
-  pub step : (j : ℕ) → j < p.count → (end p j + 3 ≤ end p (suc j)) × (end p (suc j) ≤ end p j + most_points)
-  pub fits : end p p.count ≤ 124
-  pub below : Below p.corners
-
 -- the parts stand from place 0 on, and every place after them holds what an empty list holds
 pub record Packed (p : PartList) : Type 0 where
   pub start : end p 0 ≡ 0
@@ -58,7 +48,6 @@ pub record Stored (vs : List Vertex) (a : ℕ) (ps : List Vertex) (n : ℕ) (r :
 
 -- r is p with one part more, the first n corners of ps
 pub record Pushed (p : PartList) (ps : List Vertex) (n : ℕ) (r : PartList) : Type 0 where
-  pub kept : ValidParts r
   pub count : r.count ≡ p.count + 1
   pub last : end r r.count ≡ end p p.count + n
   pub stack : (ring : List GridPoint) (es : List EdgeMark) → stack_of ring es r r.count ≡ part_of ring es ps n ∷ stack_of ring es p p.count

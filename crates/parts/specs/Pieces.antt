@@ -4,7 +4,7 @@ use Rattle.vector.specs.declared.GridPoint.{GridPoint}
 use Rattle.marks.specs.declared.EdgeMark.{EdgeMark}
 use Rattle.marks.specs.declared.Edge.{Edge}
 use Rattle.marks.specs.Part.{Part, no_part}
-use Rattle.parts.specs.declared.PartList.{PartList}
+use Rattle.parts.specs.declared.list.PartList.{PartList}
 use Rattle.parts.specs.Layout.{list_of}
 
 -- piece i, and the marks that an array holds

@@ -1,5 +1,6 @@
 -- A part as the code holds it: corners that are numbers of the ring's points and of the marks of its edges; and what the functions over them give.
-use Rattle.std.specs.Prelude.{ℕ, ◌+◌, ◌-◌, ◌%◌, ◌<◌, List, cond, ltb, get_or}
+use Rattle.std.specs.Prelude.{ℕ, ◌+◌, ◌-◌, ◌%◌, List, cond, ltb, get_or}
+use lib.Dec.{lit<}
 use Rattle.laws.specs.Table.{tab}
 use Rattle.vector.specs.declared.GridPoint.{GridPoint}
 use Rattle.vector.specs.Grid.{origin}
@@ -7,10 +8,10 @@ use Rattle.vector.specs.Rings.{most_points}
 use Rattle.marks.specs.declared.EdgeMark.{EdgeMark}
 use Rattle.marks.specs.declared.EdgeMark.TheVariants.{Straight}
 use Rattle.marks.specs.Part.{Part}
-use Rattle.parts.specs.declared.Vertex.{Vertex}
+use Rattle.parts.specs.declared.list.Vertex.{Vertex}
 
 abbrev pub no_vertex : Vertex
-no_vertex = record { at = 0; edge = 0 }
+no_vertex = record { at = 0; edge = 0; below = lit< tt }
 
 -- the number of a straight edge: the first that is no edge of the ring's
 abbrev pub straight_number : ℕ
@@ -18,7 +19,7 @@ straight_number = most_points
 
 -- what a place holds before a corner is put there
 abbrev pub blank : Vertex
-blank = record { at = 0; edge = straight_number }
+blank = record { at = 0; edge = straight_number; below = lit< tt }
 
 abbrev pub vertex : List Vertex → ℕ → Vertex
 vertex vs i = get_or vs i no_vertex
@@ -34,12 +35,8 @@ edge_at es vs i = get_or es (vertex vs i).edge Straight
 abbrev pub part_of : List GridPoint → List EdgeMark → List Vertex → ℕ → Part
 part_of ring es vs m = record { points = tab (corner_point ring vs) m; edges = tab (edge_at es vs) m }
 
--- every place, used or not, holds the number of a point
-abbrev pub Below : List Vertex → Type 0
-Below vs = (i : ℕ) → (vertex vs i).at < most_points
-
 abbrev pub straight : Vertex → Vertex
-straight c = record { at = c.at; edge = straight_number }
+straight c = record { at = c.at; edge = straight_number; below = c.below }
 
 -- corner i of the m that are counted from corner v of n, the last edge straight
 unfoldable pub closing : List Vertex → ℕ → ℕ → ℕ → ℕ → Vertex
@@ -48,4 +45,5 @@ closing vs n v m i = cond (ltb i (m - 1)) (vertex vs ((v + i) % n)) (straight (v
 -- corner i of m that are counted back from the last, the last edge straight
 unfoldable pub backward : List Vertex → ℕ → ℕ → Vertex
 backward vs m i =
-    cond (ltb i (m - 1)) (record { at = (vertex vs (m - 1 - i)).at; edge = (vertex vs (m - 2 - i)).edge }) (straight (vertex vs (m - 1 - i)))
+    let c = vertex vs (m - 1 - i) in
+    cond (ltb i (m - 1)) (record { at = c.at; edge = (vertex vs (m - 2 - i)).edge; below = c.below }) (straight c)

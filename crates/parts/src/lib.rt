@@ -2,7 +2,7 @@
 //
 // It stands under the split, whose stack and pieces are such lists; the two parts that a diagonal makes are `sub_polygons`. The
 // ring's points and the marks of its edges are held once, outside; a part has two bytes a corner, so that the whole state of the
-// split is 600 bytes. specs/Vertices and specs/Layout say how numbers are read back as parts.
+// split is 608 bytes. specs/Vertices and specs/Layout say how numbers are read back as parts.
 
 #![tactic(auto)]
 
@@ -14,57 +14,22 @@ ghost use Rattle.vector.specs.Size.{AllOnSheet};
 ghost use Rattle.vector.specs.Rings.{most_points, points_of, OnSheetRing};
 ghost use Rattle.marks.specs.declared.EdgeMark.{EdgeMark};
 ghost use Rattle.marks.specs.Edges.{straight_edge};
-ghost use Rattle.parts.specs.Vertices.{vertex, corner_point, Below};
+ghost use Rattle.parts.specs.Vertices.{vertex, corner_point};
 ghost use Rattle.parts.specs.Layout as Layout;
 ghost use Rattle.parts.specs.Pieces.{piece_in, marks_of};
 
+mod list;
+
+pub use list::{PartList, Vertex};
 use marks::Edge;
 use vector::{GridPoint, MOST_POINTS, Ring};
 
-// A corner of a part: the number of its point among the ring's, and that of the mark of the edge that starts there.
-// Kept: no Option<u8> for the edge, which would be three bytes a corner in place of two.
-#[derive(Clone, Copy)]
-pub struct Vertex {
-    pub at: u8,
-    pub edge: u8,
-}
-
-impl Vertex {
-    // The number of a straight edge: the first that is no edge of the ring's.
-    pub const STRAIGHT: u8 = 60;
-
-    // What an unused place holds.
-    pub const BLANK: Vertex = Vertex {
-        at: 0,
-        edge: Vertex::STRAIGHT,
-    };
-}
-
-// Parts one after the other: part j has the corners from ends[j] to ends[j + 1]. No more than 33 parts and 124 corners are
-// ever held.
-// Kept: arrays with a count beside, in fixed memory; and no ghost field for ValidParts, since `push` writes corners, count and
-// end one after the other, and between them it does not hold.
-#[derive(Clone, Copy)]
-pub struct PartList {
-    pub corners: [Vertex; 124],
-    pub ends: [u8; 34],
-    pub count: usize,
-}
-
 impl PartList {
-    // No part.
-    pub const EMPTY: PartList = PartList {
-        corners: [Vertex::BLANK; 124],
-        ends: [0; 34],
-        count: 0,
-    };
-
     // The corners of part j.
     pub fn part(&self, j: usize) -> &[Vertex]
-        requires { Layout.ValidParts self.now × (j < self.now.count) }
+        requires { j < self.now.count }
         ensures corners { result.now ≡ Layout.corners_of self.now j }
         ensures size { (length result.now ≡ Layout.size self.now j) × (3 ≤ length result.now) × (length result.now ≤ most_points) }
-        ensures below { Below result.now }
     {
         let a = usize::from(self.ends[j]);
         let b = usize::from(self.ends[j + 1]);
@@ -73,8 +38,8 @@ impl PartList {
 
     // One part more.
     pub fn push(&mut self, ps: &[Vertex])
-        requires { Layout.ValidParts self.old × (self.old.count < 33) × (3 ≤ length ps.now) × (length ps.now ≤ most_points)
-            × (Layout.end self.old self.old.count + length ps.now ≤ 124) × Below ps.now }
+        requires { (self.old.count < 33) × (3 ≤ length ps.now) × (length ps.now ≤ most_points)
+            × (Layout.end self.old self.old.count + length ps.now ≤ 124) }
         ensures { Layout.Pushed self.old ps.now (length ps.now) self.new }
     {
         let a = usize::from(self.ends[self.count]);
@@ -87,7 +52,7 @@ impl PartList {
 
 // The points of a part's corners, counted from corner v, in the first places. The places after them are zero.
 pub fn rotated_points(ring: &[GridPoint; MOST_POINTS], vs: &[Vertex], v: usize) -> Ring
-    requires { (length vs.now ≤ most_points) × (v < length vs.now) × Below vs.now × AllOnSheet ring.now }
+    requires { (length vs.now ≤ most_points) × (v < length vs.now) × AllOnSheet ring.now }
     ensures { (points_of result ≡ tab (λ i. corner_point ring.now vs.now ((v + i) % length vs.now)) (length vs.now)) × OnSheetRing result
         × (result.count ≡ length vs.now) × ((j : ℕ) → result.count ≤ j → get_or result.points j origin ≡ origin) }
 {
@@ -95,6 +60,9 @@ pub fn rotated_points(ring: &[GridPoint; MOST_POINTS], vs: &[Vertex], v: usize) 
         points: [GridPoint::ORIGIN; MOST_POINTS],
         count: vs.len(),
     };
+    // Kept: the place is counted. `for (place, c) in out.points.iter_mut().zip(..)` was tried, and its promise doesn't close: the library
+    // says what a place that an adapter lends holds before the turn, and not what the list holds after the loop. Over the places alone,
+    // by `enumerate`, the corner would be counted.
     for (i, c) in vs[v..].iter().chain(&vs[..v]).enumerate() {
         out.points[i] = ring[usize::from(c.at)];
     }
@@ -102,8 +70,10 @@ pub fn rotated_points(ring: &[GridPoint; MOST_POINTS], vs: &[Vertex], v: usize) 
 }
 
 // The points of piece i, and the marks of its edges, in the first places. The places after them are zero, and straight.
+// Kept: two readings. One of both takes 992 bytes more of the program's stack, for 0.5 to 1.4 % fewer instructions
+// (docs/DECISIONS.md): the memory comes first.
 pub fn piece_points(ring: &[GridPoint; MOST_POINTS], pieces: &PartList, i: usize) -> Ring
-    requires { Layout.ValidParts pieces.now × (i < pieces.now.count) × AllOnSheet ring.now }
+    requires { (i < pieces.now.count) × AllOnSheet ring.now }
     ensures { ((es : List EdgeMark) → points_of result ≡ (piece_in ring.now es pieces.now i).points) × OnSheetRing result
         × (result.count ≡ Layout.size pieces.now i) × (3 ≤ result.count)
         × ((j : ℕ) → result.count ≤ j → get_or result.points j origin ≡ origin) }
@@ -111,12 +81,15 @@ pub fn piece_points(ring: &[GridPoint; MOST_POINTS], pieces: &PartList, i: usize
     rotated_points(ring, pieces.part(i), 0)
 }
 
+#[tactic(auto, using(crate::proofs::Pieces::marks_are))]
 pub fn piece_marks(marks: &[Edge; MOST_POINTS], pieces: &PartList, i: usize) -> [Edge; MOST_POINTS]
-    requires { Layout.ValidParts pieces.now × (i < pieces.now.count) }
+    requires { i < pieces.now.count }
     ensures { ((ring : List GridPoint) → marks_of (take (Layout.size pieces.now i) result) ≡ (piece_in ring (marks_of marks.now) pieces.now i).edges)
         × ((j : ℕ) → Layout.size pieces.now i ≤ j → get_or result j straight_edge ≡ straight_edge) }
 {
     let mut out = [Edge::STRAIGHT; MOST_POINTS];
+    // Kept: the place is counted, as above. `std::array::from_fn` takes 660 instructions more a piece, 3 in a hundred of a small ring's
+    // call, where the median of `mix` at 250 nodes stands at 100 % of the Rust's, the goal (docs/BENCHMARKS.md).
     for (j, c) in pieces.part(i).iter().enumerate() {
         let mark = marks.get(usize::from(c.edge));
         out[j] = mark.copied().unwrap_or(Edge::STRAIGHT);

@@ -9,21 +9,23 @@ use mathlib.Core.List.{List, [], ◌++◌, append_assoc, append-nil}
 use native.Mathlib.Nat.{eq-or-lt_of_le}
 use native.Mathlib.Numerals.{add-one}
 use native.Mathlib.Omega.{arith}
-use lib.ListN.{length, take, drop, replicate, length-append, length-take, length-drop}
+use lib.ListN.{length, take, drop, length-append, length-take, length-drop}
 use lib.Seq.{take_at}
 use lib.IntN.{ℤ}
-use lib.Ieee.{Float, binary64, of_bits}
+use lib.Ieee.{Float}
 use Rattle.text.specs.Text.{put, Written}
 use Rattle.text.specs.declared.Page.{Page}
 use Rattle.text.specs.Page.{Wrote as Wrote_on}
 use Rattle.text.proofs.Writing.{kept}
-use Rattle.laws.specs.Double.{naught}
+use Rattle.told.specs.Text.{tells_of}
 use Rattle.state.specs.declared.State.{State}
 use Rattle.job.specs.declared.Stepped.{Stepped}
 use Rattle.job.specs.Step.{Step, step_of, Steps, CanStep}
 use Rattle.job.specs.Run.{Course, start, no_points, no_nodes, no_rims, ran, read_to, whole_run, block_at}
 use Rattle.job.proofs.Runs.{Went, outcome, not-both, stays, goes, ran-held}
 use Rattle.job.proofs.Printed.{one_more, settles}
+use Rattle.run.specs.declared.Job.{Job}
+use Rattle.run.specs.Onward.{Begins}
 use Rattle.scene.specs.Scene.{node_text, nodes_text}
 use Rattle.frame.specs.declared.Frame.{Frame}
 use Rattle.frame.specs.declared.Edges.{Edges}
@@ -188,29 +190,22 @@ module _ (job : List ℕ) where
     all-nodes i sent e q b = record { count = q ∙ ap (λ (k : ℕ). length (nodes_drawn job k)) (e ∙ h.count); bound = b }
 
 -- ---- what the first i blocks of a job reach, and what is drawn of them
+-- a run under way, or ended: so many blocks reach it, and they are drawn
+pub record At (job : List ℕ) (s : State) (ps : List ℤ) (l : List Float) (rs : List ℕ) (sent : ℕ) : Type 0 where
+  pub blocks : ℕ
+  pub reached : Reached job blocks s ps l rs
+  pub drew : Drew job blocks sent
+
 pub drew_head : (job : List ℕ) (f : Frame) (sent : ℕ) → f ≡ frame_of (extent_of job) → sent ≡ length (head_text f) → sent ≤ 8192 → Drew job 0 sent
 unfolding drawn_to
 drew_head job f sent e q b = record { count = q ∙ ap (λ (g : Frame). length (head_text g)) e; bound = omega (arith, b) }
 
 begun : (job : List ℕ) → Reached job 0 start no_points no_nodes no_rims
 unfolding ran read_to
-begun job = record { state = refl; points = refl; nodes = refl; rims = refl; within = λ e. omega arith; turns = omega arith }
+begun job = record { state = refl; points = refl; nodes = refl; rims = refl; numbered = λ e. refl; within = λ e. omega arith; turns = omega arith }
 
-zero_bits : of_bits binary64 0 ≡ naught
-unfolding of_bits
-zero_bits = refl
-
-pub begins : (job : List ℕ) (s : State) → s ≡ start → Reached job 0 s no_points (replicate 3072 (of_bits binary64 0)) no_rims
-begins job s e =
-    let b = begun job in
-    record {
-      state = e ∙ b.state;
-      points = b.points;
-      nodes = ap (replicate 3072) zero_bits ∙ b.nodes;
-      rims = b.rims;
-      within = λ h. omega arith;
-      turns = omega arith;
-    }
+pub begins : (job : List ℕ) (j : Job) → Begins j → Reached job 0 j.state j.ring j.nodes j.rims
+begins job j b = rw (b.state, b.points, b.nodes, b.rims) (begun job)
 
 module _ (job : List ℕ) (i : ℕ) (s : State) (ps : List ℤ) (l : List Float) (rs : List ℕ) (r : Reached job i s ps l rs) where
   pub can_step : CanStep s ps
@@ -247,7 +242,7 @@ module _ (job : List ℕ) (i : ℕ) (s : State) (ps : List ℤ) (l : List Float)
     module _ (x : Stepped) (qs : List ℤ) (m : List Float) (w c : List ℕ) (p : Steps (step_of s ps l rs b) x qs m w c) where
       module _ (f : Edges) (ef : f ≡ edges_of (frame_of (extent_of job))) where
         abbrev text : List ℕ
-        text = drawn f x.told x.state.count qs m w c ++ lead_at job i
+        text = drawn f (tells_of x.told) x.state.count qs m w c ++ lead_at job i
 
         its-text : text ≡ step_drawn (frame_of (extent_of job)) now (block_at job i) (lead_at job i)
         its-text =
@@ -276,12 +271,15 @@ module _ (job : List ℕ) (i : ℕ) (s : State) (ps : List ℤ) (l : List Float)
             }
             )
 
-      pub goes_on : (h : x.state.ended ≡ false) → 512 * suc i ≤ length job
-      goes_on h = by (outcome s ps l rs b)
+      next_block : x.state.ended ≡ false → (x.state.block ≡ suc i) × (512 * suc i ≤ length job)
+      next_block h = by (outcome s ps l rs b)
         where
-          by : ((step_of s ps l rs b).state.ended ≡ true) ⊎ Went s b (step_of s ps l rs b) → 512 * suc i ≤ length job
+          by : ((step_of s ps l rs b).state.ended ≡ true) ⊎ Went s b (step_of s ps l rs b) → (x.state.block ≡ suc i) × (512 * suc i ≤ length job)
           by (inl z) = not-both x.state.ended (ap (λ (y : State). y.ended) p.state ∙ z) h
-          by (inr g) = omega (arith, g.whole, ap length eb, length-take 512 (drop (512 * i) job), length-drop (512 * i) job)
+          by (inr g) = (
+            omega (arith, ap (λ (y : State). y.block) p.state, g.next, r.numbered e),
+            omega (arith, g.whole, ap length eb, length-take 512 (drop (512 * i) job), length-drop (512 * i) job),
+          )
 
       pub turned : Reached job (suc i) x.state qs m w
       turned =
@@ -291,6 +289,7 @@ module _ (job : List ℕ) (i : ℕ) (s : State) (ps : List ℤ) (l : List Float)
             points = p.points ∙ ap (λ (y : Step). y.points) same ∙ sym (ap (λ (y : Course). y.points) n);
             nodes = p.nodes ∙ ap (λ (y : Step). y.nodes) same ∙ sym (ap (λ (y : Course). y.nodes) n);
             rims = p.rims ∙ ap (λ (y : Step). y.rims) same ∙ sym (ap (λ (y : Course). y.rims) n);
-            within = goes_on;
+            numbered = λ h. (next_block h).0;
+            within = λ h. (next_block h).1;
             turns = omega (arith, r.within e);
           }

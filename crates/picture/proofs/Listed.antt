@@ -22,7 +22,7 @@ use Rattle.blocks.specs.declared.Reading.{Reading}
 use Rattle.blocks.specs.declared.Refused.{Refused}
 use Rattle.std.specs.Prelude.{Result, Ok, Err}
 use Rattle.blocks.specs.Blocks.{read_block}
-use Rattle.told.specs.declared.Told.TheVariants as Told
+use Rattle.told.specs.Text.{Tells}
 use Rattle.state.specs.declared.State.{State}
 use Rattle.job.specs.Step.{Step, ends, waits, divides, taken, answered, lent_by, step_of}
 use Rattle.job.specs.Run.{Course, onward, ran}
@@ -65,7 +65,7 @@ module _ (s : State) (ps : List ℤ) (l : List Float) (rs : List ℕ) (h : Place
   answered-placed (Ok r) = taken-placed r.points r.block
   answered-placed (Err e) = h
 
-  ends-placed : Placed (ends s ps l rs Told.Nothing).state.used (ends s ps l rs Told.Nothing).nodes
+  ends-placed : Placed (ends s ps l rs Tells.Nothing).state.used (ends s ps l rs Tells.Nothing).nodes
   unfolding ends
   ends-placed = h
 
@@ -73,7 +73,7 @@ module _ (s : State) (ps : List ℤ) (l : List Float) (rs : List ℕ) (h : Place
   unfolding step_of
   step-placed b =
       let r = read_block b s.block in
-      either (λ (e : Step). Placed e.state.used e.nodes) (eqb (s.block % 2) 0 && eqb (length b) 0) (ends s ps l rs Told.Nothing)
+      either (λ (e : Step). Placed e.state.used e.nodes) (eqb (s.block % 2) 0 && eqb (length b) 0) (ends s ps l rs Tells.Nothing)
       (answered s ps l rs r) ends-placed (answered-placed r)
 
 onward-placed : (r : Course) (b : List ℕ) → Placed r.state.used r.nodes → Placed (onward r b).state.used (onward r b).nodes

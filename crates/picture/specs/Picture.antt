@@ -76,6 +76,7 @@ pub record Reached (job : List ℕ) (i : ℕ) (s : State) (ps : List ℤ) (l : L
   pub points : ps ≡ (ran (read_to job i)).points
   pub nodes : l ≡ (ran (read_to job i)).nodes
   pub rims : rs ≡ (ran (read_to job i)).rims
+  pub numbered : s.ended ≡ false → s.block ≡ i
   pub within : s.ended ≡ false → 512 * i ≤ length job
   pub turns : i ≤ length job / 512 + 1
 

@@ -3,24 +3,23 @@
 // their number, axes in mm and a scale bar.
 //
 // The box of the drawing stands in front, so the whole job is read first, 256 rings at most. Then the blocks are stepped over
-// as in run. specs/Picture says what comes out as one definition, `pictured`: each text that is handed over is what it has
+// by `run::Job`. specs/Picture says what comes out as one definition, `pictured`: each text that is handed over is what it has
 // next after the bytes written so far, and a run that ends has written as many as it has. `draw_job` is the whole program, and
 // `main` only says how it ended. What is left to the operating system's calls is said in stream.
 
 #![tactic(auto)]
 
 ghost use Rattle.std.specs.Prelude.{◌≡◌, false, ◌++◌, ◌+◌, ◌*◌, ◌%◌, ◌≤◌, ◌<◌, length, IfOk, IfErr, OnOk};
-ghost use Rattle.told.specs.Text.{CanTell};
+ghost use Rattle.told.specs.Text.{tells_of, CanTell};
 ghost use Rattle.sketch.specs.Drawn.{told_drawn, lead_at, most_step};
 ghost use Rattle.frame.specs.Bounds.{extent_of, frame_of};
 ghost use Rattle.frame.specs.Head.{head_text, most_head};
 ghost use Rattle.picture.specs.Picture.{on, rings_drawn, all_drawn, pictured, most_rings, Wrote, Owed, Sends, Reached, Drew, Left, torn, counted, Ends, said};
 
 use frame::{Edges, Frame, MOST_HEAD};
-use nodes::NodeNumber;
+use run::Job;
 use scene::{Lists, Points};
 use sketch::MOST_STEP;
-use state::State;
 use std::io::{Read, Write};
 use stream::{ReadFailed, WriteFailed};
 use text::Page;
@@ -31,6 +30,7 @@ const MOST_JOB: usize = 262144;
 
 // How the program ended, where no write failed: a picture of so many bytes was written, of what was read; or there were too
 // many bytes to read.
+// Kept: too long a job is no error of writing: it has words of its own, as what was read has.
 #[derive(Clone, Copy)]
 pub enum End {
     Drawn {
@@ -89,9 +89,9 @@ fn draw_step<W: Write>(
     i: usize,
     sent: &mut u64,
 ) -> Result<(), WriteFailed>
-    requires { Owed job.now sent.old (told_drawn f told points.now lists.now ++ lead_at job.now i)
-        × CanTell told lists.now.cells.now × (512 * i ≤ length job.now) × (i < 4294967296) }
-    ensures { OnOk result (Sends sent.old (told_drawn f told points.now lists.now ++ lead_at job.now i) sent.new) }
+    requires { Owed job.now sent.old (told_drawn f (tells_of told) points.now lists.now ++ lead_at job.now i)
+        × CanTell (tells_of told) lists.now.cells.now × (512 * i ≤ length job.now) × (i < 4294967296) }
+    ensures { OnOk result (Sends sent.old (told_drawn f (tells_of told) points.now lists.now ++ lead_at job.now i) sent.new) }
 {
     let mut text = [0u8; MOST_STEP];
     let mut page = Page {
@@ -102,41 +102,32 @@ fn draw_step<W: Write>(
     send(output, job, &page, sent)
 }
 
-// The run after block i, which is drawn when it is told.
+// Steps over the next block, which is drawn when it is told.
 fn turn<W: Write>(
     output: &mut W,
     job: &[u8],
     f: Frame,
-    i: usize,
-    s: State,
-    ring: &mut [i32],
-    nodes: &mut [f64],
-    rims: &mut [u8],
-    cells: &mut [NodeNumber],
+    run: &mut Job,
     sent: &mut u64,
-) -> Result<State, WriteFailed>
-    requires { Reached job.now i s ring.old nodes.old rims.old × Drew job.now i sent.old × (s.ended ≡ false) × (f ≡ frame_of (extent_of job.now))
-        × (length cells.old ≡ 496) × (length job.now < 4294967296) }
-    ensures reached { IfOk result (λ next. Reached job.now (i + 1) next ring.new nodes.new rims.new) }
-    ensures drew { OnOk result (Drew job.now (i + 1) sent.new) }
+) -> Result<(), WriteFailed>
+    requires { Reached job.now run.old.state.block run.old.state run.old.ring run.old.nodes run.old.rims × Drew job.now run.old.state.block sent.old
+        × (run.old.state.ended ≡ false)
+        × (f ≡ frame_of (extent_of job.now)) × (length job.now < 4294967296) }
+    ensures reached { Reached job.now (run.old.state.block + 1) run.new.state run.new.ring run.new.nodes run.new.rims }
+    ensures drew { OnOk result (Drew job.now (run.old.state.block + 1) sent.new) }
 {
-    let stepped = step::step(s, frame::block_at(job, i), ring, nodes, rims, cells);
+    let i = run.state.block as usize;
+    let told = run.step(frame::block_at(job, i));
     let points = Points {
-        list: ring,
-        count: stepped.state.count,
+        list: &run.ring,
+        count: run.state.count,
     };
-    let lists = Lists { nodes, rims, cells };
-    draw_step(
-        output,
-        job,
-        f.edges(),
-        stepped.told,
-        &points,
-        &lists,
-        i,
-        sent,
-    )?;
-    Ok(stepped.state)
+    let lists = Lists {
+        nodes: &run.nodes,
+        rims: &run.rims,
+        cells: &run.cells,
+    };
+    draw_step(output, job, f.edges(), told, &points, &lists, i, sent)
 }
 
 // Writes the nodes that a run has left, after the head and the rings.
@@ -151,7 +142,8 @@ fn draw_nodes<W: Write>(
     requires { Left job.now used nodes.now rims.now × (sent.old ≡ length (rings_drawn job.now)) × (sent.old ≤ most_rings) }
     ensures { OnOk result (Wrote (all_drawn job.now) sent.new) }
 {
-    // Kept: it goes over the numbers of nodes, which are what is drawn, and over no list.
+    // Kept: it goes over the numbers of nodes, which are drawn; over the list's pairs it would enumerate them and use the number
+    // alone.
     for i in 0..used {
         let mut text = [0u8; 256];
         let mut page = Page {
@@ -169,20 +161,12 @@ fn draw<W: Write>(output: &mut W, job: &[u8], f: Frame, sent: &mut u64) -> Resul
     requires { (length job.now < 4294967296) × (f ≡ frame_of (extent_of job.now)) × (sent.old ≡ length (head_text f)) × (sent.old ≤ most_head) }
     ensures { OnOk result (Wrote (all_drawn job.now) sent.new) }
 {
-    let mut ring = [0i32; 120];
-    let mut nodes = [0.0f64; 3072];
-    let mut rims = [0u8; 1536];
-    let mut cells = [0; 496];
-    let mut s = State::new();
-    let mut i: usize = 0;
-    // Kept: the state says when the run ends, and i is the block's place in the job, of which no list has an element.
-    while state::goes_on(s) {
-        s = turn(
-            output, job, f, i, s, &mut ring, &mut nodes, &mut rims, &mut cells, sent,
-        )?;
-        i += 1;
+    let mut run = Job::new();
+    // Kept: the state says when the run ends; the job's chunks would lack the step without bytes after the last of them.
+    while state::goes_on(run.state) {
+        turn(output, job, f, &mut run, sent)?;
     }
-    draw_nodes(output, job, &nodes, &rims, s.used, sent)
+    draw_nodes(output, job, &run.nodes, &run.rims, run.state.used, sent)
 }
 
 // The whole picture of a job.

@@ -37,6 +37,8 @@ pub fn add_corners(
     ensures { Adds nodes.old used (corner_at points.now) (length points.now) nodes.new result list.new }
 {
     let mut at = used;
+    // Kept: the place is counted, since the library doesn't say what a list holds after its places were lent by `iter_mut().zip(..)`;
+    // over the places alone, by `enumerate`, the point would be counted.
     for (i, p) in points.iter().enumerate() {
         let r = numbering::add_node(nodes, at, Point::new(*p), found);
         list[i] = r.number;
@@ -64,6 +66,7 @@ pub fn add_middles(
 {
     let mut at = used;
     let mut far = false;
+    // Kept: a turn looks at an edge's mark and at the numbers of both its ends, the second the next one round the piece.
     for (i, e) in marks.iter().enumerate() {
         let j = vector::next(i, vs.len());
         let a = quads::node_at(nodes, vs[i]);

@@ -19,7 +19,7 @@ use Rattle.vector.specs.declared.GridPoint.{GridPoint}
 use Rattle.vector.specs.declared.Point.{Point}
 use Rattle.marks.specs.declared.Edge.{Edge}
 use Rattle.marks.specs.Part.{Part, no_part}
-use Rattle.parts.specs.declared.PartList.{PartList}
+use Rattle.parts.specs.declared.list.PartList.{PartList}
 use Rattle.parts.specs.Pieces.{piece_in, marks_of}
 use Rattle.nodes.specs.Growth.{Grown, Anything, InRange, EachNode}
 use Rattle.nodes.specs.Flat.{nodes_in, over, Usable}
@@ -47,7 +47,6 @@ use Rattle.cells.proofs.Asking.{Below, asks-listed}
 use Rattle.std.specs.Prelude.{Some, None, Result, Err}
 use Rattle.pieces.specs.declared.Laid.{Laid}
 use Rattle.pieces.specs.declared.FailedPiece.{FailedPiece}
-use Rattle.quads.proofs.CellList as cell
 use Rattle.pieces.specs.Flat.{pieces_in, every_mark, labelled_in, CanSubdivide, row, row_of, over_from, cells_left_of}
 use Rattle.pieces.proofs.CellPlaces.{from-none, length_from, part-back, from_more, from-again}
 

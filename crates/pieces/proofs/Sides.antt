@@ -15,7 +15,7 @@ use Rattle.vector.specs.declared.GridPoint.{GridPoint}
 use Rattle.marks.specs.declared.EdgeMark.{EdgeMark}
 use Rattle.marks.specs.declared.EdgeMark.TheVariants.{Straight}
 use Rattle.marks.specs.Part.{Part}
-use Rattle.parts.specs.declared.PartList.{PartList}
+use Rattle.parts.specs.declared.list.PartList.{PartList}
 use Rattle.parts.specs.Vertices.{vertex, edge_at}
 use Rattle.parts.specs.Layout.{end, size, nth}
 use Rattle.parts.specs.Pieces.{piece_in}

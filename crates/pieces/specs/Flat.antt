@@ -6,8 +6,8 @@ use Rattle.vector.specs.Rings.{most_points}
 use Rattle.marks.specs.declared.Edge.{Edge}
 use Rattle.marks.specs.declared.EdgeMark.{EdgeMark}
 use Rattle.marks.specs.Part.{Part}
-use Rattle.parts.specs.declared.PartList.{PartList}
-use Rattle.parts.specs.Layout.{ValidParts, list_of}
+use Rattle.parts.specs.declared.list.PartList.{PartList}
+use Rattle.parts.specs.Layout.{list_of}
 use Rattle.parts.specs.Pieces.{piece_in, marks_of}
 use Rattle.nodes.specs.Nodes.{most_places}
 use Rattle.nodes.specs.Flat.{nodes_in, Usable}
@@ -46,7 +46,6 @@ pub record CanSubdivide (share : Float) (l : List Float) (u : ℕ) (q : List ℕ
     Type 0 where
   pub usable : Usable l u
   pub sheet : AllOnSheet ring
-  pub kept : ValidParts p
   pub fair : (i : ℕ) → i < p.count → ValidPiece (piece_in ring (marks_of es) p i)
   pub fits : length (nodes_of (outcome_in share l u ring es p)) ≤ most_places
   pub room : length (nodes_of (outcome_in share l u ring es p)) * 2 ≤ length l

@@ -8,7 +8,6 @@
 
 ghost use Rattle.std.specs.Prelude.{◌≡◌, List, ℕ, ◌*◌, ◌≤◌, ◌<◌, false, length, get_or, replicate};
 ghost use Rattle.vector.specs.declared.GridPoint.{GridPoint};
-ghost use Rattle.parts.specs.Layout.{ValidParts};
 ghost use Rattle.parts.specs.Pieces.{piece_in};
 ghost use Rattle.nodes.specs.Flat.{over};
 ghost use Rattle.nodes.specs.Nearby.{ValidCollected};
@@ -50,10 +49,13 @@ fn clear(cells: &mut [NodeNumber], n: usize)
 
 // Which edges of piece i are edges of the ring: the diagonal of a cut is straight by its number.
 fn piece_sides(pieces: &PartList, i: usize) -> [bool; MOST_POINTS]
-    requires { ValidParts pieces.now × (i < pieces.now.count) }
+    requires { i < pieces.now.count }
     ensures { (ring : List GridPoint) (j : ℕ) → get_or result j false ≡ of_ring (piece_in ring every_mark pieces.now i) j }
 {
     let mut out = [false; MOST_POINTS];
+    // Kept: the place is counted, since the library doesn't say what a list holds after its places were lent by `iter_mut().zip(..)`
+    // (tried). `std::array::from_fn` takes 466 instructions for 72: with the marks' 660, 5 in a hundred of a small ring's call, which
+    // goal 1 of docs/BENCHMARKS.md has not to spare (`parts`).
     for (j, c) in pieces.part(i).iter().enumerate() {
         out[j] = c.edge < Vertex::STRAIGHT;
     }
@@ -86,7 +88,8 @@ pub fn subdivide_all(
 {
     let mut u = used;
     let mut at = first;
-    // Kept: a piece is read by its number, as its points and marks are.
+    // Kept: a piece goes by its number, which `piece_points` and `piece_marks` take. Going over the parts would want an iterator of its
+    // own, with what `next` gives, for this loop alone.
     for i in 0..pieces.count {
         let corners = parts::piece_points(&ring.ring.points, pieces, i);
         let marks = parts::piece_marks(&ring.edges, pieces, i);

@@ -13,6 +13,8 @@ use nodes::NodeNumber;
 use table::{Answer, Refusal};
 
 // The divider call of the practice paper, over the lists that the caller lends.
+// Kept: an entry of its own, which C has too. `divide_set` with the paper's set is not it, since it leaves out 16, and with a
+// flag for the paper its promise would be one of two.
 pub fn divide_practice(
     ring: &[i32],
     chain: &[i32],

@@ -34,6 +34,14 @@ impl From<Cell> for [NodeNumber; 4] {
     }
 }
 
+impl From<[NodeNumber; 4]> for Cell {
+    ghost from_gives = { λ ns c. ns ≡ four c };
+
+    fn from([a, b, c, d]: [NodeNumber; 4]) -> Cell {
+        Cell { a, b, c, d }
+    }
+}
+
 // The nodes of a piece: its centre, and the middles of its edges and its corners in order, as many.
 #[derive(Clone, Copy)]
 pub struct Round<'a> {

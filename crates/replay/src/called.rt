@@ -1,11 +1,13 @@
 // The entry that a call is of: the examination, one that takes a set of limits, or the practice paper.
 
+use given_tests::Marking;
 use nodes::NodeNumber;
 use std::io::Read;
 use table::Row;
 use words::Field;
 
-// The five values of a set of limits.
+// The five values of a set of limits, as C hands them over.
+// Kept: no `Limits`, whose count of cuts is a usize, where C's has 32 bits.
 #[derive(Clone, Copy)]
 pub struct Set {
     pub corner: f64,
@@ -29,6 +31,7 @@ impl Set {
 }
 
 // What a call divides: a ring by its chain, or with given marks, and the size of its sheet.
+// Kept: no `divider::ByChain` in the first: the exported entries take the three one by one, and the second has no such type.
 #[derive(Clone, Copy)]
 pub enum Asked<'a> {
     Chain {
@@ -38,10 +41,7 @@ pub enum Asked<'a> {
     },
     Marks {
         ring: &'a [i32],
-        kinds: &'a [u8],
-        snaps: &'a [f64],
-        outline: &'a [i32],
-        loops: &'a [u32],
+        marking: Marking<'a>,
         size: u32,
     },
 }
@@ -70,14 +70,9 @@ impl Entry {
             }
             Asked::Marks {
                 ring,
-                kinds,
-                snaps,
-                outline,
-                loops,
+                marking,
                 size,
-            } => self.marked(
-                ring, kinds, snaps, outline, loops, size, nodes, used, rims, cells, cell_count,
-            ),
+            } => self.marked(ring, marking, size, nodes, used, rims, cells, cell_count),
         }
     }
 
@@ -110,10 +105,7 @@ impl Entry {
     fn marked(
         self,
         ring: &[i32],
-        kinds: &[u8],
-        snaps: &[f64],
-        outline: &[i32],
-        loops: &[u32],
+        marking: Marking<'_>,
         size: u32,
         nodes: &mut [f64],
         used: usize,
@@ -121,6 +113,12 @@ impl Entry {
         cells: &mut [NodeNumber],
         cell_count: usize,
     ) -> Row {
+        let Marking {
+            kinds,
+            snaps,
+            outline,
+            loops,
+        } = marking;
         match self {
             Entry::WithSet(s) => exports::ring_divide_marked_set(
                 s.corner, s.least, s.greatest, s.cuts, s.share, ring, kinds, snaps, outline, loops,

@@ -3,6 +3,7 @@
 ghost use Rattle.std.specs.Prelude.{◌≤◌};
 
 use crate::called::{Asked, Entry};
+use given_tests::Marking;
 use std::io::Read;
 
 // The lists of the calls that follow, and how much of them the calls are lent: the places for nodes, of which so many are
@@ -77,12 +78,15 @@ impl Kept {
         words::read_list(input, &mut snaps, t);
         words::read_list(input, &mut outline, o);
         words::read_list(input, &mut loops, l);
-        let asked = Asked::Marks {
-            ring: &ring[..r],
+        let marking = Marking {
             kinds: &kinds[..k],
             snaps: &snaps[..t],
             outline: &outline[..o],
             loops: &loops[..l],
+        };
+        let asked = Asked::Marks {
+            ring: &ring[..r],
+            marking,
             size,
         };
         self.compared(input, entry, asked, cell_numbers, cell_count)

@@ -8,7 +8,8 @@
 ghost use Rattle.std.specs.Prelude.{◌≡◌, ◌&&◌, ◌+◌, ◌*◌, ◌/◌, ◌≤◌, ◌<◌, length};
 ghost use Rattle.text.specs.Page.{Room, Wrote};
 ghost use Rattle.report.specs.Report as Report;
-ghost use Rattle.report.specs.Report.{Printed, holds, few_cells};
+ghost use Rattle.text.specs.Text.{filled};
+ghost use Rattle.report.specs.Report.{Printed, holds, few_cells, most_text};
 
 use text::Page;
 
@@ -78,26 +79,33 @@ pub fn print_ring(out: &mut [u8], a: Divided, cells: &[u32]) -> usize
     page.at
 }
 
-// Kept: the numbers of a refused ring's row as they are, since they are what is printed.
-pub fn print_refused_ring(out: &mut [u8], ring: u64, code: u64, corners: u64, k: u64) -> usize
-    ensures { Printed (holds out.old) out.old (Report.refused_ring ring code corners k) result out.new }
+// A form alone, filled with its numbers.
+fn print_form(out: &mut [u8], form: &[u8], numbers: &[u64]) -> usize
+    requires { length (filled form.now numbers.now) ≤ most_text }
+    ensures { Printed (holds out.old) out.old (filled form.now numbers.now) result out.new }
 {
     if out.len() < MOST_TEXT {
         return 0;
     }
     let mut page = Page { out, at: 0 };
-    page.filled(b"ring # refused # # #\n", &[ring, code, corners, k]);
+    page.filled(form, numbers);
     page.at
 }
 
-// Kept: the refusal as its number, which is what is printed.
+// Kept: the numbers of a refused ring's row as they are printed. For an `Answer` in their place this crate would stand on table,
+// and have nothing to print of one that is divided.
+#[tactic(auto, unfolding(text::specs::Text::bytes, crate::specs::Report::refused_ring))]
+pub fn print_refused_ring(out: &mut [u8], ring: u64, code: u64, corners: u64, k: u64) -> usize
+    ensures { Printed (holds out.old) out.old (Report.refused_ring ring code corners k) result out.new }
+{
+    print_form(out, b"ring # refused # # #\n", &[ring, code, corners, k])
+}
+
+// Kept: the refusal as its number, which is printed. For the refusal itself this crate would stand on blocks, to call `u64::from`
+// that its one caller calls.
+#[tactic(auto, unfolding(text::specs::Text::bytes, crate::specs::Report::refused_block))]
 pub fn print_refused_block(out: &mut [u8], block: u64, code: u64) -> usize
     ensures { Printed (holds out.old) out.old (Report.refused_block block code) result out.new }
 {
-    if out.len() < MOST_TEXT {
-        return 0;
-    }
-    let mut page = Page { out, at: 0 };
-    page.filled(b"block # refused #\n", &[block, code]);
-    page.at
+    print_form(out, b"block # refused #\n", &[block, code])
 }

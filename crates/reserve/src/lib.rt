@@ -10,6 +10,7 @@ ghost use Rattle.std.specs.Prelude.{◌≡◌, ◌≤◌};
 ghost use Rattle.reserve.specs.Reserve as Reserve;
 
 // The printed reserve sheet, for ring counts from 3 to 60: the node places,
+// Kept: two lists, which are the two columns of the sheet, a byte a row; in pairs the page would be printed from no column.
 const NODE_SHEET: [u8; 58] = [
     10, 15, 20, 25, 30, 35, 40, 45, 50, 55, 60, 65, 70, 75, 80, 85, 90, 95, 100, 105, 110, 115,
     120, 125, 130, 135, 140, 145, 150, 155, 160, 165, 170, 173, 176, 179, 182, 185, 188, 191, 194,

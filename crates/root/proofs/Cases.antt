@@ -10,7 +10,7 @@ use lib.IntN.{pos}
 use lib.Dec.{T, leb, ltb, eqb, eqb→eq, lt→ltb, nleb→lt, leb→le, not_T}
 use lib.Arith.{le→nltb}
 use lib.Pow.{pow_pos}
-use lib.Ieee.{Float, nan, inf, fin, binary64, up, down, lt, eq, div, odd, is_nan, nan_bits, fits, of_fields, of_bits, to_bits}
+use lib.Ieee.{Float, nan, inf, fin, binary64, up, down, lt, eq, div, odd, nan_bits, fits, of_fields, of_bits, to_bits}
 use lib.Ieee.Bits.{of_bits-to_bits, to_bits-of_bits, to_bits-lt, nan_bits_above, nan_bits_is, is_true, cond_no}
 use lib.Ieee.Fits.{eq→eqb, up_pos, down_pos}
 use lib.Ieee.Exact.{HasValue, odd_sign}
@@ -33,12 +33,6 @@ no : {X : Type 0} → false ≡ true → X
 no h = absurd (true≢false (sym h))
 
 -- ---- x > 0.0
-pub not_nan : (x : Float) → lt +0 x ≡ true → T (not (is_nan x))
-unfolding is_nan lt
-not_nan nan h = no (at_zero lt true nan h)
-not_nan (inf s) h = tt
-not_nan (fin s m e) h = tt
-
 pub pattern_pos : (x : Float) → T (fits binary64 x) → lt +0 x ≡ true → 0 < to_bits binary64 x
 unfolding lt of_bits
 pattern_pos x f h = elim (eq-zero-or-pos (to_bits binary64 x)) [
@@ -190,14 +184,14 @@ zero_bits b h e = elim (either b h e) [
         go (suc zero) l z = inr (omega arith)
         go (suc (suc q)) l z = absurd (omega arith)
 
-pub positive-bits : (b r : ℕ) → of_bits binary64 r ≡ root_of (of_bits binary64 b) → r < 0x7ff0_0000_0000_0000 → r ≡ root_bits b
+pub positive_bits : (b r : ℕ) → of_bits binary64 r ≡ root_of (of_bits binary64 b) → r < 0x7ff0_0000_0000_0000 → r ≡ root_bits b
 unfolding root_bits
-positive-bits b r e h =
+positive_bits b r e h =
     sym (ap (to_bits binary64) (sym e) ∙ to_bits-of_bits binary64 r (omega arith) (subst (λ (c : Bool). T (not c)) (nan_bits_is binary64 r) (no_nan_bits r h)))
 
-pub infinite-bits : (b : ℕ) → b ≡ 0x7ff0_0000_0000_0000 → b ≡ root_bits b
+pub infinite_bits : (b : ℕ) → b ≡ 0x7ff0_0000_0000_0000 → b ≡ root_bits b
 unfolding root_bits root_of of_bits to_bits
-infinite-bits b e = e ∙ ap root_bits (sym e)
+infinite_bits b e = e ∙ ap root_bits (sym e)
 
 -- 01: "NaN or below zero gives bits 7FF8000000000000": every pattern above +infinity's, -0 apart
 pub nan_bits_lem : (b : ℕ) → 0x7ff0_0000_0000_0000 < b → 0 < b % 2 ^ 63 → 0x7ff8_0000_0000_0000 ≡ root_bits b

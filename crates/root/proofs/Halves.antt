@@ -47,9 +47,6 @@ module _ (n a b v : ℕ) (lo : 2 ^ 52 ≤ n) (hi : n < 2 ^ 54) (i : IsRoot n a) 
       too_many : suc (2 ^ 27) * (a * 2) ≤ b * (a * 2) → ⊥
       too_many h = omega (arith, split, rest n a i, upper_from n a lo i)
 
-  pub exact : b * b ≤ v * 2 ^ 27 → IsRoot (n * 2 ^ 54) (a * 2 ^ 27 + b)
-  exact h = record { below = omega (arith, square); above = omega (arith, square, suc-square (a * 2 ^ 27 + b), under) }
-
   pub over : v * 2 ^ 27 < b * b → IsRoot (n * 2 ^ 54) (a * 2 ^ 27 + b - 1)
   over h =
       let p : 0 < b = positive (v * 2 ^ 27) b h in

@@ -80,10 +80,3 @@ third n g s = record { above = step-above n g (omega (arith, s.low)); small = om
 pub positive : (n a : ℕ) → n < a * a → 0 < a
 positive n zero h = absurd (omega arith)
 positive n (suc a) h = zero-lt-suc a
-
-pub down : (n a : ℕ) → Above n a → n < a * a → Above n (a - 1)
-down n zero v h = absurd (omega arith)
-down n (suc a) v h = subst (Above n) (same a) (record { above = h; small = omega (arith, v.small) })
-  where
-    same : (a : ℕ) → a ≡ suc a - 1
-    same a = omega arith

@@ -26,7 +26,8 @@ fn root_head(n: u64) -> u64
     let g = 34799785 + x * h / 0x10_0000;
     let f = (g + n / g) / 2;
     let mut a = (f + n / f) / 2;
-    // Kept: it walks down to the answer, and counts nothing.
+    // Kept: a while, since it walks down to the answer, the first whose square is at most n. `(0..=a).rev().find(..)` would answer
+    // an Option that is never None.
     while n < a * a {
         a -= 1;
     }
@@ -73,6 +74,7 @@ fn root_positive(b: u64) -> u64
 
 // Over bit patterns, where every bit of the answer is promised: both zeros and +infinity give themselves, and a NaN or
 // what is below zero gives the one NaN 7FF8000000000000.
+#[tactic(auto, using(crate::proofs::Cases::zero_bits, crate::proofs::Cases::positive_bits, crate::proofs::Cases::infinite_bits, crate::proofs::Cases::nan_bits_lem))]
 pub fn root_bits(b: u64) -> u64
     ensures { result ≡ root_bits b }
 {
@@ -123,6 +125,7 @@ pub fn dist(a: Point, b: Point) -> f64
 // The same over the grid, in mm: the squares are summed exactly, in units, before the one division and the root.
 // Kept: one line each beside `norm` and `dist`. A trait over both kinds of points would need a ghost member for what the grid's
 // lengths ask, a step of the sheet, one for the square and one for the difference, and two impls of three methods.
+#[tactic(auto, using(laws::proofs::Signed::back), unfolding(crate::specs::Norm::grid_norm))]
 pub fn grid_norm(v: GridPoint) -> f64
     requires { Step v }
     ensures { result ≡ Norm.grid_norm v }
@@ -149,6 +152,7 @@ fn root_at_most(x: f64, t: f64) -> bool
     root(x) <= t
 }
 
+#[tactic(auto, unfolding(crate::specs::Norm::dist, crate::specs::Norm::norm))]
 pub fn dist_at_most(a: Point, b: Point, t: f64) -> bool
     ensures { result ≡ (Norm.dist a b ≤f t) }
 {
@@ -156,6 +160,8 @@ pub fn dist_at_most(a: Point, b: Point, t: f64) -> bool
     root_at_most(v.dot(v), t)
 }
 
+// Kept: beside the one before, as `grid_dist` beside `dist`.
+#[tactic(auto, using(laws::proofs::Signed::back), unfolding(crate::specs::Norm::grid_dist, crate::specs::Norm::grid_norm))]
 pub fn grid_dist_at_most(a: GridPoint, b: GridPoint, t: f64) -> bool
     requires { OnSheet a × OnSheet b }
     ensures { result ≡ (Norm.grid_dist a b ≤f t) }

@@ -2,47 +2,47 @@
 -- (`wrote`); no run goes on past 65,536 blocks; and where it has ended, `printed` of the input was written (`finished`), and the nodes are those of its run
 -- (`listed`).
 use Prim.Native.Nat.{ℕ, suc, ◌-◌, ◌*◌, ◌≤◌, ◌<◌}
-use mathlib.Core.Path.{◌≡◌, refl, sym, ap, ◌∙◌, subst}
+use mathlib.Core.Path.{◌≡◌, refl, sym, ap, ◌∙◌}
 use mathlib.Core.Bool.{true, false, cond}
 use mathlib.Core.Logic.{◌⊎◌, inl, inr}
 use mathlib.Core.List.{List, [], ◌++◌}
 use native.Mathlib.Omega.{arith}
 use native.Mathlib.Decide.{dec_le}
-use lib.ListN.{length, replicate, length-append}
+use lib.ListN.{length, length-append}
 use lib.IntN.{ℤ}
 use lib.Ieee.{Float, binary64, of_bits}
 use Rattle.laws.specs.Double.{naught}
-use Rattle.told.specs.Text.{told_text}
+use Rattle.told.specs.Text.{tells_of, told_text}
 use Rattle.state.specs.declared.State.{State}
 use Rattle.job.specs.declared.Stepped.{Stepped}
 use Rattle.job.specs.Step.{text_of, step_of, Steps, CanStep}
 use Rattle.job.specs.Run.{Bytes, start, no_points, no_nodes, no_rims, Course, onward, ran, read_to}
 use Rattle.job.proofs.Runs.{Went, outcome, number-below, not-both, goes, ran-held, read_more, read-added, joined_bytes}
 use Rattle.job.proofs.Printed.{one_more, prints, counted, in_time}
+use Rattle.told.specs.declared.Told.{Told}
 use Rattle.telling.specs.Reached.{Reached, Wrote, Owed, Sends, Finished, EndedWith}
+use Rattle.run.specs.declared.Job.{Job}
+use Rattle.run.specs.Onward.{Begins, Onward}
 
 -- before the first block
 begun : Reached start no_points no_nodes no_rims
 unfolding ran read_to
 begun = record { input = []; blocks = 0; state = refl; points = refl; nodes = refl; rims = refl; bytes = λ i. omega arith; whole = λ e. refl }
 
-zero_bits : of_bits binary64 0 ≡ naught
+pub zero_bits : of_bits binary64 0 ≡ naught
 unfolding of_bits
 zero_bits = refl
-
-pub begun_so : (s : State) → s ≡ start → Reached s no_points (replicate 3072 (of_bits binary64 0)) no_rims
-begun_so s e =
-    subst (λ (x : Float). Reached s no_points (replicate 3072 x) no_rims) (sym zero_bits)
-    (subst (λ (q : State). Reached q no_points no_nodes no_rims) (sym e) begun)
 
 none_written : Wrote start no_points no_nodes no_rims 0
 unfolding ran read_to begun
 none_written = record { reached = begun; text = refl; bound = omega arith }
 
-pub begun-unwritten : (s : State) → s ≡ start → Wrote s no_points (replicate 3072 (of_bits binary64 0)) no_rims 0
-begun-unwritten s e =
-    subst (λ (x : Float). Wrote s no_points (replicate 3072 x) no_rims 0) (sym zero_bits)
-    (subst (λ (q : State). Wrote q no_points no_nodes no_rims 0) (sym e) none_written)
+module _ (j : Job) (b : Begins j) where
+  pub begins_reached : Reached j.state j.ring j.nodes j.rims
+  begins_reached = rw (b.state, b.points, b.nodes, b.rims) begun
+
+  pub begins_unwritten : Wrote j.state j.ring j.nodes j.rims 0
+  begins_unwritten = rw (b.state, b.points, b.nodes, b.rims) none_written
 
 module _ (s : State) (ps : List ℤ) (l : List Float) (rs : List ℕ) (r : Reached s ps l rs) where
   -- a step can be made
@@ -128,7 +128,7 @@ module _ (s : State) (ps : List ℤ) (l : List Float) (rs : List ℕ) (r : Reach
               whole = still-whole;
             }
 
-        same_text : told_text x.told p ≡ text_of (step_of s ps l rs b)
+        same_text : told_text (tells_of x.told) p ≡ text_of (step_of s ps l rs b)
         same_text = λ i. told_text (t.told i) (t.cells i)
 
 module _ (s : State) (ps : List ℤ) (l : List Float) (rs : List ℕ) (sent : ℕ) (r : Wrote s ps l rs sent) where
@@ -145,7 +145,7 @@ module _ (s : State) (ps : List ℤ) (l : List Float) (rs : List ℕ) (sent : �
   module _ (e : s.ended ≡ false) (b : List ℕ) (f : Bytes b) (h : length b ≤ 512) (x : Stepped) (qs : List ℤ) (m : List Float) (w p : List ℕ)
       (t : Steps (step_of s ps l rs b) x qs m w p) where
     -- the text of what the step tells is owed
-    pub owes : Owed sent (told_text x.told p)
+    pub owes : Owed sent (told_text (tells_of x.told) p)
     owes =
         record {
           state = s;
@@ -160,7 +160,7 @@ module _ (s : State) (ps : List ℤ) (l : List Float) (rs : List ℕ) (sent : �
         }
 
     -- and once it is sent, it was written
-    pub wrote : (n : ℕ) → Sends sent (told_text x.told p) n → Wrote x.state qs m w n
+    pub wrote : (n : ℕ) → Sends sent (told_text (tells_of x.told) p) n → Wrote x.state qs m w n
     unfolding turned
     wrote n d =
         let g = r.reached in
@@ -173,3 +173,19 @@ module _ (s : State) (ps : List ℤ) (l : List Float) (rs : List ℕ) (sent : �
               omega (arith, r.text, d.count, ap length c, k, ap (λ (q : Course). length q.text) a);
           bound = omega (arith, r.bound, d.count, d.short);
         }
+
+-- a job under way, one block on
+module _ (j k : Job) (t : Told) (n : Onward j k t) where
+  module _ (r : Reached j.state j.ring j.nodes j.rims) where
+    pub falls_onward : cond k.state.ended 0 (65537 - k.state.block) < cond j.state.ended 0 (65537 - j.state.block)
+    falls_onward = falls j.state j.ring j.nodes j.rims r n.going n.block n.bytes k.state n.steps.state
+
+    pub reached_onward : Reached k.state k.ring k.nodes k.rims
+    reached_onward = turned j.state j.ring j.nodes j.rims r n.going n.block n.bytes n.few (record { state = k.state; told = t }) k.ring k.nodes k.rims k.cells n.steps
+
+  module _ (sent : ℕ) (w : Wrote j.state j.ring j.nodes j.rims sent) where
+    pub owes_onward : Owed sent (told_text (tells_of t) k.cells)
+    owes_onward = owes j.state j.ring j.nodes j.rims sent w n.going n.block n.bytes n.few (record { state = k.state; told = t }) k.ring k.nodes k.rims k.cells n.steps
+
+    pub wrote_onward : (m : ℕ) → Sends sent (told_text (tells_of t) k.cells) m → Wrote k.state k.ring k.nodes k.rims m
+    wrote_onward = wrote j.state j.ring j.nodes j.rims sent w n.going n.block n.bytes n.few (record { state = k.state; told = t }) k.ring k.nodes k.rims k.cells n.steps

@@ -9,7 +9,7 @@ use lib.ListN.{length, length-append}
 use lib.Dec.{eqb}
 use lib.IntN.{ℤ}
 use lib.Ieee.{Float}
-use borrow.Author.Tests.{eq-eqb, ne_eqb}
+use borrow.Author.Tests.{ne_eqb}
 use Rattle.text.specs.Text.{bytes, marks}
 use Rattle.table.specs.declared.Row.{Row}
 use Rattle.svg.specs.Place.{point_place}
@@ -20,26 +20,26 @@ use Rattle.scene.specs.declared.Quad.{Quad}
 use Rattle.scene.specs.Scene.{cell_text, half_text, snapped, snap_text, quad_of, quad_text, quads_text, placed, points_text, lead_text}
 use Rattle.scene.specs.Scene.{outline_text, divided_text, halfway, refused_text, ring_text, dot_text, node_text, most_ring, most_node}
 
--- ---- by the mark
-module _ (mark : ℕ) (a b : Spot) where
-  pub half-cut : mark ≡ 0 → formed (bytes "<path class='cut' d='M@ @L@ @'/>\n") (a.x ∷ a.y ∷ b.x ∷ b.y ∷ []) ≡ half_text mark a b
+-- ---- on a rim or not
+module _ (rim : Bool) (a b : Spot) where
+  pub half-rim : rim ≡ true → formed (bytes "<path class='rim' d='M@ @L@ @'/>\n") (a.x ∷ a.y ∷ b.x ∷ b.y ∷ []) ≡ half_text rim a b
   unfolding half_text
-  half-cut h = rw (eq-eqb mark 0 h)
+  half-rim e = rw e
 
-  pub half-rim : (mark ≡ 0 → ⊥) → formed (bytes "<path class='rim' d='M@ @L@ @'/>\n") (a.x ∷ a.y ∷ b.x ∷ b.y ∷ []) ≡ half_text mark a b
+  pub half-cut : rim ≡ false → formed (bytes "<path class='cut' d='M@ @L@ @'/>\n") (a.x ∷ a.y ∷ b.x ∷ b.y ∷ []) ≡ half_text rim a b
   unfolding half_text
-  half-rim h = rw (ne_eqb mark 0 h)
+  half-cut e = rw e
 
-  half_length : length (half_text mark a b) ≤ 133
+  half_length : length (half_text rim a b) ≤ 133
   unfolding half_text bytes marks takes
-  half_length = go (eqb mark 0)
+  half_length = go rim
     where
       ns : List ℕ
       ns = a.x ∷ a.y ∷ b.x ∷ b.y ∷ []
 
-      go : (t : Bool) → length (formed (cond t (bytes "<path class='cut' d='M@ @L@ @'/>\n") (bytes "<path class='rim' d='M@ @L@ @'/>\n")) ns) ≤ 133
-      go true = length-formed (bytes "<path class='cut' d='M@ @L@ @'/>\n") ns
-      go false = length-formed (bytes "<path class='rim' d='M@ @L@ @'/>\n") ns
+      go : (t : Bool) → length (formed (cond t (bytes "<path class='rim' d='M@ @L@ @'/>\n") (bytes "<path class='cut' d='M@ @L@ @'/>\n")) ns) ≤ 133
+      go true = length-formed (bytes "<path class='rim' d='M@ @L@ @'/>\n") ns
+      go false = length-formed (bytes "<path class='cut' d='M@ @L@ @'/>\n") ns
 
 cell-length : (a b c d : Spot) → length (cell_text a b c d) ≤ 249
 unfolding cell_text bytes marks takes
@@ -111,24 +111,16 @@ module _ (ps : List ℤ) (count : ℕ) where
             length-formed (bytes "'/>\n") [],
           ))
 
-module _ (mark : ℕ) (p : Spot) (n : ℕ) where
+module _ (rim : Bool) (p : Spot) (n : ℕ) where
   abbrev inside_dot : List ℕ
   inside_dot =
       formed (bytes "<g class='inside' transform='matrix(.01 0 0 -.01 @ @)'><circle r='.22em'/><text x='.3em' y='-.3em'>#</text></g>\n")
       (p.x ∷ p.y ∷ n ∷ [])
 
-  pub dot-inside : mark ≡ 0 → inside_dot ≡ dot_text mark p n
-  unfolding dot_text
-  dot-inside h = rw (eq-eqb mark 0 h)
-
   abbrev rim_dot : List ℕ
   rim_dot =
       formed (bytes "<g class='node' transform='matrix(.01 0 0 -.01 @ @)'><circle r='.22em'/><text x='.3em' y='-.3em'>#</text></g>\n")
       (p.x ∷ p.y ∷ n ∷ [])
-
-  pub dot-rim : (mark ≡ 0 → ⊥) → rim_dot ≡ dot_text mark p n
-  unfolding dot_text
-  dot-rim h = rw (ne_eqb mark 0 h)
 
   inside-length : length inside_dot ≤ most_node
   unfolding bytes marks takes
@@ -144,26 +136,26 @@ module _ (mark : ℕ) (p : Spot) (n : ℕ) where
       (p.x ∷ p.y ∷ n ∷ []) in
       omega (arith, h)
 
-  dot-length : length (dot_text mark p n) ≤ most_node
+  dot-length : length (dot_text rim p n) ≤ most_node
   unfolding dot_text
-  dot-length = go (eqb mark 0)
+  dot-length = go rim
     where
       go : (t : Bool) → length (formed (cond t
-          (bytes "<g class='inside' transform='matrix(.01 0 0 -.01 @ @)'><circle r='.22em'/><text x='.3em' y='-.3em'>#</text></g>\n")
-          (bytes "<g class='node' transform='matrix(.01 0 0 -.01 @ @)'><circle r='.22em'/><text x='.3em' y='-.3em'>#</text></g>\n")) (p.x ∷ p.y ∷ n ∷ [])) ≤ most_node
-      go true = inside-length
-      go false = rim-length
+          (bytes "<g class='node' transform='matrix(.01 0 0 -.01 @ @)'><circle r='.22em'/><text x='.3em' y='-.3em'>#</text></g>\n")
+          (bytes "<g class='inside' transform='matrix(.01 0 0 -.01 @ @)'><circle r='.22em'/><text x='.3em' y='-.3em'>#</text></g>\n")) (p.x ∷ p.y ∷ n ∷ [])) ≤ most_node
+      go true = rim-length
+      go false = inside-length
 
 pub node-length : (l : List Float) (rs : List ℕ) (i : ℕ) → length (node_text l rs i) ≤ most_node
 unfolding node_text
 node-length l rs i = dot-length _ _ _
 
 -- ---- a ring
-module _ (n : ℕ) (v : Row) (ps : List ℤ) (count : ℕ) (h : count ≤ 60) where
-  divided-length : (l : List Float) (rs cs : List ℕ) → length cs ≤ 496 → length (divided_text n v ps count l rs cs) ≤ most_ring
+module _ (n : ℕ) (ps : List ℤ) (count : ℕ) (h : count ≤ 60) where
+  divided-length : (corners cuts : ℕ) (l : List Float) (rs cs : List ℕ) → length cs ≤ 496 → length (divided_text n corners cuts ps count l rs cs) ≤ most_ring
   unfolding divided_text outline_text bytes marks takes
-  divided-length l rs cs k =
-      let ns : List ℕ = n ∷ v.corners ∷ v.cuts ∷ [] in
+  divided-length corners cuts l rs cs k =
+      let ns : List ℕ = n ∷ corners ∷ cuts ∷ [] in
       let a : length (formed (bytes "<g class='ring'><title>ring #: corners #, cuts #</title>\n<polygon class='outline' points='") ns) ≤ 165 =
       length-formed (bytes "<g class='ring'><title>ring #: corners #, cuts #</title>\n<polygon class='outline' points='") ns in
       let b : length (formed (bytes "'/>\n") []) ≤ 4 = length-formed (bytes "'/>\n") [] in
@@ -171,11 +163,11 @@ module _ (n : ℕ) (v : Row) (ps : List ℤ) (count : ℕ) (h : count ≤ 60) wh
       rw (length-append, length-append, length-append, length-append)
       (omega (arith, a, b, d, points-length ps count, quads-length l rs cs (length cs / 4)))
 
-  refused-length : length (refused_text n v ps count) ≤ most_ring
+  refused-length : (code corners k : ℕ) → length (refused_text n code corners k ps count) ≤ most_ring
   unfolding refused_text bytes marks takes
-  refused-length =
-      let ns : List ℕ = n ∷ v.code ∷ v.corners ∷ v.k ∷ [] in
-      let ms : List ℕ = halfway ps count 0 ∷ halfway ps count 1 ∷ v.code ∷ [] in
+  refused-length code corners k =
+      let ns : List ℕ = n ∷ code ∷ corners ∷ k ∷ [] in
+      let ms : List ℕ = halfway ps count 0 ∷ halfway ps count 1 ∷ code ∷ [] in
       let a : length (formed (bytes "<g class='refused'><title>ring # refused # # #</title>\n<polygon points='") ns) ≤ 172 =
       length-formed (bytes "<g class='refused'><title>ring # refused # # #</title>\n<polygon points='") ns in
       let b : length (formed (bytes "'/>\n<text transform='matrix(.01 0 0 -.01 @ @)'>#</text></g>\n") ms) ≤ 135 =
@@ -188,6 +180,6 @@ pub ring-length : (n : ℕ) (v : Row) (ps : List ℤ) (count : ℕ) → count �
 unfolding ring_text
 ring-length n v ps count h l rs cs k = go (eqb v.code 0)
   where
-    go : (t : Bool) → length (cond t (divided_text n v ps count l rs cs) (refused_text n v ps count)) ≤ most_ring
-    go true = divided-length n v ps count h l rs cs k
-    go false = refused-length n v ps count h
+    go : (t : Bool) → length (cond t (divided_text n v.corners v.cuts ps count l rs cs) (refused_text n v.code v.corners v.k ps count)) ≤ most_ring
+    go true = divided-length n ps count h v.corners v.cuts l rs cs k
+    go false = refused-length n ps count h v.code v.corners v.k

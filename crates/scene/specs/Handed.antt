@@ -18,14 +18,14 @@ points p = points_text p.list.now p.count
 abbrev pub lead : Points → List ℕ
 lead p = lead_text p.list.now p.count
 
-abbrev pub outline : ℕ → Row → Points → List ℕ
-outline n v p = outline_text n v p.list.now p.count
+abbrev pub outline : ℕ → ℕ → ℕ → Points → List ℕ
+outline n corners cuts p = outline_text n corners cuts p.list.now p.count
 
-abbrev pub divided : ℕ → Row → Points → Lists → List ℕ
-divided n v p a = divided_text n v p.list.now p.count a.nodes.now a.rims.now a.cells.now
+abbrev pub divided : ℕ → ℕ → ℕ → Points → Lists → List ℕ
+divided n corners cuts p a = divided_text n corners cuts p.list.now p.count a.nodes.now a.rims.now a.cells.now
 
-abbrev pub refused : ℕ → Row → Points → List ℕ
-refused n v p = refused_text n v p.list.now p.count
+abbrev pub refused : ℕ → ℕ → ℕ → ℕ → Points → List ℕ
+refused n code corners k p = refused_text n code corners k p.list.now p.count
 
 abbrev pub ring : ℕ → Row → Points → Lists → List ℕ
 ring n v p a = ring_text n v p.list.now p.count a.nodes.now a.rims.now a.cells.now

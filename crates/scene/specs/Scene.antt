@@ -1,6 +1,6 @@
 -- What is drawn of a ring: its outline, one polygon a cell, one line for each half of an edge, a circle about each snapped middle; or its
 -- outline greyed with the number that refuses it. Of its lead line, and of a node: a dot and its number. Definitions only.
-use Rattle.std.specs.Prelude.{ℕ, zero, suc, ◌+◌, ◌-◌, ◌*◌, ◌/◌, Bool, ◌&&◌, ◌||◌, cond, List, [], ◌∷◌, ◌++◌, length, get_or, ltb, eqb, ℤ, Float}
+use Rattle.std.specs.Prelude.{ℕ, zero, suc, ◌+◌, ◌-◌, ◌*◌, ◌/◌, Bool, not, ◌&&◌, ◌||◌, cond, List, [], ◌∷◌, ◌++◌, length, get_or, ltb, eqb, ℤ, Float}
 use Rattle.std.specs.Float.{nan}
 use Rattle.text.specs.Text.{bytes}
 use Rattle.table.specs.declared.Row.{Row}
@@ -17,10 +17,14 @@ spot_of l n = record { x = place_of (get_or l (n * 2) nan); y = place_of (get_or
 unfoldable pub cell_text : Spot → Spot → Spot → Spot → List ℕ
 cell_text a b c d = formed (bytes "<polygon class='cell' points='@,@ @,@ @,@ @,@'/>\n") (a.x ∷ a.y ∷ b.x ∷ b.y ∷ c.x ∷ c.y ∷ d.x ∷ d.y ∷ [])
 
--- half of an edge, from a corner to the edge's middle, whose rim mark says whether it is a ring's edge or a cut
-unfoldable pub half_text : ℕ → Spot → Spot → List ℕ
-half_text mark a b =
-    formed (cond (eqb mark 0) (bytes "<path class='cut' d='M@ @L@ @'/>\n") (bytes "<path class='rim' d='M@ @L@ @'/>\n"))
+-- whether node n is on a ring's rim, by its mark
+unfoldable pub on_rim : List ℕ → ℕ → Bool
+on_rim rs n = not (eqb (get_or rs n 0) 0)
+
+-- half of an edge, from a corner to the edge's middle: of a ring's edge where that is on a rim, else of a cut
+unfoldable pub half_text : Bool → Spot → Spot → List ℕ
+half_text rim a b =
+    formed (cond rim (bytes "<path class='rim' d='M@ @L@ @'/>\n") (bytes "<path class='cut' d='M@ @L@ @'/>\n"))
     (a.x ∷ a.y ∷ b.x ∷ b.y ∷ [])
 
 -- the corner behind the middle m of the piece with the centre c, in the first i cells of a list: that of the piece's cell which has m before its corner
@@ -43,8 +47,8 @@ quad_with l rs cs q =
       corner = spot_of l (get_or q 2 0);
       behind = spot_of l (get_or q 3 0);
       next = spot_of l (across cs (get_or q 0 0) (get_or q 3 0) (length cs / 4));
-      first = get_or rs (get_or q 1 0) 0;
-      second = get_or rs (get_or q 3 0) 0;
+      first = on_rim rs (get_or q 1 0);
+      second = on_rim rs (get_or q 3 0);
     }
 
 unfoldable pub quad_of : List Float → List ℕ → List ℕ → ℕ → Quad
@@ -96,16 +100,16 @@ unfoldable pub lead_text : List ℤ → ℕ → List ℕ
 lead_text ps count =
     cond (eqb count 0) [] (formed (bytes "<polyline class='lead' points='") [] ++ points_text ps count ++ formed (bytes "'/>\n") [])
 
--- ring number n, which has its row and its first `count` points: the outline, and divided, with its cells
-unfoldable pub outline_text : ℕ → Row → List ℤ → ℕ → List ℕ
-outline_text n v ps count =
-    formed (bytes "<g class='ring'><title>ring #: corners #, cuts #</title>\n<polygon class='outline' points='") (n ∷ v.corners ∷ v.cuts ∷ [])
+-- an accepted ring, number n, with its corners after cleaning, its cuts and its first `count` points: the outline, and with its cells
+unfoldable pub outline_text : ℕ → ℕ → ℕ → List ℤ → ℕ → List ℕ
+outline_text n corners cuts ps count =
+    formed (bytes "<g class='ring'><title>ring #: corners #, cuts #</title>\n<polygon class='outline' points='") (n ∷ corners ∷ cuts ∷ [])
     ++ points_text ps count
     ++ formed (bytes "'/>\n") []
 
-unfoldable pub divided_text : ℕ → Row → List ℤ → ℕ → List Float → List ℕ → List ℕ → List ℕ
-divided_text n v ps count l rs cs =
-    outline_text n v ps count
+unfoldable pub divided_text : ℕ → ℕ → ℕ → List ℤ → ℕ → List Float → List ℕ → List ℕ → List ℕ
+divided_text n corners cuts ps count l rs cs =
+    outline_text n corners cuts ps count
     ++ quads_text l rs cs (length cs / 4)
     ++ formed (bytes "</g>\n") []
 
@@ -116,27 +120,28 @@ halfway ps count k = (point_place ps k + point_place ps (count / 2 * 2 + k)) / 2
 abbrev pub label : List ℤ → ℕ → Spot
 label ps count = record { x = halfway ps count 0; y = halfway ps count 1 }
 
-unfoldable pub refused_text : ℕ → Row → List ℤ → ℕ → List ℕ
-refused_text n v ps count =
-    formed (bytes "<g class='refused'><title>ring # refused # # #</title>\n<polygon points='") (n ∷ v.code ∷ v.corners ∷ v.k ∷ [])
+unfoldable pub refused_text : ℕ → ℕ → ℕ → ℕ → List ℤ → ℕ → List ℕ
+refused_text n code corners k ps count =
+    formed (bytes "<g class='refused'><title>ring # refused # # #</title>\n<polygon points='") (n ∷ code ∷ corners ∷ k ∷ [])
     ++ points_text ps count
-    ++ formed (bytes "'/>\n<text transform='matrix(.01 0 0 -.01 @ @)'>#</text></g>\n") (halfway ps count 0 ∷ halfway ps count 1 ∷ v.code ∷ [])
+    ++ formed (bytes "'/>\n<text transform='matrix(.01 0 0 -.01 @ @)'>#</text></g>\n") (halfway ps count 0 ∷ halfway ps count 1 ∷ code ∷ [])
 
+-- a ring by its row
 unfoldable pub ring_text : ℕ → Row → List ℤ → ℕ → List Float → List ℕ → List ℕ → List ℕ
-ring_text n v ps count l rs cs = cond (eqb v.code 0) (divided_text n v ps count l rs cs) (refused_text n v ps count)
+ring_text n v ps count l rs cs = cond (eqb v.code 0) (divided_text n v.corners v.cuts ps count l rs cs) (refused_text n v.code v.corners v.k ps count)
 
--- a node: on the rim of a ring, or inside, by its mark
-unfoldable pub dot_text : ℕ → Spot → ℕ → List ℕ
-dot_text mark p n =
+-- a node: on the rim of a ring, or inside
+unfoldable pub dot_text : Bool → Spot → ℕ → List ℕ
+dot_text rim p n =
     formed
-    (cond (eqb mark 0)
-    (bytes "<g class='inside' transform='matrix(.01 0 0 -.01 @ @)'><circle r='.22em'/><text x='.3em' y='-.3em'>#</text></g>\n")
-    (bytes "<g class='node' transform='matrix(.01 0 0 -.01 @ @)'><circle r='.22em'/><text x='.3em' y='-.3em'>#</text></g>\n"))
+    (cond rim
+    (bytes "<g class='node' transform='matrix(.01 0 0 -.01 @ @)'><circle r='.22em'/><text x='.3em' y='-.3em'>#</text></g>\n")
+    (bytes "<g class='inside' transform='matrix(.01 0 0 -.01 @ @)'><circle r='.22em'/><text x='.3em' y='-.3em'>#</text></g>\n"))
     (p.x ∷ p.y ∷ n ∷ [])
 
 -- node i of a list, and the first i
 unfoldable pub node_text : List Float → List ℕ → ℕ → List ℕ
-node_text l rs i = dot_text (get_or rs i 0) (spot_of l i) i
+node_text l rs i = dot_text (on_rim rs i) (spot_of l i) i
 
 unfoldable pub nodes_text : List Float → List ℕ → ℕ → List ℕ
 nodes_text l rs zero = []

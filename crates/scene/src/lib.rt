@@ -1,11 +1,12 @@
 // Scene: what is drawn of a ring, of its lead line and of a node, as the text of SVG elements. It stands above svg, beside job:
-// it takes the row of a ring with its points, and the node list, the rim marks and the cells that the call left.
+// it takes the answer of a ring with its points, and the node list, the rim marks and the cells that the call left.
 //
 // Each function that writes has room on its page, as in text; proofs/Lengths says how much is enough.
 
 #![tactic(auto)]
 
 ghost use Rattle.std.specs.Prelude.{◌≡◌, ◌*◌, ◌/◌, ◌≤◌, ◌<◌, length, get_or};
+ghost use Rattle.table.specs.Answers as Answers;
 ghost use Rattle.text.specs.Page.{Room, Wrote};
 ghost use Rattle.scene.specs.Scene as Scene;
 ghost use Rattle.scene.specs.Handed as Handed;
@@ -14,7 +15,7 @@ mod points;
 
 use nodes::NodeNumber;
 pub use points::Points;
-use table::Row;
+use table::{Answer, Row};
 use text::Page;
 
 // No ring's text is longer.
@@ -28,7 +29,7 @@ pub struct Spot {
 }
 
 // A cell: where its centre, its corner and the middles before and behind the corner are, the next corner behind that middle,
-// and the rim marks of the middles.
+// and whether each middle is on a ring's rim.
 #[derive(Clone, Copy)]
 pub struct Quad {
     pub centre: Spot,
@@ -36,11 +37,12 @@ pub struct Quad {
     pub corner: Spot,
     pub behind: Spot,
     pub next: Spot,
-    pub first: u8,
-    pub second: u8,
+    pub first: bool,
+    pub second: bool,
 }
 
 // What a call left: the node list, the rim marks of its nodes, and cells of four node numbers each.
+// Kept: apart from a ring's points, which are handed on with them: a lead line has points and no lists.
 #[derive(Clone, Copy)]
 pub struct Lists<'a> {
     pub nodes: &'a [f64],
@@ -59,11 +61,12 @@ fn spot_of(nodes: &[f64], n: NodeNumber) -> Spot
     }
 }
 
-// The rim mark of node n, 0 where there is none.
-fn mark(rims: &[u8], n: NodeNumber) -> u8
-    ensures { result ≡ get_or rims.now n 0 }
+// Whether node n is on a ring's rim: 0 marks one that is not, and one past the marks is not.
+#[tactic(auto, unfolding(crate::specs::Scene::on_rim))]
+fn on_rim(rims: &[u8], n: NodeNumber) -> bool
+    ensures { result ≡ Scene.on_rim rims.now n }
 {
-    rims.get(n as usize).copied().unwrap_or(0)
+    rims.get(n as usize).copied().unwrap_or(0) != 0
 }
 
 #[tactic(auto, unfolding(text::specs::Text::bytes, crate::specs::Scene::cell_text))]
@@ -79,16 +82,16 @@ fn put_cell(page: &mut Page, a: Spot, b: Spot, c: Spot, d: Spot)
     );
 }
 
-// Half of an edge: of a cut where the middle's rim mark is 0.
+// Half of an edge: of a ring's where the middle is on a rim, else of a cut.
 #[tactic(auto, unfolding(text::specs::Text::bytes, crate::specs::Scene::half_text))]
-fn put_half(page: &mut Page, mark: u8, a: Spot, b: Spot)
-    requires { Room page.old (Scene.half_text mark a b) }
-    ensures { Wrote page.old (Scene.half_text mark a b) page.new }
+fn put_half(page: &mut Page, rim: bool, a: Spot, b: Spot)
+    requires { Room page.old (Scene.half_text rim a b) }
+    ensures { Wrote page.old (Scene.half_text rim a b) page.new }
 {
-    let form: &[u8] = if mark == 0 {
-        b"<path class='cut' d='M@ @L@ @'/>\n"
-    } else {
+    let form: &[u8] = if rim {
         b"<path class='rim' d='M@ @L@ @'/>\n"
+    } else {
+        b"<path class='cut' d='M@ @L@ @'/>\n"
     };
     svg::put_form(page, form, &[a.x, a.y, b.x, b.y]);
 }
@@ -114,8 +117,8 @@ fn read_quad(lists: &Lists, cell: &[NodeNumber; 4]) -> Quad
         corner: spot_of(lists.nodes, corner),
         behind: spot_of(lists.nodes, after),
         next: spot_of(lists.nodes, across(lists.cells, centre, after)),
-        first: mark(lists.rims, before),
-        second: mark(lists.rims, after),
+        first: on_rim(lists.rims, before),
+        second: on_rim(lists.rims, after),
     }
 }
 
@@ -206,14 +209,14 @@ pub fn put_lead(page: &mut Page, chain: &Points)
 
 // The outline of an accepted ring, and the beginning of its group.
 #[tactic(auto, using(crate::proofs::Turns::in_turn), unfolding(text::specs::Text::bytes, crate::specs::Scene::outline_text))]
-fn put_outline(page: &mut Page, ring: u64, v: Row, points: &Points)
-    requires { Room page.old (Handed.outline ring v points.now) }
-    ensures { Wrote page.old (Handed.outline ring v points.now) page.new }
+fn put_outline(page: &mut Page, ring: u64, corners: u64, cuts: u64, points: &Points)
+    requires { Room page.old (Handed.outline ring corners cuts points.now) }
+    ensures { Wrote page.old (Handed.outline ring corners cuts points.now) page.new }
 {
     svg::put_form(
         page,
         b"<g class='ring'><title>ring #: corners #, cuts #</title>\n<polygon class='outline' points='",
-        &[ring, v.corners, v.cuts],
+        &[ring, corners, cuts],
     );
     put_points(page, points);
     svg::put_form(page, b"'/>\n", &[]);
@@ -221,57 +224,70 @@ fn put_outline(page: &mut Page, ring: u64, v: Row, points: &Points)
 
 // An accepted ring: its outline, its cells and their edges.
 #[tactic(auto, using(crate::proofs::Turns::in_turn), unfolding(text::specs::Text::bytes, crate::specs::Scene::divided_text))]
-fn put_divided(page: &mut Page, ring: u64, v: Row, points: &Points, lists: &Lists)
-    requires { Room page.old (Handed.divided ring v points.now lists.now) }
-    ensures { Wrote page.old (Handed.divided ring v points.now lists.now) page.new }
+pub fn put_divided(
+    page: &mut Page,
+    ring: u64,
+    corners: u64,
+    cuts: u64,
+    points: &Points,
+    lists: &Lists,
+)
+    requires { Room page.old (Handed.divided ring corners cuts points.now lists.now) }
+    ensures { Wrote page.old (Handed.divided ring corners cuts points.now lists.now) page.new }
 {
-    put_outline(page, ring, v, points);
+    put_outline(page, ring, corners, cuts, points);
     put_quads(page, lists);
     svg::put_form(page, b"</g>\n", &[]);
 }
 
 // A refused ring: its outline, and its number in it.
+// Kept: its number, which is what is drawn, and may be any; 8, of a failing cell, is no `Refusal`.
 #[tactic(auto, using(crate::proofs::Turns::in_turn), unfolding(text::specs::Text::bytes, crate::specs::Scene::refused_text))]
-fn put_refused(page: &mut Page, ring: u64, v: Row, points: &Points)
-    requires { Room page.old (Handed.refused ring v points.now) }
-    ensures { Wrote page.old (Handed.refused ring v points.now) page.new }
+pub fn put_refused(page: &mut Page, ring: u64, code: u64, corners: u64, k: u64, points: &Points)
+    requires { Room page.old (Handed.refused ring code corners k points.now) }
+    ensures { Wrote page.old (Handed.refused ring code corners k points.now) page.new }
 {
     svg::put_form(
         page,
         b"<g class='refused'><title>ring # refused # # #</title>\n<polygon points='",
-        &[ring, v.code, v.corners, v.k],
+        &[ring, code, corners, k],
     );
     put_points(page, points);
     let label = points.label();
     svg::put_form(
         page,
         b"'/>\n<text transform='matrix(.01 0 0 -.01 @ @)'>#</text></g>\n",
-        &[label.x, label.y, v.code],
+        &[label.x, label.y, code],
     );
 }
 
-// A ring by its row.
+// A ring by its answer.
 #[tactic(auto, unfolding(crate::specs::Scene::ring_text))]
-pub fn put_ring(page: &mut Page, ring: u64, v: Row, points: &Points, lists: &Lists)
-    requires { Room page.old (Handed.ring ring v points.now lists.now) }
-    ensures { Wrote page.old (Handed.ring ring v points.now lists.now) page.new }
+pub fn put_ring(page: &mut Page, ring: u64, answer: Answer, points: &Points, lists: &Lists)
+    requires { Room page.old (Handed.ring ring (Answers.values answer) points.now lists.now) }
+    ensures { Wrote page.old (Handed.ring ring (Answers.values answer) points.now lists.now) page.new }
 {
-    if v.code == 0 {
-        return put_divided(page, ring, v, points, lists);
+    match answer {
+        Answer::Divided { corners, cuts, .. } => {
+            put_divided(page, ring, corners as u64, cuts as u64, points, lists)
+        }
+        Answer::Refused { .. } | Answer::Failed { .. } => {
+            let row = Row::from(answer);
+            put_refused(page, ring, row.code, row.corners, row.k, points)
+        }
     }
-    put_refused(page, ring, v, points);
 }
 
-// A dot and a number: of a node inside where its rim mark is 0.
+// A dot and a number: of a node on a rim, or of one inside.
 #[tactic(auto, unfolding(text::specs::Text::bytes, crate::specs::Scene::dot_text))]
-fn put_dot(page: &mut Page, mark: u8, p: Spot, n: u64)
-    requires { Room page.old (Scene.dot_text mark p n) }
-    ensures { Wrote page.old (Scene.dot_text mark p n) page.new }
+fn put_dot(page: &mut Page, rim: bool, p: Spot, n: u64)
+    requires { Room page.old (Scene.dot_text rim p n) }
+    ensures { Wrote page.old (Scene.dot_text rim p n) page.new }
 {
-    let form: &[u8] = if mark == 0 {
-        b"<g class='inside' transform='matrix(.01 0 0 -.01 @ @)'><circle r='.22em'/><text x='.3em' y='-.3em'>#</text></g>\n"
-    } else {
+    let form: &[u8] = if rim {
         b"<g class='node' transform='matrix(.01 0 0 -.01 @ @)'><circle r='.22em'/><text x='.3em' y='-.3em'>#</text></g>\n"
+    } else {
+        b"<g class='inside' transform='matrix(.01 0 0 -.01 @ @)'><circle r='.22em'/><text x='.3em' y='-.3em'>#</text></g>\n"
     };
     svg::put_form(page, form, &[p.x, p.y, n]);
 }
@@ -283,5 +299,5 @@ pub fn put_node(page: &mut Page, nodes: &[f64], rims: &[u8], i: usize)
     ensures { Wrote page.old (Scene.node_text nodes.now rims.now i) page.new }
 {
     let n = i as NodeNumber;
-    put_dot(page, mark(rims, n), spot_of(nodes, n), i as u64);
+    put_dot(page, on_rim(rims, n), spot_of(nodes, n), i as u64);
 }

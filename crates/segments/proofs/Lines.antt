@@ -4,7 +4,7 @@ use Prim.Native.Nat.{ℕ, zero, suc, ◌+◌, ◌*◌}
 use native.Mathlib.Omega.{arith}
 use mathlib.Core.Path.{◌≡◌, refl, sym, ap, ◌∙◌}
 use lib.IntN.{ℤ, pos, negsuc, neg_ℤ, ◌-ℤ◌, ◌*ℤ◌, *ℤ_comm}
-use Rattle.laws.proofs.Integers.{posp, negp, sum-parts, mul-parts}
+use Rattle.laws.proofs.Integers.{no_difference, posp, negp, sum-parts, mul-parts}
 use Rattle.vector.specs.declared.GridPoint.{GridPoint}
 use Rattle.vector.specs.Grid.{sub, cross}
 
@@ -44,9 +44,6 @@ opposite p q = equal _ _ (omega (arith, minus-parts p q, minus-parts (pos 0) (q 
 
 twice_opposite : (p : ℤ) → pos 0 -ℤ (pos 0 -ℤ p) ≡ p
 twice_opposite p = equal _ _ (omega (arith, minus-parts (pos 0) (pos 0 -ℤ p), minus-parts (pos 0) p))
-
-no_difference : (p q : ℤ) → p -ℤ q ≡ pos 0 → p ≡ q
-no_difference p q e = equal p q (omega (arith, minus-parts p q, ap posp e, ap negp e))
 
 times_sub : (a b c : ℤ) → a *ℤ (b -ℤ c) ≡ a *ℤ b -ℤ a *ℤ c
 times_sub a b c =

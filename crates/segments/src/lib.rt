@@ -5,9 +5,7 @@
 
 #![tactic(auto)]
 
-ghost use Rattle.std.specs.Prelude.{◌≡◌, ◌^◌, ◌≤◌, nat_abs, pos};
-ghost use Rattle.std.specs.Int.Signed.{lt_z, le_z};
-ghost use Rattle.laws.specs.Integer.{eq_z};
+ghost use Rattle.std.specs.Prelude.{◌≡◌, ◌^◌, ◌≤◌, nat_abs};
 ghost use Rattle.vector.specs.Size.{OnSheet};
 ghost use Rattle.segments.specs.Segments as Segments;
 ghost use Rattle.segments.specs.Meeting as Meeting;
@@ -51,6 +49,7 @@ pub enum Crossing {
 }
 
 // Where p is on the line of a and b, the dot product of the steps from it to them: below 0 between the two, 0 at one of them.
+#[tactic(auto, using(laws::proofs::Signed::back, laws::proofs::Signed::fits, laws::proofs::SignedTests::zero64), unfolding(crate::specs::Meeting::place_on_line, crate::specs::Meeting::on_line_of))]
 fn on_line(a: GridPoint, b: GridPoint, p: GridPoint) -> Option<i64>
     requires { OnSheet a × OnSheet b × OnSheet p }
     ensures { result ≡ Meeting.place_on_line a b p }

@@ -35,7 +35,8 @@ pub fn print_sheet<W: Write>(output: &mut W, nodes: &[f64], used: usize) -> Resu
     if listing::nodes_out(nodes, used) {
         return Err(WriteFailed);
     }
-    // Kept: this goes over the numbers of nodes, of which put_line makes the lines, and over no list.
+    // Kept: this goes over the numbers of nodes, by which put_line makes the lines; over the list's pairs it would enumerate them
+    // and use the number alone.
     for i in 0..used {
         let mut line = [0u8; 65];
         listing::put_line(&mut line, 0, nodes, i);

@@ -13,7 +13,7 @@ use vector::{GridPoint, Point};
 
 // Whether no edge of the ring crosses another. The scan over pairs of edges ends at the first crossing; the edge after i is
 // left out by where the inner loop starts, the edge before the first, which ends where it starts, by its end.
-// Kept: nested loops over edge pairs, left by a label, are a form of the project.
+// Kept: nested loops over edge pairs left by a label are the form that the specification names for this scan.
 #[tactic(auto, using(crate::proofs::Pairs::too_few, crate::proofs::Pairs::none_before), unfolding(laws::specs::Bounded::any))]
 pub fn polygon_simple(ring: &[GridPoint]) -> bool
     requires { OnSheetPoints ring.now }
@@ -24,6 +24,7 @@ pub fn polygon_simple(ring: &[GridPoint]) -> bool
         return false;
     }
     let mut found = false;
+    // Kept: as above, both.
     'scan: for i in 0..n {
         let a = ring[i];
         let b = ring[vector::next(i, n)];
@@ -57,6 +58,7 @@ pub fn point_in_polygon(ring: &[GridPoint], p: Point) -> bool
     ensures { result ≡ Simple.point_in_polygon ring.now p }
 {
     let mut inside = false;
+    // Kept: a turn looks at a point and the next one round the ring, by place, as the definition does.
     for (i, a) in ring.iter().enumerate() {
         let b = ring[vector::next(i, ring.len())];
         inside ^= ray_meets(Point::new(*a), Point::new(b), p);

@@ -6,7 +6,7 @@ use Rattle.blocks.specs.declared.Reading.{Reading}
 use Rattle.blocks.specs.declared.Refused.{Refused}
 use Rattle.blocks.specs.Blocks.{number_of, read_block}
 use Rattle.table.specs.declared.Row.{Row}
-use Rattle.told.specs.declared.Told.{Told}
+use Rattle.told.specs.Text.{Tells}
 use Rattle.job.specs.Run.{block_at}
 use Rattle.scene.specs.declared.points.Points.{Points}
 use Rattle.scene.specs.declared.Lists.{Lists}
@@ -23,13 +23,13 @@ abbrev pub cells_of : Row → List ℕ → List ℕ
 cells_of v cs = take (cond (eqb v.code 0) (v.cells * 4) 0) cs
 
 -- what is drawn of what a step tells: nothing of a ring that waits, the ring itself, or the line of a refused block
-unfoldable pub drawn : Edges → Told → ℕ → List ℤ → List Float → List ℕ → List ℕ → List ℕ
-drawn f Told.Nothing count ps l rs cs = []
-drawn f (Told.Ring n used v) count ps l rs cs = ring_text n v ps count l rs (cells_of v cs)
-drawn f (Told.Block r) count ps l rs cs = ended_text f r.block (number_of r.why)
+unfoldable pub drawn : Edges → Tells → ℕ → List ℤ → List Float → List ℕ → List ℕ → List ℕ
+drawn f Tells.Nothing count ps l rs cs = []
+drawn f (Tells.Ring n used v) count ps l rs cs = ring_text n v ps count l rs (cells_of v cs)
+drawn f (Tells.Block r) count ps l rs cs = ended_text f r.block (number_of r.why)
 
 -- the same of points and lists as they are handed over, and a ring with the cells of its row
-abbrev pub told_drawn : Edges → Told → Points → Lists → List ℕ
+abbrev pub told_drawn : Edges → Tells → Points → Lists → List ℕ
 told_drawn f t p a = drawn f t p.count p.list.now a.nodes.now a.rims.now a.cells.now
 
 abbrev pub row_drawn : ℕ → Row → Points → Lists → List ℕ

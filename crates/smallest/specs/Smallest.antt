@@ -5,7 +5,7 @@ use Rattle.smallest.specs.declared.Smallest.{Smallest}
 use Rattle.smallest.specs.declared.Found.{Found}
 use Rattle.smallest.specs.declared.Refusal.{Refusal}
 use Rattle.smallest.specs.declared.Refusal.TheVariants.{Counts, Units, Points, Other}
-use Rattle.lone_ring.specs.Number.{points, number_of}
+use Rattle.lone_ring.specs.Number.{points, number_of, number_of_fault}
 use Rattle.choice.specs.Choice.{chosen}
 use Rattle.choice.specs.Search.{IsLeast}
 use Rattle.least.specs.Trial.{trial_of, choice_of}
@@ -24,7 +24,7 @@ number_of_refusal Points = 18
 number_of_refusal Other = 19
 
 abbrev pub row_of : Result Found Refusal → Smallest
-row_of (Ok f) = found f.refusal f.choice
+row_of (Ok f) = found (number_of_fault f.refusal) f.choice
 row_of (Err e) = refused (number_of_refusal e)
 
 -- the tests of a ring of n points with the own number w, in order

@@ -5,13 +5,19 @@
 
 #![tactic(auto)]
 
-ghost use Rattle.std.specs.Prelude.{◌≡◌};
+ghost use Rattle.std.specs.Prelude.{◌≡◌, Ok, Err, MatchResult};
+ghost use Rattle.table.specs.Answers.{values};
+ghost use Rattle.lone_ring.specs.Number.{number_of_fault};
 ghost use Rattle.smallest.specs.Smallest as Rule;
 
 use least::Search;
+use lone_ring::Fault;
+use table::Answer;
 
 // Why no smallest ring is given, each with its number: the ring's own 1 and 2, over 12 points, and an own number that is not
 // one of 5 to 8.
+// Kept: no `table::Refusal`, which has no 18 and 19, and nine cases that never come here, so that a match would have arms that
+// cannot be.
 #[derive(Clone, Copy, PartialEq, Eq)]
 pub enum Refusal {
     Counts = 1,
@@ -28,11 +34,10 @@ impl From<Refusal> for u64 {
     }
 }
 
-// The number that both rings get, and the choice.
-// Kept: the number is that of a row, which C is answered.
+// The fault that both rings have, and the choice.
 #[derive(Clone, Copy)]
 pub struct Found {
-    pub refusal: u64,
+    pub refusal: Fault,
     pub choice: u32,
 }
 
@@ -54,7 +59,7 @@ impl From<Result<Found, Refusal>> for Smallest {
         match answer {
             Ok(found) => Smallest {
                 code: 0,
-                refusal: found.refusal,
+                refusal: u64::from(found.refusal),
                 choice: u64::from(found.choice),
                 points: u64::from(found.choice.count_ones()),
             },
@@ -68,42 +73,45 @@ impl From<Result<Found, Refusal>> for Smallest {
     }
 }
 
-// The tests of a ring by its own number and how many points it has, in order.
-// Kept: the own number is that of a row, as lone_ring gives it.
+// The tests of a ring by its own answer and how many points it has, in order.
 #[tactic(auto, unfolding(crate::specs::Smallest::tested))]
-fn tested(own: u64, points: usize) -> Result<(), Refusal>
-    ensures { result ≡ Rule.tested own points }
+fn tested(own: Answer, points: usize) -> Result<Fault, Refusal>
+    ensures { MatchResult result
+        (λ fault. (Rule.tested (values own).code points ≡ Ok tt) × (number_of_fault fault ≡ (values own).code))
+        (λ why. Rule.tested (values own).code points ≡ Err why) }
 {
     match own {
-        1 => Err(Refusal::Counts),
-        2 => Err(Refusal::Units),
+        Answer::Refused {
+            why: table::Refusal::Counts,
+            ..
+        } => Err(Refusal::Counts),
+        Answer::Refused {
+            why: table::Refusal::Units,
+            ..
+        } => Err(Refusal::Units),
         _ if 12 < points => Err(Refusal::Points),
-        5..=8 => Ok(()),
-        _ => Err(Refusal::Other),
+        _ => Fault::of(own).ok_or(Refusal::Other),
     }
 }
 
-// The smallest ring still refused. Where the ring is refused with 5 to 8, the choice of all its points gets its number.
+// The smallest ring still refused. Where the ring has one of the four faults, the choice of all its points has it too.
 pub fn search(ring: &[i32], chain: &[i32], size: u32) -> Result<Found, Refusal>
     ensures { Rule.row_of result ≡ Rule.smallest_refused ring.now chain.now size }
 {
-    let own = lone_ring::number(ring, chain, size);
+    let own = lone_ring::answer(ring, chain, size);
     let points = ring.len() / 2;
-    tested(own, points)?;
+    let refusal = tested(own, points)?;
     let all = Search {
         ring,
         points,
         chain,
         size,
-        wanted: own,
+        wanted: u64::from(refusal),
     };
     let Some(choice) = all.least() else {
         unreachable!();
     };
-    Ok(Found {
-        refusal: own,
-        choice,
-    })
+    Ok(Found { refusal, choice })
 }
 
 // The same as C is answered. Nothing is asked of a caller.

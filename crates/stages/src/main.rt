@@ -8,11 +8,9 @@
 mod text;
 
 ghost use Rattle.std.specs.Prelude.{◌≡◌, ◌/◌, ◌≤◌, ◌<◌, length, IfOk};
-ghost use Rattle.blocks.specs.Blocks as Blocks;
 ghost use Rattle.vector.specs.Rings.{most_points, OnSheetRing};
-ghost use Rattle.parts.specs.Layout.{ValidParts};
 
-use blocks::{Block, Refused};
+use blocks::Refused;
 use chain::Simplified;
 use limits::Limits;
 use marks::MarkedRing;
@@ -38,27 +36,17 @@ fn ring_of(points: &[i32]) -> Ring
     lent_points::points(points, points.len() / 2)
 }
 
-// How many points a block has, and its sheet size.
-fn head_of(block: Block) -> (usize, u32)
-    ensures { result.0 ≡ Blocks.points block }
-{
-    match block {
-        Block::Ring { count, size } => (count, size),
-        Block::Chain { count } => (count, 0),
-    }
-}
-
 // Reads block `number`.
+#[tactic(auto, using(blocks::proofs::Counts::few_points))]
 fn read<R: Read>(input: &mut R, number: u32) -> Result<Came, Refused>
     ensures { IfOk result (λ came. OnSheetRing came.ring) }
 {
     let mut bytes = [0u8; 512];
     let n = stream::read_full(input, &mut bytes);
     let reading = blocks::read_block(&bytes[..n], number)?;
-    let (count, size) = head_of(reading.block);
     Ok(Came {
-        ring: ring_of(&reading.points[..count * 2]),
-        size,
+        ring: ring_of(&reading.points[..reading.block.count() * 2]),
+        size: reading.block.size(),
     })
 }
 
@@ -93,7 +81,7 @@ fn print_piece<W: Write>(output: &mut W, piece: &MarkedRing)
 }
 
 fn print_pieces<W: Write>(output: &mut W, ring: &MarkedRing, pieces: &PartList)
-    requires { ValidParts pieces.now × OnSheetRing ring.now.ring }
+    requires { OnSheetRing ring.now.ring }
 {
     // Kept: this goes over the numbers of pieces, whose points and marks are laid out by number, and over no list.
     for i in 0..pieces.count {

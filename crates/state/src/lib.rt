@@ -10,7 +10,8 @@ use blocks::Kind;
 // The state between two blocks: the number of the next one; the count and the sheet size of the ring that waits for its chain,
 // where that number is odd; the nodes listed; and whether the run has ended. The ring's points stand beside it in a list that
 // the caller lends, 60 places, x and y in turn.
-// Kept: ended is a flag, since the end changes none of the values beside it, and they are read after it too.
+// Kept: ended is a flag: the cases of an enum would carry the same four values, since the end changes none of them and they are
+// read after it too. No Option of the ring that waits: the picture reads its count once it is divided.
 #[derive(Clone, Copy, Default)]
 pub struct State {
     pub block: u32,

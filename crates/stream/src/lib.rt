@@ -3,13 +3,14 @@
 //
 // What the operating system reads or writes has no contract; a reader and a writer over memory have one, and the clauses name
 // their bytes. `write_some` alone counts: it calls `write` once, and adds what was taken to the count that it is lent; so whoever
-// hands a text over twice has counted it twice, and cannot show that the count is the definition's. Left to these few lines is
-// that the bytes of a block are those that `read` gave, of which the promises have the number alone.
+// hands a text over twice has counted it twice, and cannot show that the count is the definition's. That the input has ended
+// is answered only where a `read` gave nothing, and not where one failed. Left to these few lines is that the bytes of a block
+// are those that `read` gave, of which the promises have the number alone.
 
 #![tactic(auto)]
 
 ghost use Rattle.std.specs.Prelude.{◌≡◌, ◌+◌, ◌^◌, ◌≤◌, ◌<◌, length, take, IfOk, IfErr, OnOk, OnErr};
-ghost use Rattle.std.specs.Io.KnownBytes.{Appends};
+ghost use Rattle.std.specs.Io.KnownBytes.{Appends, IsAtEnd};
 ghost use Rattle.std.specs.Fmt.{decimal};
 ghost use Rattle.stream.specs.Shown.{sixteen};
 
@@ -26,10 +27,12 @@ pub struct ReadFailed {
 #[derive(Clone, Copy, PartialEq, Eq)]
 pub struct WriteFailed;
 
-// Reads until the list is full or the input ends, and answers how many bytes there are.
+// Reads until the list is full or the input ends, and answers how many bytes there are. A read that failed is no end: of a
+// reader that may be any, `IsAtEnd` is known where a read gave nothing.
 pub fn fill<R: Read>(input: &mut R, bytes: &mut [u8]) -> Result<usize, ReadFailed>
     ensures whole { IfOk result (λ n. n ≤ length bytes.new) }
     ensures part { IfErr result (λ failed. failed.done < length bytes.new) }
+    ensures ended { IfOk result (λ n. n < length bytes.new → IsAtEnd (R.remaining input.new)) }
 {
     let mut done: usize = 0;
     // Kept: `read_exact` does not say how much was read of a list that is not filled.
@@ -48,7 +51,8 @@ pub fn fill<R: Read>(input: &mut R, bytes: &mut [u8]) -> Result<usize, ReadFaile
 // Reads a block, and answers how many bytes there are. A failed read leaves part of a block, so one byte at least.
 pub fn read_block<R: Read>(input: &mut R, bytes: &mut [u8]) -> usize
     requires { length bytes.old ≡ 512 }
-    ensures { result ≤ 512 }
+    ensures whole { result ≤ 512 }
+    ensures ended { result ≡ 0 → IsAtEnd (R.remaining input.new) }
 {
     match fill(input, bytes) {
         Ok(n) => n,
@@ -92,6 +96,9 @@ fn write_some<W: Write>(output: &mut W, bytes: &[u8], sent: &mut u64) -> Result<
 }
 
 // Writes all of a text, or stops at the first write that fails or takes nothing.
+// Kept: here and in what stands on it, a writer and the count of bytes are lent side by side. In a struct of both each contract would
+// say of the writer inside that it stays the same one, and `Owed` asks the count before a text and after.
+#[tactic(auto, using(crate::proofs::Writing::more_written))]
 pub fn write_counted<W: Write>(
     output: &mut W,
     text: &[u8],

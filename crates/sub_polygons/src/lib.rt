@@ -11,7 +11,7 @@ ghost use Rattle.vector.specs.Size.{AllOnSheet};
 ghost use Rattle.vector.specs.Rings.{most_points};
 ghost use Rattle.marks.specs.declared.EdgeMark.{EdgeMark};
 ghost use Rattle.parts.specs.Cut as Cut;
-ghost use Rattle.parts.specs.Vertices.{vertex, corner_point, edge_at, Below, straight_number, closing, backward, part_of};
+ghost use Rattle.parts.specs.Vertices.{vertex, corner_point, edge_at, straight_number, closing, backward, part_of};
 
 use parts::Vertex;
 use vector::{GridPoint, MOST_POINTS};
@@ -28,8 +28,8 @@ pub struct SubPolygon {
 impl SubPolygon {
     // The corners alone.
     pub fn as_slice(&self) -> &[Vertex]
-        requires { (self.now.count ≤ length self.now.corners) × Below self.now.corners }
-        ensures { (result.now ≡ take self.now.count self.now.corners) × (length result.now ≡ self.now.count) × Below result.now }
+        requires { self.now.count ≤ length self.now.corners }
+        ensures { (result.now ≡ take self.now.count self.now.corners) × (length result.now ≡ self.now.count) }
     {
         &self.corners[..self.count]
     }
@@ -37,24 +37,26 @@ impl SubPolygon {
 
 // The first m of the corners, counted round from corner v. The last edge, the diagonal, is straight.
 fn segment(vs: &[Vertex], v: usize, m: usize) -> [Vertex; MOST_POINTS]
-    requires { (length vs.now ≤ most_points) × (v < length vs.now) × (1 ≤ m) × (m ≤ length vs.now) × Below vs.now }
-    ensures { (take m result ≡ tab (closing vs.now (length vs.now) v m) m) × Below result }
+    requires { (length vs.now ≤ most_points) × (v < length vs.now) × (1 ≤ m) × (m ≤ length vs.now) }
+    ensures { take m result ≡ tab (closing vs.now (length vs.now) v m) m }
 {
     let mut out = [Vertex::BLANK; MOST_POINTS];
-    for (i, c) in vs[v..].iter().chain(&vs[..v]).take(m).enumerate() {
-        out[i] = *c;
-    }
+    let ahead = m.min(vs.len() - v);
+    out[..ahead].copy_from_slice(&vs[v..v + ahead]);
+    out[ahead..m].copy_from_slice(&vs[..m - ahead]);
     out[m - 1].edge = Vertex::STRAIGHT;
     out
 }
 
 // The corners the other way round. Each keeps the edge that now starts there; the last edge is straight.
 fn reversed(vs: &[Vertex]) -> [Vertex; MOST_POINTS]
-    requires { (1 ≤ length vs.now) × (length vs.now ≤ most_points) × Below vs.now }
-    ensures { (take (length vs.now) result ≡ tab (backward vs.now (length vs.now)) (length vs.now)) × Below result }
+    requires { (1 ≤ length vs.now) × (length vs.now ≤ most_points) }
+    ensures { take (length vs.now) result ≡ tab (backward vs.now (length vs.now)) (length vs.now) }
 {
     let mut out = [Vertex::BLANK; MOST_POINTS];
     let before = vs.iter().rev().skip(1);
+    // Kept: the place is counted, since the library doesn't say what a list holds after its places were lent by `iter_mut().zip(..)`
+    // (tried); counted places for `iter_mut().enumerate()` would want two counted corners, at m - 1 - i and m - 2 - i.
     for (i, (a, b)) in vs.iter().rev().zip(before).enumerate() {
         out[i] = Vertex {
             at: a.at,
@@ -69,16 +71,16 @@ fn reversed(vs: &[Vertex]) -> [Vertex; MOST_POINTS]
 }
 
 // The part of m corners that end with the diagonal, turned round if their area is negative.
-// Kept: the corners go in by value, since they are moved into the part that is returned.
+// Kept: the corners go in by value, since they are moved into the part that is returned; lent, they would be copied.
 fn make_sub_polygon(
     ring: &[GridPoint; MOST_POINTS],
     vs: [Vertex; MOST_POINTS],
     m: usize,
 ) -> SubPolygon
-    requires { (3 ≤ m) × (m ≤ most_points) × Below vs × AllOnSheet ring.now × ((vertex vs (m - 1)).edge ≡ straight_number) }
+    requires { (3 ≤ m) × (m ≤ most_points) × AllOnSheet ring.now × ((vertex vs (m - 1)).edge ≡ straight_number) }
     ensures { ((es : List EdgeMark) → length es ≡ most_points → part_of ring.now es result.corners m ≡ Cut.make_sub_polygon (tab (corner_point ring.now vs) m)
         (tab (edge_at es vs) (m - 1)))
-        × (result.turned ≡ Cut.turned_area (tab (corner_point ring.now vs) m)) × Below result.corners × (result.turned ≤ 2 ^ 53) × (result.count ≡ m) }
+        × (result.turned ≡ Cut.turned_area (tab (corner_point ring.now vs) m)) × (result.turned ≤ 2 ^ 53) × (result.count ≡ m) }
 {
     let part = &vs[..m];
     let area = vector::polygon_area(parts::rotated_points(ring, part, 0).as_slice());
@@ -98,20 +100,20 @@ fn make_sub_polygon(
 
 // The part of the corners from corner v to the place k after it.
 pub fn first_part(ring: &[GridPoint; MOST_POINTS], vs: &[Vertex], v: usize, k: usize) -> SubPolygon
-    requires { (length vs.now ≤ most_points) × (v < length vs.now) × (2 ≤ k) × (k + 2 ≤ length vs.now) × Below vs.now × AllOnSheet ring.now }
+    requires { (length vs.now ≤ most_points) × (v < length vs.now) × (2 ≤ k) × (k + 2 ≤ length vs.now) × AllOnSheet ring.now }
     ensures { ((es : List EdgeMark) → length es ≡ most_points → part_of ring.now es result.corners (k + 1) ≡ Cut.first_part (part_of ring.now es vs.now (length vs.now)) v k)
         × (result.turned ≡ Cut.turned_area (Cut.first_points (Cut.rotate v (tab (corner_point ring.now vs.now) (length vs.now))) k))
-        × Below result.corners × (result.turned ≤ 2 ^ 53) × (result.count ≡ k + 1) }
+        × (result.turned ≤ 2 ^ 53) × (result.count ≡ k + 1) }
 {
     make_sub_polygon(ring, segment(vs, v, k + 1), k + 1)
 }
 
 // The part from there on, back to corner v.
 pub fn second_part(ring: &[GridPoint; MOST_POINTS], vs: &[Vertex], v: usize, k: usize) -> SubPolygon
-    requires { (length vs.now ≤ most_points) × (v < length vs.now) × (2 ≤ k) × (k + 2 ≤ length vs.now) × Below vs.now × AllOnSheet ring.now }
+    requires { (length vs.now ≤ most_points) × (v < length vs.now) × (2 ≤ k) × (k + 2 ≤ length vs.now) × AllOnSheet ring.now }
     ensures { ((es : List EdgeMark) → length es ≡ most_points → part_of ring.now es result.corners (length vs.now - k + 1) ≡ Cut.second_part (part_of ring.now es vs.now (length vs.now)) v k)
         × (result.turned ≡ Cut.turned_area (Cut.second_points (Cut.rotate v (tab (corner_point ring.now vs.now) (length vs.now))) k))
-        × Below result.corners × (result.turned ≤ 2 ^ 53) × (result.count ≡ length vs.now - k + 1) }
+        × (result.turned ≤ 2 ^ 53) × (result.count ≡ length vs.now - k + 1) }
 {
     let n = vs.len();
     let start = (v + k) % n;

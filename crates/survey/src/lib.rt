@@ -16,8 +16,8 @@ ghost use Rattle.survey.specs.Survey.{laid, survey_of, GoesOn};
 
 use nodes::{MOST_NEARBY, Nearby, NodeNumber, Span, Window};
 
-// Whether all numbers of the nodes are held, and the nodes that were collected. Kept: no Option, since `near` is said whether
-// they are held or not.
+// Whether all numbers of the nodes are held, and the nodes that were collected.
+// Kept: no Option of `near`, which the pass has in either case: its promise is one equation, with no case for None.
 #[derive(Clone, Copy)]
 pub struct NodeSurvey {
     pub held: bool,
@@ -40,7 +40,7 @@ fn any_in(nodes: &[f64], at: usize, s: Span) -> bool
 }
 
 // The nodes from place `from` on that are in the window go after the n collected before.
-// Kept: by place, which is the number that is listed: over pairs from `from` on it would be counted up from there. And the
+// Kept: by place, which is the number that is listed; pairs zipped with `from..to` would say the same places twice. And the
 // window and the two lists side by side: in a struct that borrows the lists each contract would name all three through it,
 // before and after, and say besides that the window stays.
 fn collect_in(
@@ -57,6 +57,7 @@ fn collect_in(
     ensures { GoesOn nodes.now w from numbers.old xs.old n to numbers.new xs.new result }
 {
     let mut k = n;
+    // Kept: as above.
     for i in from..to {
         let x = nodes[i * 2];
         let y = nodes[i * 2 + 1];
@@ -117,7 +118,8 @@ fn by_blocks(
 {
     let mut out = false;
     let mut count = 0;
-    // Kept: a block is no chunk of the nodes. The last 64 begin where they end with the list.
+    // Kept: of `chunks(128)` the last is short and would be judged node by node, by a body of its own; here the last 64 end with the
+    // list, and the place where a block begins is the number of its first node.
     for block in 0..old.div_ceil(64) {
         let start = block * 64;
         let to = nodes::block_end(start, 64, old);

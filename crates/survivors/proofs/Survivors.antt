@@ -6,10 +6,11 @@ use native.Mathlib.Nat.{mod-eq_of_lt, mod_self, mod-lt}
 use native.Mathlib.Decide.{dec_le}
 use native.Mathlib.Omega.{arith}
 use mathlib.Core.Path.{◌≡◌, refl, sym, ap, ◌∙◌, subst}
-use mathlib.Core.Bool.{Bool, true, false, ◌&&◌, ◌||◌, cond}
+use mathlib.Core.Bool.{Bool, true, false, ◌||◌, cond}
 use mathlib.Core.List.{List, [], ◌∷◌}
 use lib.ListN.{length, get_or, length-map}
 use lib.Dec.{T, eqb, eqb→eq}
+use lib.Ieee.Fits.{and_i, and_r}
 use borrow.Author.Tests.{eq-eqb, ne_eqb}
 use Rattle.laws.proofs.Booleans.{or_r}
 use Rattle.vector.specs.declared.GridPoint.{GridPoint}
@@ -51,14 +52,6 @@ is_in_lem i m [] l e = absurd (omega (arith, l))
 is_in_lem i zero (k ∷ ks) l e = rw (eq-eqb i k (sym e)) tt
 is_in_lem i (suc m) (k ∷ ks) l e = or_r (eqb i k) (is_in i ks) (is_in_lem i m ks (omega (arith, l)) e)
 
-both : (a b : Bool) → T a → T b → T (a && b)
-both true b h k = k
-both false b h k = absurd h
-
-second : (a b : Bool) → T (a && b) → T b
-second true b h = h
-second false b h = absurd h
-
 -- ---- the next place that is kept
 module _ (n : ℕ) (ks : List ℕ) (h : Rising n ks) (j : ℕ) (l : j < length ks) where
   after : (s : T (survives n ks (get_or ks j 0))) → get_or ks (suc j % length ks) 0 ≡ suc (get_or ks j 0) % n
@@ -72,7 +65,7 @@ module _ (n : ℕ) (ks : List ℕ) (h : Rising n ks) (j : ℕ) (l : j < length k
       low = h.below j l
 
       f : Found (suc q % n) ks
-      f = found (suc q % n) ks (second (is_in q ks) (is_in (suc q % n) ks) s)
+      f = found (suc q % n) ks (and_r (is_in q ks) (is_in (suc q % n) ks) s)
 
       m : ℕ
       m = f.place
@@ -148,7 +141,7 @@ module _ (n : ℕ) (ks : List ℕ) (h : Rising n ks) (j : ℕ) (l : j < length k
       go true e = sym (eq-eqb (get_or ks m 0) (suc q % n) (after (subst T (sym e) tt)))
       go false e =
           sym (ne_eqb (get_or ks m 0) (suc q % n)
-          (λ d. subst T e (both (is_in q ks) (is_in (suc q % n) ks) (is_in_lem q j ks l refl) (is_in_lem (suc q % n) m ks (mod-lt (suc j) (omega (arith, l))) d))))
+          (λ d. subst T e (and_i (is_in q ks) (is_in (suc q % n) ks) (is_in_lem q j ks l refl) (is_in_lem (suc q % n) m ks (mod-lt (suc j) (omega (arith, l))) d))))
 
 -- ---- the edge
 module _ (size : ℕ) (r : List GridPoint) (j : ℕ) (l : j < length (kept_places size r)) where

@@ -1,6 +1,6 @@
 -- Places: how far from the origin they are, and each case of the code; and the claim that ties them to the sheet, `sheet-decimals`: the
 -- place of a coordinate in range is shown as the cell sheet shows the coordinate.
-use Prim.Native.Nat.{ℕ, ◌+◌, ◌-◌, ◌*◌, ◌≤◌, ◌<◌}
+use Prim.Native.Nat.{ℕ, ◌+◌, ◌-◌, ◌*◌, ◌≤◌, ◌<◌, min}
 use mathlib.Core.Path.{◌≡◌, refl, sym, ap, ◌∙◌, subst}
 use mathlib.Core.Bool.{Bool, true, false, true≢false, ◌&&◌}
 use mathlib.Core.List.{List}
@@ -9,11 +9,11 @@ use lib.Dec.{T, ltb}
 use lib.ListN.{length, get_or, get_or-eq_default}
 use lib.Ieee.{Float, nan, inf, fin, up, down, le}
 use lib.Ieee.Fits.{down_pos}
-use borrow.Author.Tests.{le-ltb, ltb-true}
+use borrow.Author.Tests.{ltb-true}
 use Rattle.nodes.proofs.Ranged.{held-is, held-within}
 use Rattle.laws.specs.Within.{Within}
 use Rattle.nodes.specs.Flat.{held}
-use Rattle.decimals.specs.Rounded.{half_even, ten_thousandths, negative, minus}
+use Rattle.decimals.specs.Rounded.{ten_thousandths, negative, minus}
 use Rattle.decimals.specs.Shown.{decimals, shown}
 use Rattle.decimals.proofs.Rounding.{half_le}
 use Rattle.svg.specs.Place.{origin, place_of, rounded}
@@ -54,12 +54,9 @@ pub past-node : (l : List Float) (k : ℕ) → length l ≤ k → origin ≡ pla
 past-node l k h = no_place ∙ ap place_of (sym (get_or-eq_default l nan h))
 
 -- ---- so many units
-pub rounded-near : (m : ℕ) → m ≤ 8388608 → half_even (m * 625) 512 ≡ rounded m
+pub few_rounded : (m : ℕ) → rounded m ≤ 10240000
 unfolding rounded
-rounded-near m h = rw (le-ltb 8388608 m h)
-
-pub few-rounded : (m : ℕ) → m ≤ 8388608 → half_even (m * 625) 512 ≤ 10240000
-few-rounded m h = half_le (m * 625) 512 10240000 (omega arith) (omega arith)
+few_rounded m = half_le (min m 8388608 * 625) 512 10240000 (omega arith) (omega arith)
 
 -- ---- as on the sheet
 and_right : (a b : Bool) → (a && b) ≡ true → b ≡ true

@@ -44,24 +44,19 @@ pub fn node_place(nodes: &[f64], k: usize) -> u64
 }
 
 // So many units in ten-thousandths of a mm, those of 1,024 mm at most.
-#[tactic(auto, unfolding(crate::specs::Place::rounded))]
-fn rounded(m: u64) -> u64
+#[tactic(auto, using(crate::proofs::Places::few_rounded), unfolding(crate::specs::Place::rounded))]
+fn rounded(m: u32) -> u64
     ensures { (result ≡ Place.rounded m) × (result ≤ 10240001) }
 {
-    if 8388608 < m {
-        return 10240000;
-    }
-    decimals::half_even(m * 625, 9)
+    decimals::half_even(u64::from(m.min(8388608)) * 625, 9)
 }
 
 #[tactic(auto, unfolding(crate::specs::Place::unit_place))]
-fn unit_place(n: u32) -> u64
-    ensures { (result ≡ Place.unit_place n) × (result ≤ 30240001) }
+fn unit_place(z: i32) -> u64
+    ensures { (result ≡ Place.unit_place z) × (result ≤ 30240001) }
 {
-    if n < 2147483648 {
-        return ORIGIN + rounded(u64::from(n));
-    }
-    ORIGIN - rounded(4294967296 - u64::from(n))
+    let m = rounded(z.unsigned_abs());
+    if z >= 0 { ORIGIN + m } else { ORIGIN - m }
 }
 
 // The place of coordinate k of a ring's points, the origin where there is none.
@@ -69,7 +64,7 @@ fn unit_place(n: u32) -> u64
 pub fn point_place(points: &[i32], k: usize) -> u64
     ensures { (result ≡ Place.point_place points.now k) × (result ≤ 30240001) }
 {
-    unit_place(blocks::bits(points.get(k).copied().unwrap_or(0)))
+    unit_place(points.get(k).copied().unwrap_or(0))
 }
 
 // A place in mm, with four decimals.

@@ -7,7 +7,7 @@
 
 ghost use Rattle.std.specs.Prelude.{◌≡◌, ◌+◌, ◌≤◌, length, IfOk, OnOk};
 ghost use Rattle.report.specs.Report.{most_text};
-ghost use Rattle.told.specs.Text.{told_text, CanTell};
+ghost use Rattle.told.specs.Text.{tells_of, told_text, CanTell};
 ghost use Rattle.telling.specs.Reached.{Owed, Sends};
 
 use nodes::NodeNumber;
@@ -36,9 +36,9 @@ fn write_told<W: Write>(
     cells: &[NodeNumber],
     sent: &mut u64,
 ) -> Result<u64, WriteFailed>
-    requires { Owed sent.old (told_text told cells.now) × CanTell told cells.now }
+    requires { Owed sent.old (told_text (tells_of told) cells.now) × CanTell (tells_of told) cells.now }
     ensures all { IfOk result (λ n. n ≡ sent.new) }
-    ensures sends { OnOk result (Sends sent.old (told_text told cells.now) sent.new) }
+    ensures sends { OnOk result (Sends sent.old (told_text (tells_of told) cells.now) sent.new) }
 {
     let mut text = [0u8; MOST_TEXT];
     let n = told::print(told, cells, &mut text);
@@ -54,9 +54,9 @@ pub fn tell<W: Write>(
     cells: &[NodeNumber],
     sent: &mut u64,
 ) -> Result<u64, WriteFailed>
-    requires { Owed sent.old (told_text told cells.now) × CanTell told cells.now }
+    requires { Owed sent.old (told_text (tells_of told) cells.now) × CanTell (tells_of told) cells.now }
     ensures all { IfOk result (λ n. n ≡ sent.new) }
-    ensures sends { OnOk result (Sends sent.old (told_text told cells.now) sent.new) }
+    ensures sends { OnOk result (Sends sent.old (told_text (tells_of told) cells.now) sent.new) }
 {
     match told {
         Told::Nothing => Ok(*sent),

@@ -1,7 +1,7 @@
 // Text: bytes, numbers in decimal, and forms filled with numbers, written on a page, a list that the caller lends. It stands
 // below all that prints: the report, the cell sheet, the picture.
 //
-// specs/Text says what a text is and what writing it leaves in every place of the list; proofs/Writing has the laws of texts
+// specs/Text says what a text is and what writing it leaves in every place of the list; proofs/Pages has the laws of texts
 // written one after the other. What writes stops at no failure: whoever calls shows that the text has room.
 
 #![tactic(auto)]

@@ -1,10 +1,23 @@
 -- 01, Rings for trial, and Job blocks, program: what is printed of a row of the table, and of what a step tells. Definitions only.
 use Rattle.std.specs.Prelude.{ℕ, ◌-◌, ◌*◌, ◌≤◌, ◌≡◌, cond, List, [], length, take, eqb}
 use Rattle.table.specs.declared.Row.{Row}
+use Rattle.table.specs.Answers.{values}
+use Rattle.blocks.specs.declared.Refused.{Refused}
 use Rattle.blocks.specs.Blocks.{number_of}
 use Rattle.report.specs.Report.{ring_text, refused_ring, refused_block}
 use Rattle.told.specs.declared.Told.{Told}
-use Rattle.told.specs.declared.Told.TheVariants.{Nothing, Ring, Block}
+
+-- what a step tells: nothing, a ring's number and row with the count of nodes listed before it, or a refused block
+pub data Tells : Type 0 where
+  Nothing : Tells
+  Ring : ℕ → ℕ → Row → Tells
+  Block : Refused → Tells
+
+-- and so what the code's step tells, which has a ring's answer
+abbrev pub tells_of : Told → Tells
+tells_of Told.Nothing = Nothing
+tells_of (Told.Ring n used a) = Ring n used (values a)
+tells_of (Told.Block r) = Block r
 
 -- the text of ring number n, whose row is v: `used` nodes were listed before it, and its cells are the first of the list
 unfoldable pub row_text : ℕ → ℕ → Row → List ℕ → List ℕ
@@ -15,7 +28,7 @@ row_text n used v cells =
     (refused_ring n v.code v.corners v.k)
 
 -- the text of what was told; "A block refusal ends the run with `block NUMBER refused CODE`"
-unfoldable pub told_text : Told → List ℕ → List ℕ
+unfoldable pub told_text : Tells → List ℕ → List ℕ
 told_text Nothing cells = []
 told_text (Ring n used v) cells = row_text n used v cells
 told_text (Block r) cells = refused_block r.block (number_of r.why)
@@ -26,11 +39,11 @@ pub record Shown (used : ℕ) (v : Row) (cells : List ℕ) : Type 0 where
   pub listed : v.code ≡ 0 → v.cells * 4 ≤ length cells
 
 -- and so what was told; "its cell list has 124" cells of four numbers each
-abbrev pub CanShow : Told → List ℕ → Type 0
+abbrev pub CanShow : Tells → List ℕ → Type 0
 CanShow Nothing cells = Unit {0}
 CanShow (Ring n used v) cells = Shown used v cells
 CanShow (Block r) cells = Unit {0}
 
-pub record CanTell (t : Told) (cells : List ℕ) : Type 0 where
+pub record CanTell (t : Tells) (cells : List ℕ) : Type 0 where
   pub shown : CanShow t cells
   pub few : length cells ≤ 496

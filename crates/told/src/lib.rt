@@ -4,57 +4,82 @@
 #![tactic(auto)]
 
 ghost use Rattle.std.specs.Prelude.{true, ◌≤◌, length};
+ghost use Rattle.table.specs.Answers as Answers;
 ghost use Rattle.report.specs.Report.{Printed, most_text};
-ghost use Rattle.told.specs.Text.{row_text, Shown, told_text, CanTell};
+ghost use Rattle.told.specs.Text.{tells_of, row_text, Shown, told_text, CanTell};
 
 use blocks::Refused;
 use nodes::NodeNumber;
 use report::Divided;
-use table::Row;
+use table::{Answer, Row};
 
-// Nothing, where a ring waits for its chain or the input has ended; a ring's number and row, with the nodes that were listed
-// before it; or a refused block. A ring's cells stand beside it in a list that the caller lends.
+// Nothing, where a ring waits for its chain or the input has ended; a ring's number and answer, with the nodes that were
+// listed before it; or a refused block. A ring's cells stand beside it in a list that the caller lends.
 #[derive(Clone, Copy)]
 pub enum Told {
     Nothing,
-    Ring { ring: u64, used: usize, row: Row },
+    Ring {
+        ring: u64,
+        used: usize,
+        answer: Answer,
+    },
     Block(Refused),
 }
 
-// The lines of a ring's row.
-fn print_row(text: &mut [u8], ring: u64, used: usize, v: Row, cells: &[NodeNumber]) -> usize
-    requires { Shown used v cells.now × (length cells.now ≤ 496) × (most_text ≤ length text.old) }
-    ensures { Printed true text.old (row_text ring used v cells.now) result text.new }
+// The lines of a ring by its answer.
+#[tactic(auto, unfolding(crate::specs::Text::row_text))]
+fn print_answer(
+    text: &mut [u8],
+    ring: u64,
+    used: usize,
+    answer: Answer,
+    cells: &[NodeNumber],
+) -> usize
+    requires { Shown used (Answers.values answer) cells.now × (length cells.now ≤ 496) × (most_text ≤ length text.old) }
+    ensures { Printed true text.old (row_text ring used (Answers.values answer) cells.now) result text.new }
 {
-    if v.code != 0 {
-        return report::print_refused_ring(text, ring, v.code, v.corners, v.k);
+    match answer {
+        Answer::Divided {
+            corners,
+            cuts,
+            turned,
+            area,
+            nodes,
+            cells: count,
+            ..
+        } => {
+            // Kept: no From: it would be one of a tuple, in report, which would have to know the answers of table.
+            let row = Divided {
+                ring,
+                corners: corners as u64,
+                cuts: cuts as u64,
+                turned,
+                area,
+                nodes: nodes as u64,
+                added: (nodes - used) as u64,
+            };
+            report::print_ring(text, row, &cells[..count * 4])
+        }
+        Answer::Refused { .. } | Answer::Failed { .. } => {
+            let row = Row::from(answer);
+            report::print_refused_ring(text, ring, row.code, row.corners, row.k)
+        }
     }
-    // Kept: no From, since ring and used come from beside the row, and neither type is this crate's.
-    let row = Divided {
-        ring,
-        corners: v.corners,
-        cuts: v.cuts,
-        turned: v.turned,
-        area: v.area,
-        nodes: v.nodes,
-        added: v.nodes - used as u64,
-    };
-    let end = v.cells as usize * 4;
-    report::print_ring(text, row, &cells[..end])
 }
 
 // The text of what was told, from the front of the list on; answers how many bytes it has.
+#[tactic(auto, using(crate::proofs::Rows::no_text), unfolding(crate::specs::Text::told_text))]
 pub fn print(told: Told, cells: &[NodeNumber], text: &mut [u8]) -> usize
-    requires { CanTell told cells.now × (most_text ≤ length text.old) }
-    ensures { Printed true text.old (told_text told cells.now) result text.new }
+    requires { CanTell (tells_of told) cells.now × (most_text ≤ length text.old) }
+    ensures { Printed true text.old (told_text (tells_of told) cells.now) result text.new }
 {
     match told {
         Told::Nothing => 0,
-        Told::Ring { ring, used, row } => print_row(text, ring, used, row, cells),
+        Told::Ring { ring, used, answer } => print_answer(text, ring, used, answer, cells),
         Told::Block(refused) => report::print_refused_block(
             text,
             u64::from(refused.block),
-            u64::from(refused.why.number()),
+            u64::from(refused.why),
         ),
     }
 }

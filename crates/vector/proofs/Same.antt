@@ -1,7 +1,7 @@
 -- `same` is equality of points: it holds of a point and itself, of no two others, and from either side alike; and two points
 -- are the same exactly if the step from one to the other is zero.
 use mathlib.Core.Path.{◌≡◌, sym, ap, ◌∙◌, subst}
-use lib.IntN.{ℤ, pos, ◌+ℤ◌, ◌-ℤ◌, +ℤ_idl, +ℤ_invr, -ℤ-+ℤ_cancel}
+use lib.IntN.{ℤ, +ℤ_invr}
 use lib.Dec.{T}
 use mathlib.Core.Bool.{Bool, ◌&&◌}
 use Rattle.std.proofs.Common.{int_eq}
@@ -11,14 +11,15 @@ use Rattle.std.proofs.lemmas.Float.{T_from_true}
 use lib.Ieee.Fits.{and_i, and_l, and_r}
 use Rattle.laws.specs.Integer.{eq_z}
 use Rattle.laws.proofs.Booleans.{bool_ext}
+use Rattle.laws.proofs.Integers.{no_difference}
 use Rattle.laws.proofs.SignedTests.{eq_z→, eq_z_refl}
 use Rattle.vector.specs.declared.GridPoint.{GridPoint}
 use Rattle.vector.specs.Grid.{origin, same, sub}
 
 -- what the derived `==` of points computes
-pub derived-same : (a b : GridPoint) → (int_eq a.x b.x && int_eq a.y b.y) ≡ same a b
+pub derived_same : (a b : GridPoint) → (int_eq a.x b.x && int_eq a.y b.y) ≡ same a b
 unfolding same
-derived-same a b = ap (λ (t : Bool). t && int_eq a.y b.y) (whole a.x b.x) ∙ ap (λ (t : Bool). eq_z a.x b.x && t) (whole a.y b.y)
+derived_same a b = ap (λ (t : Bool). t && int_eq a.y b.y) (whole a.x b.x) ∙ ap (λ (t : Bool). eq_z a.x b.x && t) (whole a.y b.y)
   where
     whole : (z w : ℤ) → int_eq z w ≡ eq_z z w
     whole z w =
@@ -49,13 +50,10 @@ unfolding sub
 step-zero a b =
     bool_ext (same (sub a b) origin) (same a b) (λ t. →same a b (back (same→ (sub a b) origin t))) (λ t. →same (sub a b) origin (there (same→ a b t)))
   where
-    level : (z w : ℤ) → z -ℤ w ≡ pos 0 → z ≡ w
-    level z w e = sym (-ℤ-+ℤ_cancel z w) ∙ ap (λ (u : ℤ). u +ℤ w) e ∙ +ℤ_idl w
-
     back : sub a b ≡ origin → a ≡ b
     back e =
-        let x = level a.x b.x (ap (λ (p : GridPoint). p.x) e) in
-        let y = level a.y b.y (ap (λ (p : GridPoint). p.y) e) in
+        let x = no_difference a.x b.x (ap (λ (p : GridPoint). p.x) e) in
+        let y = no_difference a.y b.y (ap (λ (p : GridPoint). p.y) e) in
         λ i. record { x = x i; y = y i }
 
     there : a ≡ b → sub a b ≡ origin

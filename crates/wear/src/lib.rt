@@ -12,11 +12,39 @@ ghost use Rattle.wear.specs.Wear as Rule;
 ghost use Rattle.wear.specs.Bytes as Bytes;
 
 // The cuts of up to 32 rings; how many it holds; and the place of the next, which is the oldest's where it holds 32.
+// Kept: an array with its count, as the 34 bytes of C have them.
 #[derive(Clone, Copy)]
 pub struct Record {
     pub cuts: [u8; 32],
     pub rings: u8,
     pub next: u8,
+}
+
+// A record in 34 bytes.
+impl From<&[u8; 34]> for Record {
+    ghost from_gives = { λ bytes r. r ≡ Bytes.record_in bytes.now };
+
+    fn from(bytes: &[u8; 34]) -> Record {
+        let mut cuts = [0; 32];
+        cuts.copy_from_slice(&bytes[..32]);
+        Record {
+            cuts,
+            rings: bytes[32],
+            next: bytes[33],
+        }
+    }
+}
+
+impl Record {
+    // The same, over 34 lent bytes.
+    // Kept: no `From`, which would fill an array of zeros, for its caller to copy over the lent bytes.
+    fn write(&self, bytes: &mut [u8; 34])
+        ensures { bytes.new ≡ Bytes.bytes_of self.now }
+    {
+        bytes[..32].copy_from_slice(&self.cuts);
+        bytes[32] = self.rings;
+        bytes[33] = self.next;
+    }
 }
 
 // What a record reports of the rings that it holds: the total of their cuts, the highest, and how many they are.
@@ -133,7 +161,8 @@ fn stored(r: &Record, cuts: u8) -> Record
 }
 
 // A divider call's answer, its number and its cuts, into the record, which stays as it came where the answer is refused.
-// Kept: the number is that of a row, as C hands it over.
+// Kept: the number as C hands it over, any of which is taken, and 0 alone is told from the others. With an Option of the cuts each
+// caller would take the number apart.
 #[tactic(auto, unfolding(crate::specs::Wear::added, crate::specs::Wear::reported, crate::specs::Wear::refused))]
 pub fn add(r: &mut Record, code: u64, cuts: u64) -> Result<Values, Refused>
     ensures { (result ≡ (Rule.added r.old code cuts).values) × (r.new ≡ (Rule.added r.old code cuts).kept) }
@@ -151,39 +180,16 @@ pub fn add(r: &mut Record, code: u64, cuts: u64) -> Result<Values, Refused>
     Ok(reported(r))
 }
 
-// The record in 34 bytes.
-fn read(bytes: &[u8]) -> Record
-    requires { length bytes.now ≡ 34 }
-    ensures { result ≡ Bytes.record_in bytes.now }
-{
-    let mut cuts = [0u8; 32];
-    cuts.copy_from_slice(&bytes[..32]);
-    Record {
-        cuts,
-        rings: bytes[32],
-        next: bytes[33],
-    }
-}
-
-fn write(bytes: &mut [u8], r: &Record)
-    requires { length bytes.old ≡ 34 }
-    ensures { bytes.new ≡ Bytes.bytes_of r.now }
-{
-    bytes[..32].copy_from_slice(&r.cuts);
-    bytes[32] = r.rings;
-    bytes[33] = r.next;
-}
-
 // The same over a record in 34 lent bytes; a list of another length is 20. Nothing is asked of a caller.
-// Kept: the number is that of a row, as C hands it over.
+// Kept: the number as C hands it over, as in `add`.
 pub fn wear_add(record: &mut [u8], code: u64, cuts: u64) -> Wear
     ensures { (result ≡ Bytes.returned «record».old code cuts) × («record».new ≡ Bytes.left «record».old code cuts) }
 {
-    if record.len() != 34 {
+    let Some(bytes) = record.as_mut_array::<34>() else {
         return Wear::from(Err(Refused));
-    }
-    let mut r = read(record);
+    };
+    let mut r = Record::from(&*bytes);
     let answer = add(&mut r, code, cuts);
-    write(record, &r);
+    r.write(bytes);
     Wear::from(answer)
 }

@@ -46,9 +46,9 @@ pub fn count_to<R: Read>(input: &mut R, most: usize) -> usize
 }
 
 pub fn long<R: Read>(input: &mut R) -> u64 {
-    let low = word(input);
-    let high = word(input);
-    u64::from(low) + 4294967296 * u64::from(high)
+    let mut b = [0u8; 8];
+    stream::read_full(input, &mut b);
+    u64::from_le_bytes(b)
 }
 
 // Whether two doubles have the same bits; all NaN count as one.

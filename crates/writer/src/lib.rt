@@ -9,6 +9,8 @@
 ghost use Rattle.std.specs.Prelude.{◌≡◌, length};
 ghost use Rattle.writer.specs.Write as Write;
 
+use blocks::Kind;
+
 // What the writer tests, by its number: the counts, the coordinates and the sheet size, the destination.
 // Kept: a type of its own beside the divider's refusals, so that no match has cases that a pair never has.
 #[derive(Clone, Copy, Debug, PartialEq, Eq)]
@@ -31,7 +33,7 @@ impl From<Refusal> for u64 {
 fn destination_out(places: usize, number: u32) -> bool
     ensures { result ≡ Write.destination_out places number }
 {
-    places < 1024 || number % 2 != 0 || number > 65534
+    places < 1024 || Kind::of(number) != Kind::Ring || number > 65534
 }
 
 // The first of 1, 2 and 12 that refuses.

@@ -2,7 +2,7 @@
 use Prim.Native.Nat.{◌+◌, ◌/◌, ◌<◌}
 use Rattle.std.proofs.Common.{add-one}
 use native.Mathlib.Omega.{arith}
-use mathlib.Core.Path.{◌≡◌, ◌∙◌}
+use mathlib.Core.Path.{◌≡◌, sym, ap, ◌∙◌}
 use lib.ListN.{length, take, set, length-set}
 use lib.Seq.{length-take-le}
 use borrow.Author.Rules.{rules}
@@ -28,8 +28,9 @@ loop-k-preserved c =
     let l = c.args.numbers.now in
     let n = c.args.n in
     let b : o.k < n = omega (arith, c.loop-k-test.true, taken s) in
-    let e : c.cell.result ≡ cell_in l o.k =
-    c.cell.ensures ∙ four_among l (length l / 4) n o.k c.as_chunks.result.0.now c.as_chunks.ensures.front (omega arith) (omega (arith, many s, c.requires.0)) b in
-    let w : set o.cells (c.args.at + o.k) c.cell.result ≡ written c.args.cells.now c.args.at l (o.k + 1) =
+    let e : c.from.result ≡ cell_in l o.k =
+    ap (λ f. cell_in f 0) (sym c.from.ensures)
+    ∙ four_among l (length l / 4) n o.k c.as_chunks.result.0.now c.as_chunks.ensures.front (omega arith) (omega (arith, many s, c.requires.0)) b in
+    let w : set o.cells (c.args.at + o.k) c.from.result ≡ written c.args.cells.now c.args.at l (o.k + 1) =
     rw add-one (λ j. set (o.invariant.2 j) (c.args.at + o.k) (e j)) in
-    (omega (arith, b), length-set o.cells (c.args.at + o.k) c.cell.result ∙ o.invariant.1, w)
+    (omega (arith, b), length-set o.cells (c.args.at + o.k) c.from.result ∙ o.invariant.1, w)

@@ -1,21 +1,23 @@
-use Prim.Native.Nat.{ℕ, ◌+◌, ◌<◌}
-use mathlib.Core.Path.{sym, subst}
-use native.Mathlib.Omega.{arith}
-use lib.ListN.{get_or, set}
-use lib.Seq.{get_or-take}
+use Rattle.std.proofs.Common.{rules, ap, ◌∙◌, arith, length-set, get_or-take, get_or, ◌<◌}
 use Rattle.vector.specs.Grid.{origin}
-use Rattle.clean.proofs.Answer.{Copies, copies_more, copies_end}
+use Rattle.laws.proofs.Table.{more, tab_none}
+use Rattle.clean_steps.proofs.Choices.{point}
+use Rattle.clean.proofs.Answer.{copied}
 use Rattle.clean.proofs.cleared.Goals as goal
+
+pub loop-i-init : goal.loop-i-init
+loop-i-init c = (search rules, tab_none (point c.args.r.now))
 
 pub loop-i-preserved : goal.loop-i-preserved
 loop-i-preserved c =
     let l = c.loop-i in
     let r = c.args.r.now in
-    let h : l.i < r.count = omega (arith, c.loop-i-test.true) in
-    subst (λ (x : ℕ). Copies r (set l.points l.i (get_or r.ring.now x origin)) (set l.places l.i x) (l.i + 1)) (sym (get_or-take r.count r.places l.i 0 h))
-    (copies_more r l.points l.places l.i l.invariant h)
+    let h : l.i < r.count = omega (arith, c.loop-i-test.true, l.invariant.0) in
+    let e = ap (λ k. get_or r.ring.now k origin) (c.from.ensures ∙ get_or-take r.count r.places l.i 0 h) in
+    (length-set l.point-items l.i _ ∙ l.invariant.0, more (point r) l.point-items l.i _ (omega (arith, h, l.invariant.0)) l.invariant.1 e)
 
 pub returns : goal.returns
 returns c =
     let l = c.loop-i in
-    copies_end c.args.r.now l.points l.places l.i l.invariant (omega (arith, c.loop-i-test.false))
+    let r = c.args.r.now in
+    copied r l.point-items c.copy_from_slice.new.self l.i l.invariant.0 (omega (arith, l.invariant.0, c.loop-i-test.false)) l.invariant.1 (search rules)

@@ -1,7 +1,8 @@
--- `cleared`, the loop's invariant: the first i points and places are copied, the rest is zero.
-use Rattle.clean.proofs.Answer.{Copies}
+-- `cleared`, the loop's invariant: the first i points are those of the choice.
+use Rattle.std.proofs.Common.{◌≡◌, length, take}
+use Rattle.laws.specs.Table.{tab}
+use Rattle.clean_steps.proofs.Choices.{point}
 use Rattle.clean.proofs.cleared.Given as goal
 
 abbrev pub invariant-loop-i : goal.invariant-loop-i
-invariant-loop-i l =
-    Copies l.r l.points l.places l.i
+invariant-loop-i l = (length l.point-items ≡ l.r.count) × (take l.i l.point-items ≡ tab (point l.r) l.i)

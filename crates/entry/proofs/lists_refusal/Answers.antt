@@ -8,9 +8,8 @@ use Rattle.nodes.specs.Flat.{nodes_in}
 use Rattle.quads.specs.declared.Cell.{Cell}
 use Rattle.entry.specs.Refusal.{lists_refusal}
 use Rattle.survey.specs.declared.NodeSurvey.{NodeSurvey}
-use Rattle.survey.proofs.Gathering as gathering
 use Rattle.table.specs.Answers.{code_of}
-use Rattle.entry.proofs.Tests.{fit, looked_none, looked_all, nothing, all}
+use Rattle.entry.proofs.Tests.{fit, looked_none, nothing}
 use Rattle.entry.proofs.lists_refusal.Goals as goal
 use Rattle.entry.proofs.lists_refusal.Goals.{After-used_refusal}
 
@@ -39,27 +38,7 @@ returns-in_err-used_refusal-clause-code c = λ cells o.
     let e : code_of c.from_residual.result ≡ code_of c.used_refusal.result = search rules in
     e ∙ told (goal.at.returns-in_err-used_refusal-clause-code c).After-used_refusal cells o
 
-pub returns-in_err-used_refusal-clause-looked : goal.returns-in_err-used_refusal-clause-looked
-returns-in_err-used_refusal-clause-looked c =
-    let a = c.args in
-    let e = c.used_nodes-s.ensures in
-    let z = sym c.counts_over.ensures ∙ c.if-counts_over.false in
-    all a.w a.nodes.now a.numbers.now a.xs.now _ a.node_count _ _ _ (looked_all _ _ _ _ _ z) (search rules) e.1 e.2
-
 pub returns-clause-code : goal.returns-clause-code
 returns-clause-code c = λ cells o.
     let e : 0 ≡ code_of c.used_refusal.result = search rules in
     e ∙ told (goal.at.returns-clause-code c).After-used_refusal cells o
-
-pub returns-clause-looked : goal.returns-clause-looked
-returns-clause-looked c =
-    let a = c.args in
-    let e = c.used_nodes-s.ensures in
-    let z = sym c.counts_over.ensures ∙ c.if-counts_over.false in
-    all a.w a.nodes.now a.numbers.now a.xs.now _ a.node_count _ _ _ (looked_all _ _ _ _ _ z) (ap (λ (r : NodeSurvey). r.near) e.0) e.1 e.2
-
-pub returns-clause-near : goal.returns-clause-near
-returns-clause-near c =
-    let a = c.args in
-    let e = c.used_nodes-s.ensures in
-    gathering.held a.nodes.now a.w a.numbers.now a.xs.now a.node_count _ _ _ c.requires.3 c.requires.4 c.requires.2 (ap (λ (r : NodeSurvey). r.near) e.0) e.1 e.2

@@ -23,8 +23,9 @@ loop-i-preserved c =
     let d = get_or-take r.count r.places l.i 0 h in
     let j = c.prev.result in
     let m = c.next.result in
-    let e : f.result ≡ is_flat r.tol (get_or ring (get_or r.places j 0) origin) (get_or ring (get_or r.places l.i 0) origin) (get_or ring (get_or r.places m 0) origin) =
-    f.ensures ∙ ap (λ (x : ℕ). is_flat r.tol (get_or ring (get_or r.places j 0) origin) (get_or ring x origin) (get_or ring (get_or r.places m 0) origin)) d in
+    let at = λ (k l m : ℕ). is_flat r.tol (get_or ring k origin) (get_or ring l origin) (get_or ring m origin) in
+    let e : f.result ≡ at (get_or r.places j 0) (get_or r.places l.i 0) (get_or r.places m 0) =
+    f.ensures ∙ (λ i. at (c.from.ensures i) ((c.from-in-loop-i.ensures ∙ d) i) (c.from-in-loop-i-2.ensures i)) in
     elim c.if-not-flat.branch [
       | then-not-flat w ↦
           rw (w.places-is, w.count-is)

@@ -6,9 +6,6 @@ use Rattle.laws.proofs.Booleans.{is_true, is_false}
 use Rattle.given.proofs.LeadLines.{none-sought, outline-asks, few-loops, points-fit, held}
 use Rattle.given.proofs.lead_line.Goals as goal
 
-pub returns-then-not-called_for : goal.returns-then-not-called_for
-returns-then-not-called_for c = none-sought _ _ _ _ (sym c.called_for.ensures ∙ is_false _ (subst T (sym c.if-not-called_for.true-raw) tt))
-
 pub points-own-requires : goal.points-own-requires
 points-own-requires c = outline-asks _ _ _ c.requires (sym c.called_for.ensures ∙ is_true _ c.if-not-called_for.false-raw)
 

@@ -22,13 +22,5 @@ loop-j-preserved c =
       omega (arith, b),
       laid_more _ j c.loop-j.edges _ c.loop-j.invariant.1 (omega (arith, b, c.requires.count))
           (c.surviving_mark-mark.ensures
-          ∙ mark-next a.ring.now a.clean.now a.kinds.now a.snaps.now (sought a.lead.now) j _ _ _ _ k kept c.next-after.ensures.0 c.point_at-p.ensures),
+          ∙ mark-next a.ring.now a.clean.now a.marking.kinds.now a.marking.snaps.now (sought a.lead.now) j _ _ _ _ k kept c.next-after.ensures.0 c.point_at-p.ensures),
     )
-
-pub returns : goal.returns
-returns c =
-    let a = c.args in
-    let n = a.clean.now.ring.count in
-    let many = length-take-le n a.clean.now.places (omega (arith, c.requires.count, c.requires.room)) in
-    let e : c.loop-j.j ≡ n = omega (arith, many) in
-    subst (λ (k : ℕ). Laid (mark_left a.ring.now a.clean.now a.kinds.now a.snaps.now (sought a.lead.now)) k c.loop-j.edges) e c.loop-j.invariant.1

@@ -5,4 +5,4 @@ use Rattle.given.proofs.marks_left.Given as goal
 
 abbrev pub invariant-loop-j : goal.invariant-loop-j
 invariant-loop-j l =
-    (l.j ≤ l.clean.ring.count) × Laid (mark_left l.ring l.clean l.kinds l.snaps (sought l.lead)) l.j l.edges
+    (l.j ≤ l.clean.ring.count) × Laid (mark_left l.ring l.clean l.marking.kinds.now l.marking.snaps.now (sought l.lead)) l.j l.edges

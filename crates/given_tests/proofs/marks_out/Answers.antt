@@ -1,29 +1,21 @@
--- `marks_out`: each return is one case of the definition, by the marks passed.
-use Rattle.std.proofs.Common.{◌≡◌, get_or, sym, ap, ◌∙◌, eq-eqb, arith}
-use Rattle.laws.proofs.Search.{any-zero, any-pass, any_hit}
-use Rattle.call.specs.Marked.{marks_out, mark_out}
-use Rattle.given_tests.proofs.Scans.{out_at}
+-- `marks_out`: the library's search over the kinds and their places is the definition's.
+use Rattle.std.proofs.Common.{rules, tests, arith, sym, ◌∙◌}
+use Rattle.std.proofs.lemmas.Bool.Decides.{nat_tests}
+use Rattle.std.proofs.lemmas.Iterator.{YieldsList-from_slice}
+use Rattle.std.proofs.lemmas.Iterator.Consumers.{YieldsList-from_enumerate}
+use Rattle.std.proofs.lemmas.Iterator.Search.{any_from_yields_List}
+use Rattle.given_tests.proofs.Scans.{out_of, marks_listed}
 use Rattle.given_tests.proofs.marks_out.Goals as goal
-use Rattle.given_tests.proofs.marks_out.Goals.{After-mark_out}
+use Rattle.given_tests.proofs.marks_out.Goals.{then-kinds-n, else-kinds-n}
 
-pub loop-i-init : goal.loop-i-init
-loop-i-init c = any-zero _
-
--- what was asked of the point read is asked of the list's
-seen : (c : After-mark_out)
-    → let a = c.args in
-    out_at a.kinds.now a.snaps.now c.loop-i.i ≡ c.mark_out.result
-seen c =
-    let a = c.args in
-    sym (c.mark_out.ensures ∙ ap (mark_out (get_or a.kinds.now c.loop-i.i 0)) c.point_at.ensures)
-
-pub returns-then-mark_out : goal.returns-then-mark_out
-unfolding marks_out
-returns-then-mark_out c =
-    let a = c.args in
-    let h = any_hit (out_at a.kinds.now a.snaps.now) c.loop-i.i a.n (omega arith) (seen (goal.at.returns-then-mark_out c).After-mark_out ∙ c.if-mark_out.true) in
-    simp (eq-eqb _ _ c.if-kinds-n.false, eq-eqb _ _ c.if-snaps-n.false, h)
-
-pub loop-i-preserved : goal.loop-i-preserved
-loop-i-preserved c =
-    any-pass _ c.loop-i.i c.loop-i.invariant (seen (goal.at.loop-i-preserved c).After-mark_out ∙ c.if-mark_out.false)
+pub returns-else-snaps-n : goal.returns-else-snaps-n
+returns-else-snaps-n c =
+    let ks = c.args.marking.kinds.now in
+    let s = c.args.marking.snaps.now in
+    elim c.if-kinds-n.branch [
+      | then-kinds-n w ↦ grind (arith, nat_tests)
+      | else-kinds-n w ↦
+          any_from_yields_List (out_of s) _ _ _ c.any.ensures.ran (YieldsList-from_enumerate (YieldsList-from_slice ks cc) c.enumerate.ensures.count)
+          (λ x b q k. search (rules, tests))
+          ∙ marks_listed ks s c.args.n w.if-kinds-n.false (sym w.value-is ∙ c.if-snaps-n.false)
+    ]

@@ -7,6 +7,6 @@ use Rattle.job.proofs.divide_ring.Goals as goal
 pub returns : goal.returns
 returns c =
     let a = c.args in
-    let d = c.divide in
+    let d = c.divide-answer in
     divided a.s a.ring.now a.nodes.now a.rims.now (take (a.run * 2) a.chain.now) a.cells.now c.requires.1 _ _ _ _ d.ensures
-    d.auto.cells _ c.from-row.ensures
+    d.auto.cells _ _ c.listed.ensures c.from.ensures

@@ -1,8 +1,7 @@
 -- `put_lines`: the lines of all nodes have room, and a turn writes one.
-use mathlib.Core.Path.{◌≡◌, refl}
+use mathlib.Core.Path.{refl}
 use native.Mathlib.Omega.{arith}
-use Rattle.std.proofs.Common.{rules}
-use Rattle.text.proofs.Pages.{wrote_none, room-turn, wrote-turn, written-on}
+use Rattle.text.proofs.Pages.{wrote_none, room-turn, wrote-turn}
 use Rattle.listing.specs.Sheet.{line, lines}
 use Rattle.listing.proofs.Texts.{lines_long}
 use Rattle.listing.proofs.put_lines.Goals as goal
@@ -36,9 +35,3 @@ loop-i-preserved c =
       wrote-turn (lines s.nodes.now) (line s.nodes.now) (λ i. refl) s.count
           (record { fits = omega (arith, c.requires.1, lines_long s.nodes.now s.count (omega (arith, u.few))) }) c.loop-i-test.true l.invariant.1 c.line.ensures,
     )
-
-pub returns : goal.returns
-returns c =
-    let l = c.loop-i in
-    let e : l.i ≡ c.args.count = omega (arith, l.invariant.0, c.loop-i-test.false) in
-    written-on (search rules) (rw e at l.invariant.1)

@@ -1,21 +1,20 @@
-use Rattle.std.proofs.Common.{◌≡◌, ◌+◌, get_or, take, [], ◌∷◌, sym, ap, ◌∙◌, arith}
-use lib.Seq.{get_or-take, length-take-le}
-use Rattle.marks.specs.Part.{mark_count}
-use Rattle.marks.specs.Edges.{marks_in, straight_edge}
-use Rattle.marks.proofs.Edges.{marks-more, count-more}
+use Rattle.std.proofs.Common.{rules, tests, ◌≡◌, ◌∙◌, take, arith}
+use lib.Seq.{length-take-le}
+use Rattle.std.proofs.lemmas.Iterator.{YieldsList-from_slice}
+use Rattle.std.proofs.lemmas.Iterator.Consumers.{count_from_yields_List, YieldsList-from_filter}
+use Rattle.std.proofs.lemmas.List.Sums.{length-filter, count_by-le-length}
+use Rattle.std.specs.List.{count_by}
+use Rattle.marks.proofs.Edges.{snapped, counted}
 use Rattle.marks.proofs.mark_count.Goals as goal
 
-pub loop-e-preserved : goal.loop-e-preserved
-loop-e-preserved c =
-    let l = c.loop-e in
+pub returns : goal.returns
+returns c =
     let r = c.args.ring.now in
-    let es = r.edges in
-    let n = length-take-le r.ring.count es (omega (arith, c.requires.marks, c.requires.ring.count)) in
-    let q = l.invariant.1 in
-    let e : get_or (take r.ring.count es) l.e-index straight_edge ≡ get_or es l.e-index straight_edge =
-    get_or-take r.ring.count es l.e-index straight_edge (omega (arith, n)) in
-    let w = c.weight-total.ensures.0 ∙ (λ j. mark_count ((e j).mark ∷ [])) in (
-      omega (arith, c.weight-total.ensures.1, l.invariant.0),
-      (λ j. q j + w j) ∙ sym (count-more (marks_in es l.e-index) _)
-          ∙ ap mark_count (sym (marks-more es l.e-index (omega (arith, n, c.requires.marks, c.requires.ring.count)))),
-    )
+    let l = take r.ring.count r.edges in
+    let n : c.count.result ≡ count_by snapped l =
+    count_from_yields_List c.filter.result _ c.count.ensures.ran
+    (YieldsList-from_filter _ snapped (YieldsList-from_slice l cc) c.filter.ensures.closure (λ x b q k. search (rules, tests)))
+    ∙ length-filter snapped l in
+    let few = count_by-le-length snapped l in
+    let long = length-take-le r.ring.count r.edges (omega (arith, c.requires.marks, c.requires.ring.count)) in
+    (n ∙ counted l, omega (arith, n, few, long))

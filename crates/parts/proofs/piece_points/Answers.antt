@@ -7,7 +7,7 @@ pub returns : goal.returns
 returns c =
     let r = c.rotated_points.ensures in
     let p = c.part.ensures in (
-      λ es. r.0 ∙ part-points c.args.pieces.now c.args.i c.requires.1 c.part.result.now p.corners c.args.ring.now es,
+      λ es. r.0 ∙ part-points c.args.pieces.now c.args.i c.requires.0 c.part.result.now p.corners c.args.ring.now es,
       r.1,
       r.2 ∙ p.size.0,
       omega (arith, r.2, p.size.1),

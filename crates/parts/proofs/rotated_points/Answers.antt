@@ -13,7 +13,7 @@ use Rattle.vector.specs.declared.GridPoint.{GridPoint}
 use Rattle.vector.specs.Grid.{origin}
 use Rattle.vector.specs.Size.{OnSheet}
 use Rattle.vector.proofs.Sheet.{origin_on}
-use Rattle.parts.specs.declared.Vertex.{Vertex}
+use Rattle.parts.specs.declared.list.Vertex.{Vertex}
 use Rattle.parts.specs.Vertices.{vertex, corner_point}
 use Rattle.parts.proofs.Stored.{turned, turned-at, length-turned}
 use Rattle.parts.proofs.rotated_points.Goals as goal
@@ -45,12 +45,6 @@ loop-i-init c = (
   λ k h. all_same (λ x. x ≡ origin) origin 60 origin refl refl k,
 )
 
-pub bounds-ring-from : goal.bounds-ring-from
-bounds-ring-from c =
-    let t = turn (goal.at.bounds-ring-from c).In-Some in
-    let b = c.requires.2 ((c.args.v + length c.loop-i.yielded) % length c.args.vs.now) in
-    omega (arith, c.from.ensures, ap (λ (v : Vertex). v.at) t.2, b)
-
 pub loop-i-preserved : goal.loop-i-preserved
 loop-i-preserved c =
     let l = c.loop-i in
@@ -65,23 +59,6 @@ loop-i-preserved c =
       length-set l.out.points (length l.yielded) _ ∙ l.invariant.0,
       l.invariant.1,
       more f l.out.points (length l.yielded) _ (omega (arith, l.invariant.0, t.0, c.requires.0)) l.invariant.2 q,
-      all_set OnSheet origin l.out.points (length l.yielded) _ l.invariant.3 (c.requires.3 _),
+      all_set OnSheet origin l.out.points (length l.yielded) _ l.invariant.3 (c.requires.2 _),
       λ k h. get_or-set_other l.out.points (length l.yielded) k _ origin (λ e. omega (arith, e)) ∙ l.invariant.4 k (omega arith),
-    )
-
-pub returns : goal.returns
-returns c =
-    let vs = c.args.vs.now in
-    let v = c.args.v in
-    let road =
-    YieldsList-from_enumerate {s = c.into_iter-i-iterator.result}
-    (YieldsList-from_chain (YieldsList-from_slice (take (length vs - v) (drop v vs)) (cc)) (YieldsList-from_slice (take v vs) (cc)) (cc) (cc)) (cc) in
-    let t = YieldsList-end road c.loop-i.yielded _ c.loop-i.yielded_by _ _ c.in-None.is c.next.ensures.steps in
-    let l = c.loop-i in
-    let e : length l.yielded ≡ length vs = omega (arith, t.1, length-enumerate_from 0 (turned vs v), length-turned vs v c.requires.1) in
-    let f : take (length vs) l.out.points ≡ tab (λ i. corner_point c.args.ring.now vs ((v + i) % length vs)) (length vs) = rw e at l.invariant.2 in (
-      ap (λ (k : ℕ). take k l.out.points) l.invariant.1 ∙ f,
-      record { count = omega (arith, l.invariant.1, c.requires.0); places = l.invariant.0; points = l.invariant.3 },
-      l.invariant.1,
-      λ j h. l.invariant.4 j (omega (arith, e, l.invariant.1)),
     )

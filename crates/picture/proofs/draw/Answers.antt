@@ -6,15 +6,18 @@ use Rattle.picture.proofs.draw.Goals as goal
 pub loop-f-init : goal.loop-f-init
 loop-f-init g c =
     let h = c.requires in (
-      begins c.args.job.now c.new-s.result c.new-s.ensures,
+      record {
+        blocks = 0;
+        reached = begins c.args.job.now c.new-run.result c.new-run.ensures;
+        drew = drew_head c.args.job.now c.args.f c.args.sent.now h.1 h.2 h.3;
+      },
       h.0,
       h.1,
-      drew_head c.args.job.now c.args.f c.args.sent.now h.1 h.2 h.3,
     )
 
 pub draw_nodes-requires : goal.draw_nodes-requires
 draw_nodes-requires g c =
     let l = c.loop-f in
-    let e = not-false l.s.ended (sym c.goes_on.ensures ∙ c.loop-f-test.false) in
-    let d = rings-drawn _ _ _ _ _ _ l.invariant.0 e l.sent l.invariant.3 l.invariant.1 in
-    (left _ _ _ _ _ _ l.invariant.0 e, d.0, d.1)
+    let e = not-false l.run.state.ended (sym c.goes_on.ensures ∙ c.loop-f-test.false) in
+    let d = rings-drawn _ _ _ _ _ _ l.invariant.0.reached e l.sent l.invariant.0.drew l.invariant.1 in
+    (left _ _ _ _ _ _ l.invariant.0.reached e, d.0, d.1)

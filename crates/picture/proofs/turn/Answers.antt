@@ -1,6 +1,7 @@
 -- `turn`: what is drawn of the step is owed, and once it is sent the block is drawn.
 use Prim.Native.Nat.{ℕ}
 use mathlib.Core.Path.{sym, subst, ap, ◌∙◌}
+use Rattle.std.proofs.lemmas.Result.{on_ok_weaker}
 use Rattle.frame.specs.Head.{edges_of}
 use native.Mathlib.Numerals.{add-one}
 use Rattle.picture.specs.Picture.{Reached}
@@ -8,37 +9,33 @@ use Rattle.picture.proofs.Drawing.{can_step, due, drew, turned}
 use native.Mathlib.Omega.{arith}
 use Rattle.picture.proofs.turn.Goals as goal
 
-pub step-stepped-requires : goal.step-stepped-requires
-step-stepped-requires g c = let h = c.requires in (can_step _ _ _ _ _ _ h.0, h.4)
+pub step-told-requires : goal.step-told-requires
+step-told-requires g c = can_step _ _ _ _ _ _ c.requires.0
 
 pub invariant_of-points : goal.invariant_of-points
 invariant_of-points g c =
-    let a = c.args in
     let h = c.requires in
-    let p = c.step-stepped in
-    let t = turned _ a.i a.s a.ring.now a.nodes.now a.rims.now h.0 h.2 _ c.block_at.ensures p.result _ _ _ _ p.ensures.0 in
+    let t = turned _ _ _ _ _ _ h.0 h.2 _ c.block_at.ensures _ _ _ _ _ c.step-told.ensures.0 in
     record { few = (can_step _ _ _ _ _ _ t).few }
 
 pub draw_step-requires : goal.draw_step-requires
 draw_step-requires g c =
-    let a = c.args in
     let h = c.requires in
-    let p = c.step-stepped in
-    let b = c.block_at.ensures in (
-      due _ a.i a.s a.ring.now a.nodes.now a.rims.now h.0 h.2 _ b p.result _ _ _ _ p.ensures.0 _ (c.edges.ensures ∙ ap edges_of h.3) a.sent.now h.1 h.5,
-      p.ensures.0.tells,
+    let p = c.step-told.ensures.0 in (
+      due _ _ _ _ _ _ h.0 h.2 _ c.block_at.ensures _ _ _ _ _ p _ (c.edges.ensures ∙ ap edges_of h.3) _ h.1 h.4,
+      p.tells,
       h.0.within h.2,
-      omega (arith, h.0.within h.2, h.5),
+      omega (arith, h.0.within h.2, h.4),
     )
 
 pub returns : goal.returns
 returns g c =
     let a = c.args in
     let h = c.requires in
-    let p = c.step-stepped in
+    let p = c.step-told in
     let b = c.block_at.ensures in
-    let t = turned _ a.i a.s a.ring.now a.nodes.now a.rims.now h.0 h.2 _ b p.result _ _ _ _ p.ensures.0 in
+    let t = turned _ _ _ _ _ _ h.0 h.2 _ b _ _ _ _ _ p.ensures.0 in
     record {
-      reached = subst (λ (m : ℕ). Reached a.job.now m p.result.state p.new.ring p.new.nodes p.new.rims) (sym (add-one a.i)) t;
-      drew = drew _ a.i a.s a.ring.now a.nodes.now a.rims.now h.0 h.2 _ b p.result _ _ _ _ p.ensures.0 _ (c.edges.ensures ∙ ap edges_of h.3) a.sent.now _ h.1 c.in_ok-draw_step.ensures;
+      reached = subst (λ (m : ℕ). Reached a.job.now m p.new.self.state p.new.self.ring p.new.self.nodes p.new.self.rims) (sym (add-one a.run.now.state.block)) t;
+      drew = on_ok_weaker c.draw_step.result (λ d. drew _ _ _ _ _ _ h.0 h.2 _ b _ _ _ _ _ p.ensures.0 _ (c.edges.ensures ∙ ap edges_of h.3) _ _ h.1 d) c.draw_step.ensures;
     }

@@ -1,16 +1,12 @@
 -- `list_job`: it prints the nodes of a run that has ended. The loop's invariant: the state, the ring that waits, the nodes and their rim marks were reached
 -- by the bytes read so far.
 use Prim.Native.Nat.{◌-◌}
-use mathlib.Core.Path.{◌≡◌}
 use mathlib.Core.Bool.{cond}
-use lib.ListN.{length}
 use Rattle.telling.specs.Reached.{Reached}
 use Rattle.sheet.proofs.list_job.Given as goal
 
-abbrev pub invariant-loop-ring : goal.invariant-loop-ring
-invariant-loop-ring g l =
-    Reached l.s l.ring l.nodes l.rims × (length l.ring ≡ 120) × (length l.nodes ≡ 3072) × (length l.rims ≡ 1536) × (length l.bytes ≡ 512) × (length l.cells ≡ 496)
+abbrev pub invariant-loop : goal.invariant-loop
+invariant-loop g l = Reached l.job.state l.job.ring l.job.nodes l.job.rims
 
-abbrev pub decreases-loop-ring : goal.decreases-loop-ring
-decreases-loop-ring g l =
-    cond l.s.ended 0 (65537 - l.s.block)
+abbrev pub decreases-loop : goal.decreases-loop
+decreases-loop g l = cond l.job.state.ended 0 (65537 - l.job.state.block)

@@ -4,7 +4,7 @@ use native.Mathlib.Omega.{arith}
 use borrow.Author.Rules.{rules}
 use Rattle.blocks.specs.Fields.{pair}
 use Rattle.blocks.proofs.Accepted.{was_allowed}
-use Rattle.blocks.proofs.Counts.{few-points, all-places}
+use Rattle.blocks.proofs.Counts.{few_points, all-places}
 use Rattle.job.specs.Step.{no_cells, answered, step_of}
 use Rattle.step.proofs.step.Goals as goal
 
@@ -22,7 +22,7 @@ take-requires c =
     let n = c.args.s.block in
     let r = c.in-Ok.reading in
     let d = sym c.read_block.ensures ∙ c.in-Ok.is in
-    (c.requires.0, search rules, omega (arith, (was_allowed b n r d).number, c.type_inv.bytes 2, c.type_inv.bytes 3), few-points b n r d, all-places b n r d)
+    (c.requires.0, search rules, omega (arith, (was_allowed b n r d).number, c.type_inv.bytes 2, c.type_inv.bytes 3), few_points b n r d, all-places b n r d)
 
 pub returns-in-Err : goal.returns-in-Err
 unfolding step_of answered

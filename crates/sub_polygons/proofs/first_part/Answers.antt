@@ -11,9 +11,8 @@ pub make_sub_polygon-requires : goal.make_sub_polygon-requires
 make_sub_polygon-requires c = (
   omega arith,
   omega arith,
-  c.segment.ensures.1,
-  c.requires.5,
-  Segments.seg_straight c.args.vs.now c.segment.result (length c.args.vs.now) c.args.v (c.args.k + 1) (omega arith) c.segment.ensures.0,
+  c.requires.4,
+  Segments.seg_straight c.args.vs.now c.segment.result (length c.args.vs.now) c.args.v (c.args.k + 1) (omega arith) c.segment.ensures,
 )
 
 pub returns : goal.returns
@@ -21,11 +20,10 @@ returns c =
     let g = c.segment in
     let m = c.make_sub_polygon.ensures in (
       λ es len. m.0 es len
-          ∙ Segments.first-is c.args.ring.now c.args.vs.now (length c.args.vs.now) c.args.v c.args.k (omega arith) g.result es (omega arith) g.ensures.0,
+          ∙ Segments.first-is c.args.ring.now c.args.vs.now (length c.args.vs.now) c.args.v c.args.k (omega arith) g.result es (omega arith) g.ensures,
       m.1
           ∙ ap turned_area
-          (Segments.first-points c.args.ring.now c.args.vs.now (length c.args.vs.now) c.args.v c.args.k (omega arith) g.result (omega arith) g.ensures.0),
+          (Segments.first-points c.args.ring.now c.args.vs.now (length c.args.vs.now) c.args.v c.args.k (omega arith) g.result (omega arith) g.ensures),
       m.2,
       m.3,
-      m.4,
     )

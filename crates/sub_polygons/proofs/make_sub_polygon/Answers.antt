@@ -15,9 +15,8 @@ returns-then-area-ge0 c =
     let b = back c.polygon_area-area.result (omega (arith, c.polygon_area-area.ensures.1)) ∙ c.polygon_area-area.ensures.0 in
     let n = Segments.by_sign _ _ true b c.if-area-ge0.true in
     let e = c.as_slice.ensures.0 ∙ c.rotated_points.ensures.0 ∙ Segments.front-points ring vs c.args.m (omega arith) in (
-      λ es len. Segments.kept-part ring vs c.args.m _ e es len (omega arith) c.requires.4 n,
+      λ es len. Segments.kept-part ring vs c.args.m _ e es len (omega arith) c.requires.3 n,
       Segments.none-turned ring vs c.args.m _ e n,
-      c.requires.2,
       lit≤ tt,
       refl,
     )
@@ -30,12 +29,11 @@ returns c =
     let b = z ∙ c.polygon_area-area.ensures.0 in
     let n = Segments.by_sign _ _ false b c.if-area-ge0.false in
     let e = c.as_slice.ensures.0 ∙ c.rotated_points.ensures.0 ∙ Segments.front-points ring vs c.args.m (omega arith) in
-    let r = Segments.back-front vs c.args.m (omega arith) c.reversed.result c.reversed.ensures.0 in
+    let r = Segments.back-front vs c.args.m (omega arith) c.reversed.result c.reversed.ensures in
     let v = c.unsigned_abs.ensures.value in
     let d : c.unsigned_abs.result ≡ nat_abs c.polygon_area-area.result = v ∙ ap nat_abs z in (
-      λ es len. Segments.turned-part ring vs c.args.m _ e es len (omega arith) c.requires.4 c.reversed.result r n,
+      λ es len. Segments.turned-part ring vs c.args.m _ e es len (omega arith) c.requires.3 c.reversed.result r n,
       v ∙ ap nat_abs b ∙ Segments.all-turned ring vs c.args.m _ e n,
-      c.reversed.ensures.1,
       rw d c.polygon_area-area.ensures.1,
       refl,
     )

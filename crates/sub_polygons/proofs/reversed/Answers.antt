@@ -6,14 +6,14 @@ use Rattle.std.specs.List.{zip}
 use Rattle.std.proofs.lemmas.Iterator.{YieldsList-from_zip}
 use Rattle.std.proofs.lemmas.Iterator.Adapters.{YieldsList-from_rev_slice, YieldsList-from_skip}
 use Rattle.std.proofs.lemmas.Iterator.Consumers.{YieldsList-turn, YieldsList-end, YieldsList-from_enumerate}
-use Rattle.std.proofs.lemmas.List.{length_push}
+use Rattle.std.proofs.lemmas.List.{get_or_default, length_push}
 use Rattle.std.proofs.lemmas.List.FromFn.{length-enumerate_from, get_or-enumerate_from}
 use Rattle.std.proofs.lemmas.Slice.Zip.{length-zip, get_or-zip}
 use Rattle.laws.proofs.Table.{more, more-last, tab_none}
-use Rattle.parts.specs.declared.Vertex.{Vertex}
-use Rattle.parts.specs.Vertices.{vertex, backward}
+use Rattle.parts.specs.declared.list.Vertex.{Vertex}
+use Rattle.parts.specs.Vertices.{no_vertex, vertex, backward}
 use Rattle.parts.proofs.Segments as Segments
-use Rattle.parts.proofs.Stored.{blank_below, set_below, reverse-at}
+use Rattle.parts.proofs.Stored.{reverse-at}
 use Rattle.sub_polygons.proofs.reversed.Goals as goal
 use Rattle.sub_polygons.proofs.reversed.Goals.{In-Some}
 
@@ -50,7 +50,7 @@ turn c =
     )
 
 pub loop-i-init : goal.loop-i-init
-loop-i-init c = (refl, tab_none _, blank_below 60)
+loop-i-init c = (refl, tab_none _)
 
 pub loop-i-preserved : goal.loop-i-preserved
 loop-i-preserved c =
@@ -60,12 +60,10 @@ loop-i-preserved c =
     let t = turn (goal.at.loop-i-preserved c).In-Some in
     let x = c.in-Some in
     let n = length_push l.yielded (x.i, (x.a, x.b)) in
-    let e : ◌≡◌ {A = Vertex} (record { at = x.a.now.at; edge = x.b.now.edge }) (backward vs m (length l.yielded)) =
-    (λ j. record { at = x.a.now.at; edge = (t.3 j).edge }) ∙ Segments.backward_in vs m (length l.yielded) x.a.now (omega (arith, t.0)) t.2 in
     rw (n, t.1) (
       length-set l.out (length l.yielded) _ ∙ l.invariant.0,
-      more (backward vs m) l.out (length l.yielded) _ (omega (arith, l.invariant.0, t.0)) l.invariant.1 e,
-      set_below l.out (length l.yielded) _ l.invariant.2 (rw t.2 (c.requires.2 _)),
+      more (backward vs m) l.out (length l.yielded) _ (omega (arith, l.invariant.0, t.0)) l.invariant.1
+          (Segments.backward_in vs m (length l.yielded) _ (omega (arith, t.0)) (ap (λ (c : Vertex). c.at) t.2) (ap (λ (c : Vertex). c.edge) t.3)),
     )
 
 pub returns : goal.returns
@@ -78,8 +76,7 @@ returns c =
     (YieldsList-from_zip (YieldsList-from_rev_slice vs (cc)) (YieldsList-from_skip 1 (YieldsList-from_rev_slice vs (cc)) (cc))) (cc) in
     let t = YieldsList-end road l.yielded l.i-iterator l.yielded_by c.next.result c.next.new.self c.in-None.is c.next.ensures.steps in
     let e : length l.yielded ≡ m - 1 = omega (arith, t.1, length-enumerate_from 0 (pairs vs), length-pairs vs) in
-    let z : 0 ≡ m - 1 - length l.yielded = omega (arith, e) in (
-      more-last (backward vs m) l.out (length l.yielded) m _ e (omega arith) (omega (arith, e)) l.invariant.1
-          (Segments.backward-last vs m (length l.yielded) (vertex vs 0) e (ap (vertex vs) z)),
-      set_below l.out (m - 1) _ l.invariant.2 (c.requires.2 0),
-    )
+    let z : 0 ≡ m - 1 - length l.yielded = omega (arith, e) in
+    more-last (backward vs m) l.out (length l.yielded) m _ e (omega arith) (omega (arith, e)) l.invariant.1
+    (Segments.same_vertex _ _ (ap (λ (c : Vertex). c.at) (get_or_default vs 0 c.index-vs-0.result no_vertex c.requires.0)) refl
+    ∙ Segments.backward-last vs m (length l.yielded) (vertex vs 0) e (ap (vertex vs) z))

@@ -11,10 +11,9 @@ pub make_sub_polygon-requires : goal.make_sub_polygon-requires
 make_sub_polygon-requires c = (
   omega arith,
   omega arith,
-  c.segment.ensures.1,
-  c.requires.5,
+  c.requires.4,
   Segments.seg_straight c.args.vs.now c.segment.result (length c.args.vs.now) ((c.args.v + c.args.k) % (length c.args.vs.now)) (length c.args.vs.now - c.args.k + 1)
-      (omega arith) c.segment.ensures.0,
+      (omega arith) c.segment.ensures,
 )
 
 pub returns : goal.returns
@@ -23,12 +22,11 @@ returns c =
     let m = c.make_sub_polygon.ensures in (
       λ es len. m.0 es len
           ∙ Segments.second_is c.args.ring.now c.args.vs.now (length c.args.vs.now) c.args.v c.args.k (omega arith) g.result es (omega arith) (omega arith)
-          g.ensures.0,
+          g.ensures,
       m.1
           ∙ ap turned_area
           (Segments.second-points c.args.ring.now c.args.vs.now (length c.args.vs.now) c.args.v c.args.k (omega arith) g.result (omega arith) (omega arith)
-          g.ensures.0),
+          g.ensures),
       m.2,
       m.3,
-      m.4,
     )

@@ -1,66 +1,77 @@
--- `segment`: each turn puts one corner more, counted round.
-use Rattle.std.proofs.Common.{◌≡◌, ℕ, ◌+◌, ◌-◌, ◌%◌, ◌<◌, length, take, drop, refl, ap, ◌∙◌, arith}
-use lib.ListN.{length-set}
-use lib.Seq.{get_or-take, length-take-le}
-use Rattle.std.proofs.lemmas.Iterator.{YieldsList-from_slice, YieldsList-from_take}
-use Rattle.std.proofs.lemmas.Iterator.Consumers.{YieldsList-turn, YieldsList-end, YieldsList-from_enumerate, YieldsList-from_chain}
-use Rattle.std.proofs.lemmas.List.{length_push}
-use Rattle.std.proofs.lemmas.List.FromFn.{length-enumerate_from, get_or-enumerate_from}
+-- `segment`: the corners up to the list's end, then those from its first on, and the last edge made straight.
+use Rattle.std.proofs.Common.{◌≡◌, ℕ, ◌+◌, ◌-◌, ◌%◌, ◌≤◌, ◌<◌, List, ◌++◌, length, get_or, take, drop, set, refl, sym, ap, ◌∙◌, arith}
+use native.Mathlib.Nat.{mod-eq_of_lt, add-mod_right}
+use native.Mathlib.Decide.{dec_lt}
+use lib.ListN.{replicate, get_or-append, length-append, length-drop}
+use lib.Seq.{get_or-take, get_or-drop, get_or-append-add, length-take-le, take_at}
+use borrow.Rule.Slice.PartMut.{put_mid, post_of}
+use Rattle.std.proofs.lemmas.List.{get_or_default}
 use Rattle.laws.specs.Table.{tab}
-use Rattle.laws.proofs.Table.{more, tab_none}
-use Rattle.parts.specs.declared.Vertex.{Vertex}
-use Rattle.parts.specs.Vertices.{vertex}
-use Rattle.parts.proofs.Segments.{closed}
-use Rattle.parts.proofs.Stored.{blank_below, set_below, turned, turned-at, length-turned}
+use Rattle.laws.proofs.Table.{is_tab}
+use Rattle.parts.specs.declared.list.Vertex.{Vertex}
+use Rattle.parts.specs.Vertices.{no_vertex, vertex, straight, closing}
+use Rattle.parts.proofs.Segments.{closed, same_vertex}
 use Rattle.sub_polygons.proofs.segment.Goals as goal
-use Rattle.sub_polygons.proofs.segment.Goals.{In-Some}
 
--- this turn's corner, and its number
-turn : (c : In-Some) → (length c.loop-i.yielded < c.args.m) × (c.in-Some.i ≡ length c.loop-i.yielded)
-    × (c.in-Some.c.now ≡ vertex c.args.vs.now ((c.args.v + length c.loop-i.yielded) % length c.args.vs.now))
-turn c =
-    let vs = c.args.vs.now in
-    let v = c.args.v in
-    let m = c.args.m in
-    let n = length c.loop-i.yielded in
-    let road =
-    YieldsList-from_enumerate {s = c.into_iter-i-iterator.result}
-    (YieldsList-from_take m
-    (YieldsList-from_chain (YieldsList-from_slice (take (length vs - v) (drop v vs)) (cc)) (YieldsList-from_slice (take v vs) (cc)) (cc) (cc)) (cc)) (cc) in
-    let t = YieldsList-turn road c.loop-i.yielded _ c.loop-i.yielded_by _ _ (c.in-Some.i, c.in-Some.c) c.in-Some.is c.next.ensures.steps in
-    let many = length-take-le m (turned vs v) (omega (arith, length-turned vs v c.requires.1)) in
-    let l : n < m = omega (arith, t.0, length-enumerate_from 0 (take m (turned vs v)), many) in
-    let e = t.1 ∙ get_or-enumerate_from 0 (take m (turned vs v)) n (c.in-Some.i, c.in-Some.c.now) (omega (arith, l, many)) in
-    let i : c.in-Some.i ≡ n = ap (λ (p : ℕ × Vertex). p.0) e ∙ omega arith in
-    (l, i, ap (λ (p : ℕ × Vertex). p.1) e ∙ get_or-take m (turned vs v) n c.in-Some.c.now l ∙ turned-at vs v n c.in-Some.c.now c.requires.1 (omega arith))
+-- a corners from v on, and the others of m from the first on, put over the first m places
+module _ (vs : List Vertex) (b : Vertex) (qs rs : List Vertex) (v m a : ℕ) (n : m ≤ length vs) (o : m ≤ 60) (l : a ≤ m) (w : v + a ≤ length vs)
+    (back : a < m → v + a ≡ length vs) (q : qs ≡ take (v + a - v) (drop v vs)) (r : rs ≡ take (m - a) vs) where
+  abbrev out : List Vertex
+  out = replicate 60 b
 
-pub loop-i-init : goal.loop-i-init
-loop-i-init c = (refl, tab_none _, blank_below 60)
+  abbrev laid : List Vertex
+  laid = put_mid a (m - a) (qs ++ drop a out) rs
 
-pub loop-i-preserved : goal.loop-i-preserved
-loop-i-preserved c =
-    let l = c.loop-i in
-    let vs = c.args.vs.now in
-    let t = turn (goal.at.loop-i-preserved c).In-Some in
-    let n = length_push l.yielded (c.in-Some.i, c.in-Some.c) in
-    rw (n, t.1) (
-      length-set l.out (length l.yielded) _ ∙ l.invariant.0,
-      more (λ k. vertex vs ((c.args.v + k) % length vs)) l.out (length l.yielded) c.in-Some.c.now (omega (arith, l.invariant.0, t.0)) l.invariant.1 t.2,
-      set_below l.out (length l.yielded) c.in-Some.c.now l.invariant.2 (rw t.2 (c.requires.4 _)),
-    )
+  ahead : length qs ≡ a
+  ahead = ap length q ∙ length-take-le (v + a - v) (drop v vs) (omega (arith, length-drop v vs)) ∙ omega arith
+
+  behind : length rs ≡ m - a
+  behind = ap length r ∙ length-take-le (m - a) vs (omega arith)
+
+  one-after : laid ≡ qs ++ (rs ++ post_of a (m - a) (qs ++ drop a out))
+  one-after = ap (λ (k : List Vertex). k ++ (rs ++ post_of a (m - a) (qs ++ drop a out))) (take_at qs (drop a out) a ahead)
+
+  long : m ≤ length laid
+  long =
+      omega (
+        arith,
+        ap length one-after,
+        length-append qs (rs ++ post_of a (m - a) (qs ++ drop a out)),
+        length-append rs (post_of a (m - a) (qs ++ drop a out)),
+        ahead,
+        behind,
+      )
+
+  place : (i : ℕ) → i < m → Dec (i < a) → vertex laid i ≡ vertex vs ((v + i) % length vs)
+  place i h (yes k) =
+      let s : v + a - v ≡ a = omega arith in
+      ap (λ (k : List Vertex). vertex k i) one-after ∙ get_or-append qs _ no_vertex i (omega (arith, ahead)) ∙ ap (λ (k : List Vertex). vertex k i) q
+      ∙ get_or-take (v + a - v) (drop v vs) i no_vertex (omega arith) ∙ get_or-drop v vs i no_vertex
+      ∙ ap (vertex vs) (sym (mod-eq_of_lt (omega arith)))
+  place i h (no k) =
+      let e : i ≡ length qs + (i - a) = omega (arith, ahead) in
+      let f : v + i ≡ (i - a) + length vs = omega (arith, back (omega arith)) in
+      ap (λ (k : List Vertex). vertex k i) one-after ∙ ap (vertex (qs ++ (rs ++ post_of a (m - a) (qs ++ drop a out)))) e
+      ∙ get_or-append-add qs _ (i - a) no_vertex ∙ get_or-append rs _ no_vertex (i - a) (omega (arith, behind))
+      ∙ ap (λ (k : List Vertex). vertex k (i - a)) r ∙ get_or-take (m - a) vs (i - a) no_vertex (omega arith)
+      ∙ ap (vertex vs) (sym (ap (λ (k : ℕ). k % length vs) f ∙ add-mod_right (i - a) (length vs) ∙ mod-eq_of_lt (omega arith)))
+
+  round : take m laid ≡ tab (λ i. vertex vs ((v + i) % length vs)) m
+  round =
+      is_tab (take m laid) (λ i. vertex vs ((v + i) % length vs)) m no_vertex (length-take-le m laid long)
+      (λ i h. get_or-take m laid i no_vertex h ∙ place i h (dec_lt i a))
+
+  -- and the last of them with a straight edge
+  pub done : 1 ≤ m → (d : Vertex) (p : (get_or laid (m - 1) d).at < 60)
+      → take m (set laid (m - 1) (record { at = (get_or laid (m - 1) d).at; edge = 60; below = p })) ≡ tab (closing vs (length vs) v m) m
+  done h d p =
+      ap (λ (k : Vertex). take m (set laid (m - 1) k))
+      (same_vertex _ (straight (vertex laid (m - 1))) (ap (λ (k : Vertex). k.at) (get_or_default laid (m - 1) d no_vertex (omega (arith, long, h)))) refl)
+      ∙ closed vs (length vs) v m laid h long round
 
 pub returns : goal.returns
 returns c =
-    let vs = c.args.vs.now in
-    let v = c.args.v in
-    let m = c.args.m in
-    let l = c.loop-i in
-    let road =
-    YieldsList-from_enumerate {s = c.into_iter-i-iterator.result}
-    (YieldsList-from_take m
-    (YieldsList-from_chain (YieldsList-from_slice (take (length vs - v) (drop v vs)) (cc)) (YieldsList-from_slice (take v vs) (cc)) (cc) (cc)) (cc)) (cc) in
-    let t = YieldsList-end road l.yielded _ l.yielded_by _ _ c.in-None.is c.next.ensures.steps in
-    let many = length-take-le m (turned vs v) (omega (arith, length-turned vs v c.requires.1)) in
-    let e : length l.yielded ≡ m = omega (arith, t.1, length-enumerate_from 0 (take m (turned vs v)), many) in
-    let f : take m l.out ≡ tab (λ k. vertex vs ((v + k) % length vs)) m = rw e at l.invariant.1 in
-    (closed vs (length vs) v m l.out c.requires.2 (omega arith) f, set_below l.out (m - 1) _ l.invariant.2 (l.invariant.2 (m - 1)))
+    let e = c.min-ahead.ensures in
+    done c.args.vs.now _ c.copy_from_slice.new.self c.copy_from_slice-2.new.self c.args.v c.args.m c.min-ahead.result c.requires.3
+    (omega (arith, c.requires.0, c.requires.3)) (omega (arith, e)) (omega (arith, e, c.requires.1)) (λ h. omega (arith, e, h))
+    c.copy_from_slice.ensures.after c.copy_from_slice-2.ensures.after c.requires.2 c.index-out-m.result _

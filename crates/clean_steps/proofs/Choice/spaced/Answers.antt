@@ -16,11 +16,11 @@ use Rattle.clean_steps.proofs.Choice.spaced.Goals.{then-not-near, else-not-near}
 pub loop-p-init : goal.loop-p-init
 loop-p-init c = (spaced-start c.args.self.now c.requires, omega arith)
 
-pub bounds-self-p : goal.bounds-self-p
-bounds-self-p c =
+pub bounds-self-from-in-loop-p : goal.bounds-self-from-in-loop-p
+bounds-self-from-in-loop-p c =
     let r = c.args.self.now in
     let h : c.loop-p.p-index < r.count - 1 = omega (arith, c.loop-p-test.true) in
-    subst (λ (x : ℕ). x < 60) (sym (after_first r.places r.count c.loop-p.p-index h)) (r.valid.low _)
+    subst (λ (x : ℕ). x < 60) (sym (c.from-in-loop-p.ensures ∙ after_first r.places r.count c.loop-p.p-index h)) (r.valid.low _)
 
 pub loop-p-preserved : goal.loop-p-preserved
 loop-p-preserved c =
@@ -33,7 +33,7 @@ loop-p-preserved c =
     let d = after_first r.places r.count l.p-index h in
     let last = get_or ring (get_or l.places (l.count - 1) 0) origin in
     let e : n.result ≡ near r.tol last (get_or ring (get_or r.places (l.p-index + 1) 0) origin) =
-    n.ensures ∙ ap (λ (x : ℕ). near r.tol last (get_or ring x origin)) d in
+    n.ensures ∙ (λ j. near r.tol (get_or ring (c.from.ensures j) origin) (get_or ring ((c.from-in-loop-p.ensures ∙ d) j) origin)) in
     elim c.if-not-near.branch [
       | then-not-near w ↦ rw (w.places-is, w.count-is) (
         subst (λ (x : ℕ). Filter r (spaced_places r.tol (chosen r)) (set l.places l.count x) (l.count + 1) (l.p-index + 1 + 1)) (sym d)

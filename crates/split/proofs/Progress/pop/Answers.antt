@@ -69,7 +69,6 @@ split_polygon_at-requires c =
       v.ensures.size.1,
       v.ensures.size.2,
       omega (arith, n, c.worst-worst.ensures.2),
-      v.ensures.below,
       c.requires.2,
       c.worst-worst.ensures.1 ∙ ap (λ (l : List GridPoint). measure_at l c.worst-worst.result.at) f,
     )
@@ -82,9 +81,9 @@ returns-in_default c =
     let v = c.part-vs in
     let vs = v.result.now in
     let l = Popped.lent s.waiting (s.waiting.count - 1) vs v.ensures.corners v.ensures.size.0 in (
-      Popped.within-gone s _ z.2 c.requires.0 vs (length vs) l.0 c.push.new.self c.push.ensures,
+      Popped.within-gone s _ z.2 c.requires.0 _ _ _ vs (length vs) l.0 c.push.new.self c.push.ensures,
       λ es len u w.
-          Popped.follows-gone s _ z.2 c.requires.0 vs (length vs) l.0 c.args.ring.now es l.1
+          Popped.follows-gone s _ z.2 c.requires.0 _ _ _ vs (length vs) l.0 c.args.ring.now es l.1
           c.args.limits u w (at g) (worst-is g) (sym (ap answer c.in_default.is) ∙ c.split_polygon_at.ensures) c.push.new.self
           c.push.ensures,
     )
@@ -94,21 +93,21 @@ first_part-first-requires c =
     let g = (goal.at.first_part-first-requires c).After-split_polygon_at in
     let r = range g c.in-Some.k c.in-Some.is in
     let v = c.part-vs.ensures in
-    (v.size.2, worst-low g, r.0, r.1, v.below, c.requires.2)
+    (v.size.2, worst-low g, r.0, r.1, c.requires.2)
 
 pub second_part-second-requires : goal.second_part-second-requires
 second_part-second-requires c =
     let g = (goal.at.second_part-second-requires c).After-split_polygon_at in
     let r = range g c.in-Some.k c.in-Some.is in
     let v = c.part-vs.ensures in
-    (v.size.2, worst-low g, r.0, r.1, v.below, c.requires.2)
+    (v.size.2, worst-low g, r.0, r.1, c.requires.2)
 
 -- the two parts, pushed
 pub as_slice-requires-2 : goal.as_slice-requires-2
 as_slice-requires-2 c =
     let r = range (goal.at.as_slice-requires-2 c).After-split_polygon_at c.in-Some.k c.in-Some.is in
     let x = c.first_part-first in
-    (omega (arith, x.type_inv, x.ensures.4, r.1, c.part-vs.ensures.size.2), x.ensures.2)
+    omega (arith, x.type_inv, x.ensures.3, r.1, c.part-vs.ensures.size.2)
 
 pub push-requires-2 : goal.push-requires-2
 push-requires-2 c =
@@ -116,20 +115,18 @@ push-requires-2 c =
     let z = tops g in
     let r = range g c.in-Some.k c.in-Some.is in
     let s = c.args.self.now in
-    let n : length c.as_slice-2.result.now ≡ c.in-Some.k + 1 = c.as_slice-2.ensures.1 ∙ c.first_part-first.ensures.4 in (
-      Popped.kept-without s _ z.2 c.requires.0,
-      omega (arith, c.requires.0.waiting.few, z.2),
+    let n : length c.as_slice-2.result.now ≡ c.in-Some.k + 1 = c.as_slice-2.ensures.1 ∙ c.first_part-first.ensures.3 in (
+      omega (arith, s.waiting.few, z.2),
       omega (arith, n, r.0),
       omega (arith, n, r.1, c.part-vs.ensures.size.2),
       omega (arith, n, r.1, z.0, z.3),
-      c.as_slice-2.ensures.2,
     )
 
 pub as_slice-requires-3 : goal.as_slice-requires-3
 as_slice-requires-3 c =
     let r = range (goal.at.as_slice-requires-3 c).After-split_polygon_at c.in-Some.k c.in-Some.is in
     let x = c.second_part-second in
-    (omega (arith, x.type_inv, x.ensures.4, r.0, r.1, c.part-vs.ensures.size.2), x.ensures.2)
+    omega (arith, x.type_inv, x.ensures.3, r.0, r.1, c.part-vs.ensures.size.2)
 
 pub push-requires-3 : goal.push-requires-3
 push-requires-3 c =
@@ -138,14 +135,12 @@ push-requires-3 c =
     let r = range g c.in-Some.k c.in-Some.is in
     let h = c.requires.0 in
     let p = c.push-2.ensures in
-    let a : length c.as_slice-2.result.now ≡ c.in-Some.k + 1 = c.as_slice-2.ensures.1 ∙ c.first_part-first.ensures.4 in
-    let b : length c.as_slice-3.result.now ≡ length c.part-vs.result.now - c.in-Some.k + 1 = c.as_slice-3.ensures.1 ∙ c.second_part-second.ensures.4 in (
-      p.kept,
+    let a : length c.as_slice-2.result.now ≡ c.in-Some.k + 1 = c.as_slice-2.ensures.1 ∙ c.first_part-first.ensures.3 in
+    let b : length c.as_slice-3.result.now ≡ length c.part-vs.result.now - c.in-Some.k + 1 = c.as_slice-3.ensures.1 ∙ c.second_part-second.ensures.3 in (
       omega (arith, p.count, h.parts, r.2, z.2),
       omega (arith, b, r.1),
       omega (arith, b, r.0, r.1, c.part-vs.ensures.size.2),
       omega (arith, p.last, a, b, r.0, r.1, r.2, z.1, z.3, z.4),
-      c.as_slice-3.ensures.2,
     )
 
 pub returns : goal.returns
@@ -162,10 +157,10 @@ returns c =
     let y = c.second_part-second in
     let q =
     Popped.halved-at c.args.ring.now _ vs (length vs) (at g) k r.1 x.result y.result c.as_slice-2.result.now c.as_slice-3.result.now
-    c.as_slice-2.ensures.0 c.as_slice-2.ensures.1 c.as_slice-3.ensures.0 c.as_slice-3.ensures.1 x.ensures.4 y.ensures.4
-    c.push-2.new.self c.push-3.new.self c.push-2.ensures c.push-3.ensures x.ensures.0 y.ensures.0 x.ensures.1 y.ensures.1 x.ensures.3 y.ensures.3 in (
-      Popped.within-cut s _ z.2 c.requires.0 vs (length vs) l.0 c.args.ring.now (at g) k r.2 c.push-3.new.self _ q,
+    c.as_slice-2.ensures.0 c.as_slice-2.ensures.1 c.as_slice-3.ensures.0 c.as_slice-3.ensures.1 x.ensures.3 y.ensures.3
+    c.push-2.new.self c.push-3.new.self c.push-2.ensures c.push-3.ensures x.ensures.0 y.ensures.0 x.ensures.1 y.ensures.1 x.ensures.2 y.ensures.2 in (
+      Popped.within-cut s _ z.2 c.requires.0 _ _ _ vs (length vs) l.0 c.args.ring.now (at g) k r.2 c.push-3.new.self _ q,
       λ es len u w.
-          Popped.follows-cut s _ z.2 c.requires.0 vs (length vs) l.0 c.args.ring.now es l.1
+          Popped.follows-cut s _ z.2 c.requires.0 _ _ _ vs (length vs) l.0 c.args.ring.now es l.1
           c.args.limits u w (at g) (worst-is g) len k (chosen g k c.in-Some.is) c.push-3.new.self _ q,
     )

@@ -1,0 +1,2 @@
+-- The marks that a caller lends.
+pub mod Lent

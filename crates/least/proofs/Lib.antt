@@ -1,0 +1,2 @@
+-- Laws of a search over counts.
+pub mod Counts
