@@ -6,11 +6,13 @@ use native.Mathlib.Omega.{arith}
 use mathlib.Core.Path.{◌≡◌, refl, sym, ap, ◌∙◌}
 use mathlib.Core.Bool.{Bool, true, false, not, cond}
 use mathlib.Core.List.{List, ◌∷◌}
-use lib.ListN.{length, get_or, take, drop, length-drop}
-use lib.Seq.{length-take-le, get_or-take, get_or-drop}
+use lib.ListN.{length, get_or, set, take, drop, replicate, length-drop}
+use lib.Seq.{length-take-le, get_or-take, get_or-drop, drop-set-lt}
 use Rattle.std.specs.List.{position, position_or_len}
 use Rattle.std.specs.Option.{unwrap_or}
 use Rattle.std.proofs.Common.{Some, None}
+use Rattle.std.proofs.lemmas.Grind.{drop_more_same}
+use Rattle.std.proofs.lemmas.List.{drop-replicate}
 use Rattle.std.proofs.lemmas.List.Sums.{prefix_len-le-length}
 use Rattle.std.proofs.lemmas.List.Recursion.{is_position_or_len}
 use lib.Dec.{eqb, ltb}
@@ -19,7 +21,7 @@ use borrow.Author.Tests.{eqb-false, ltb-false}
 use Rattle.laws.specs.Double.{nat, clamp, ◌+f◌, ◌-f◌, ◌/f◌, ◌≤f◌}
 use Rattle.laws.specs.Bounded.{first}
 use Rattle.laws.specs.Table.{tab}
-use Rattle.laws.proofs.Search.{first_ext}
+use Rattle.laws.proofs.Search.{first_ext, first_place}
 use Rattle.laws.proofs.Table.{read_tab, get_d_tab, length_tab}
 use Rattle.vector.specs.declared.GridPoint.{GridPoint}
 use Rattle.vector.specs.declared.Point.{Point}
@@ -29,8 +31,15 @@ use Rattle.root.specs.Norm.{grid_dist}
 use Rattle.root.proofs.Length.{grid_dist_comm}
 use Rattle.arclength.specs.Arclength as Arclength
 use Rattle.arclength.specs.Arclength.{point_at, step_to}
+use Rattle.laws.proofs.Lists.{after_first}
 
 -- ---- lengths
+-- one length more, and 0 in the places after it
+pub zeros-next : (l : List Float) (i : ℕ) (x : Float) → drop i l ≡ replicate (60 - i) (nat 0) → drop (i + 1) (set l i x) ≡ replicate (60 - (i + 1)) (nat 0)
+zeros-next l i x h =
+    drop-set-lt (i + 1) l i x (omega arith) ∙ drop_more_same l (replicate 60 (nat 0)) i (h ∙ sym (drop-replicate i 60 (nat 0)))
+    ∙ drop-replicate (i + 1) 60 (nat 0)
+
 module _ (c : List GridPoint) where
   back : (i : ℕ) → 0 < i → suc (i - 1) ≡ i
   back i p = omega arith
@@ -66,28 +75,9 @@ module _ (c : List GridPoint) where
 
 -- the points after the first
 pub after-first : (c : List GridPoint) (i : ℕ) → i < length c - 1 → get_or (take (length c - 1) (drop 1 c)) i origin ≡ point_at c (i + 1)
-after-first c i h = get_or-take (length c - 1) (drop 1 c) i origin h ∙ get_or-drop 1 c i origin ∙ ap (point_at c) (omega arith)
+after-first c i h = after_first c (length c) i origin h
 
 -- ---- the search for a length
--- the first place counts on
-shift : (q : ℕ → Bool) (n i : ℕ) → first q n (suc i) ≡ suc (first (λ k. q (suc k)) n i)
-unfolding first
-shift q zero i = refl
-shift q (suc n) i = go (q (suc i)) (shift q n (suc i))
-  where
-    go : (b : Bool) → first q n (suc (suc i)) ≡ suc (first (λ k. q (suc k)) n (suc i))
-        → cond b (suc i) (first q n (suc (suc i))) ≡ suc (cond b i (first (λ k. q (suc k)) n (suc i)))
-    go true e = refl
-    go false e = e
-
--- the place that `position` finds in a list, or its length, is the first of the list's places
-pub first_place : {X : Type 0} (p : X → Bool) (d : X) (xs : List X) → first (λ k. p (get_or xs k d)) (length xs) 0 ≡ position_or_len p xs
-unfolding first
-first_place {X} p d = is_position_or_len (λ xs. first (λ k. p (get_or xs k d)) (length xs) 0) p refl step
-  where
-    step : (x : X) (xs : List X) → first (λ k. p (get_or (x ∷ xs) k d)) (length (x ∷ xs)) 0 ≡ cond (p x) 0 (1 + first (λ k. p (get_or xs k d)) (length xs) 0)
-    step x xs = ap (λ (m : ℕ). cond (p x) 0 m) (shift (λ k. p (get_or (x ∷ xs) k d)) (length xs) 0 ∙ omega arith)
-
 found : {X : Type 0} (p : X → Bool) (xs : List X) → unwrap_or (position p xs) (length xs) ≡ position_or_len p xs
 found p xs = go (ltb (position_or_len p xs) (length xs)) refl
   where

@@ -4,14 +4,14 @@
 
 #![tactic(auto)]
 
-ghost use Rattle.std.specs.Prelude.{◌≡◌, cond, suc, ◌-◌, ◌≤◌, length, take, get_or, position};
+ghost use Rattle.std.specs.Prelude.{◌≡◌, cond, suc, ◌-◌, ◌≤◌, length, take, drop, get_or, position, replicate};
 ghost use Rattle.std.specs.Float.{nan};
 ghost use Rattle.laws.specs.Double.{nat, ◌-f◌, ◌/f◌, ◌≤f◌};
 ghost use Rattle.laws.specs.Double as Double;
 ghost use Rattle.laws.specs.Bounded.{first};
 ghost use Rattle.laws.specs.Table.{tab};
 ghost use Rattle.vector.specs.Plane.{in_mm, lerp};
-ghost use Rattle.vector.specs.Rings.{OnSheetPoints};
+ghost use Rattle.vector.specs.Rings.{most_points, OnSheetPoints};
 ghost use Rattle.arclength.specs.Arclength as Arclength;
 
 use vector::{GridPoint, MOST_POINTS, Point};
@@ -25,11 +25,13 @@ pub struct Steps {
     pub arc: [f64; MOST_POINTS],
 }
 
-// Every step of the chain is measured once.
+// Every step of the chain is measured once. The places after its points are 0.
 pub fn measure(chain: &[GridPoint]) -> Steps
     requires { OnSheetPoints chain.now × (1 ≤ length chain.now) }
     ensures { (take (length chain.now) result.step ≡ tab (Arclength.step_to chain.now) (length chain.now))
-        × (take (length chain.now) result.arc ≡ tab (Arclength.arc chain.now) (length chain.now)) }
+        × (take (length chain.now) result.arc ≡ tab (Arclength.arc chain.now) (length chain.now))
+        × (drop (length chain.now) result.step ≡ replicate (most_points - length chain.now) (nat 0))
+        × (drop (length chain.now) result.arc ≡ replicate (most_points - length chain.now) (nat 0)) }
 {
     let mut step = [0.0; MOST_POINTS];
     let mut arc = [0.0; MOST_POINTS];

@@ -19,6 +19,7 @@ use Rattle.cells.specs.Flat.{side_at}
 use Rattle.rim_marks.specs.Marking.{cleared, set_at, rim_marks}
 use Rattle.rim_marks.proofs.Marking.{clear-length, set-length}
 use Rattle.cells.proofs.Rims.{on_append, on_one, on_tab, kept, old, new, past, is-rims}
+use Rattle.std.proofs.Math.Bool.{or-false, or-true}
 
 -- ---- clearing
 clear_at : (rs : List ℕ) (u d k : ℕ) → k < length rs → get_or (cleared rs u d) k 0 ≡ kept u (u + d) k (get_or rs k 0)
@@ -65,22 +66,14 @@ module _ (rs ks : List ℕ) (bs : List Bool) where
       x : ℕ
       x = get_or rs k 0
 
-      or-true : (a : Bool) → cond (a || true) 1 x ≡ 1
-      or-true true = refl
-      or-true false = refl
-
-      or-false : (a : Bool) → cond a 1 x ≡ cond (a || false) 1 x
-      or-false true = refl
-      or-false false = refl
-
       go : (b : Bool) → Dec (get_or ks n 0 ≡ k) → (a : Bool) → get_or ts k 0 ≡ cond a 1 x
           → get_or (cond b (set ts (get_or ks n 0) 1) ts) k 0 ≡ cond (a || (b && eqb (get_or ks n 0) k)) 1 x
       go true (yes f) a e =
-          ap (λ (i : ℕ). get_or (set ts i 1) k 0) f ∙ get_or-set_same ts k 1 0 (omega (arith, h, set-length rs ks bs n)) ∙ sym (or-true a)
+          ap (λ (i : ℕ). get_or (set ts i 1) k 0) f ∙ get_or-set_same ts k 1 0 (omega (arith, h, set-length rs ks bs n)) ∙ ap (λ (c : Bool). cond c 1 x) (sym (or-true a))
           ∙ ap (λ (c : Bool). cond (a || c) 1 x) (sym (eq-eqb (get_or ks n 0) k f))
       go true (no f) a e =
-          get_or-set_other ts (get_or ks n 0) k 1 0 (λ g. f (sym g)) ∙ e ∙ or-false a ∙ ap (λ (c : Bool). cond (a || c) 1 x) (sym (ne_eqb (get_or ks n 0) k f))
-      go false f a e = e ∙ or-false a
+          get_or-set_other ts (get_or ks n 0) k 1 0 (λ g. f (sym g)) ∙ e ∙ ap (λ (c : Bool). cond c 1 x) (sym (or-false a)) ∙ ap (λ (c : Bool). cond (a || c) 1 x) (sym (ne_eqb (get_or ks n 0) k f))
+      go false f a e = e ∙ ap (λ (c : Bool). cond c 1 x) (sym (or-false a))
 
 -- ---- an attempt
 role-is : (b : Bool) → on_rim_of (as_middle b) ≡ b
@@ -93,7 +86,7 @@ unfolding asks_for
 asked-at vs ms c o n k =
     on_append (v_a ++ m_a) (ask c as_centre ∷ []) k
     ∙ (λ j. on_append v_a m_a k j || on_one (ask c as_centre) k j)
-    ∙ tail (on_rim_at v_a k || on_rim_at m_a k)
+    ∙ or-false (on_rim_at v_a k || on_rim_at m_a k)
     ∙ (λ j. on_tab (λ i. ask (get_or vs i 0) as_corner) n k j || on_tab (λ i. ask (get_or ms i 0) (as_middle (o i))) n k j)
     ∙ ap (λ (b : Bool). any (λ i. eqb (get_or vs i 0) k) n || b)
     (any_ext (λ i. on_rim_of (as_middle (o i)) && eqb (get_or ms i 0) k) (λ i. o i && eqb (get_or ms i 0) k) n
@@ -104,10 +97,6 @@ asked-at vs ms c o n k =
 
     m_a : List Ask
     m_a = tab (λ i. ask (get_or ms i 0) (as_middle (o i))) n
-
-    tail : (b : Bool) → (b || false) ≡ b
-    tail true = refl
-    tail false = refl
 
 -- u nodes were listed, v are; the code cleared, and set twice
 pub marked : (rs ys : List ℕ) (u v n : ℕ) (vs ms : List ℕ) (bs : List Bool) (c : ℕ) → u ≤ v → n ≤ 60 → ys ≡ rim_marks rs u v vs ms bs n

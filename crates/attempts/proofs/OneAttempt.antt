@@ -16,7 +16,6 @@ use Rattle.vector.specs.declared.GridPoint.{GridPoint}
 use Rattle.vector.specs.declared.Point.{Point}
 use Rattle.vector.specs.Grid.{origin}
 use Rattle.vector.specs.Plane.{in_mm}
-use Rattle.marks.specs.declared.Edge.{Edge}
 use Rattle.marks.specs.Part.{Part}
 use Rattle.marks.specs.declared.EdgeMark.{EdgeMark}
 use Rattle.marks.specs.declared.EdgeMark.TheVariants.{Straight}
@@ -29,17 +28,18 @@ use Rattle.nodes.proofs.Flat.{length_in, node_in, in_over, length_over, over-ove
 use Rattle.cells.specs.declared.Tried.{Tried}
 use Rattle.quads.specs.Quads.{too_far, edge_middle, total, mean, holds, cells_to, no_cell}
 use Rattle.cells.specs.Cells.{Attempt, attempt}
-use Rattle.cells.specs.Stages.{mark_at}
-use Rattle.marks.specs.Edges.{marks_in}
-use Rattle.cells.specs.Asks.{Ask, asks_for, attempt_asks}
+use Rattle.cells.specs.Stages as Stages
+use Rattle.cells.specs.Stages.{corners, middles, mark_at}
+use Rattle.cells.specs.Asks.{asks_for, attempt_asks}
 use Rattle.cells.specs.Rims.{rims_by}
 use Rattle.cells.specs.Flat.{side_at, attempt_in, attempt_asks_in, tried_of, CanTry}
 use Rattle.piece_nodes.specs.Adding.{corner_at, CanAdd, Adds, end_at, middle_at, far_at}
 use Rattle.quads.specs.Flat.{ListedTo, over_cells}
 use Rattle.quads.proofs.CellList.{cells-length}
-use Rattle.cells.proofs.Ranges.{corner-ranged, middle-ranged, mean-ranged, edge_by}
+use Rattle.cells.proofs.Ranges.{middle-ranged, mean-ranged, edge_by}
 use Rattle.piece_nodes.proofs.Adding as adding
 use Rattle.quads.proofs.Turns as turns
+use Rattle.vector.proofs.Sheet.{point_in_lem}
 
 -- ---- a mean goes by its points
 total_ext : (f g : ℕ → Float) (n : ℕ) → ((i : ℕ) → i < n → f i ≡ g i) → total f n ≡ total g n
@@ -55,76 +55,34 @@ mean_ext f g n h =
       y = total_ext (λ i. (f i).y) (λ i. (g i).y) n (λ i k. ap (λ (p : Point). p.y) (h i k)) j /f nat n;
     }
 
--- ---- the definition, the count apart from the points
-abbrev try_with : Float → List Point → List GridPoint → (ℕ → EdgeMark) → ℕ → Attempt
-try_with share ns ps e n =
-    let vs = add_nodes ns (λ i. in_mm (get_or ps i origin)) n in
-    let a : ℕ → Point = λ i. node_at vs.nodes (get_or vs.numbers (i % n) 0) in
-    let ms = add_nodes vs.nodes (λ i. edge_middle share (e i) (a i) (a (suc i))) n in
-    let cs = add_nodes ms.nodes (λ i. mean a n) 1 in
-    let qs = cells_to (get_or cs.numbers 0 0) ms.numbers vs.numbers n in
-    record {
-      nodes = cs.nodes;
-      cells = qs;
-      fails = first (λ k. not (holds cs.nodes (get_or qs k no_cell))) n 0;
-      far = any (λ i. too_far share (e i) (a i) (a (suc i))) n;
-    }
-
-same_try : (share : Float) (ns : List Point) (ps : List GridPoint) (e : ℕ → EdgeMark) → try_with share ns ps e (length ps) ≡ attempt share ns ps e
-unfolding attempt
-same_try share ns ps e = refl
-
--- what it asks for, likewise
-abbrev ask_with : Float → List Point → List GridPoint → (ℕ → EdgeMark) → (ℕ → Bool) → ℕ → List Ask
-ask_with share ns ps e o n =
-    let vs = add_nodes ns (λ i. in_mm (get_or ps i origin)) n in
-    let a : ℕ → Point = λ i. node_at vs.nodes (get_or vs.numbers (i % n) 0) in
-    let ms = add_nodes vs.nodes (λ i. edge_middle share (e i) (a i) (a (suc i))) n in
-    let cs = add_nodes ms.nodes (λ i. mean a n) 1 in
-    asks_for vs.numbers ms.numbers (get_or cs.numbers 0 0) o n
-
-same-asks : (share : Float) (ns : List Point) (ps : List GridPoint) (e : ℕ → EdgeMark) (o : ℕ → Bool)
-    → ask_with share ns ps e o (length ps) ≡ attempt_asks share ns ps e o
-unfolding attempt_asks
-same-asks share ns ps e o = refl
-
 -- a piece of the points ps, its edges marked by es
-abbrev part : List GridPoint → List Edge → Part
-part ps es = record { points = ps; edges = marks_in es (length ps) }
+abbrev part : List GridPoint → List EdgeMark → Part
+part ps es = record { points = ps; edges = take (length ps) es }
 
 -- its stages, over what the arrays and the lent list hold
-module _ (share : Float) (l : List Float) (u : ℕ) (ps : List GridPoint) (es : List Edge) where
+module _ (share : Float) (l : List Float) (u : ℕ) (ps : List GridPoint) (es : List EdgeMark) where
   abbrev Vs : Added
-  Vs = add_nodes (nodes_in l u) (corner_at ps) (length ps)
+  Vs = corners (nodes_in l u) ps
 
   abbrev end : ℕ → Point
-  end i = node_at Vs.nodes (get_or Vs.numbers (i % (length ps)) 0)
+  end i = Stages.end (nodes_in l u) ps i
 
   abbrev Ms : Added
-  Ms = add_nodes Vs.nodes (λ i. edge_middle share (get_or (marks_in es (length ps)) i Straight) (end i) (end (suc i))) (length ps)
+  Ms = middles share (nodes_in l u) ps (mark_at (part ps es))
 
   abbrev A : Attempt
-  A = try_with share (nodes_in l u) ps (mark_at (part ps es)) (length ps)
+  A = attempt_in share l u (part ps es)
 
   vs-ms : length Vs.nodes ≤ length Ms.nodes
   vs-ms =
-      (add_nodes-grown {P = Anything} Vs.nodes (λ i. edge_middle share (get_or (marks_in es (length ps)) i Straight) (end i) (end (suc i)))
+      (add_nodes-grown {P = Anything} Vs.nodes (λ i. edge_middle share (get_or (take (length ps) es) i Straight) (end i) (end (suc i)))
       (length ps) (λ i h. tt)).longer
 
   ms-all : length Ms.nodes ≤ length A.nodes
-  unfolding add_nodes
+  unfolding add_nodes attempt
   ms-all = (add_node-grown {P = Anything} Ms.nodes (mean end (length ps)) tt).longer
 
-module _ {share : Float} {l : List Float} {u : ℕ} {ps : List GridPoint} (es : List Edge) (f : CanTry share l u (part ps es)) where
-  try_is : A share l u ps es ≡ attempt_in share l u (part ps es)
-  try_is = same_try share (nodes_in l u) ps (mark_at (part ps es))
-
-  all_fit : length (A share l u ps es).nodes ≤ most_places
-  all_fit = omega (arith, ap (λ (t : Attempt). length t.nodes) try_is, f.fits)
-
-  all_room : length (A share l u ps es).nodes * 2 ≤ length l
-  all_room = omega (arith, ap (λ (t : Attempt). length t.nodes) try_is, f.room)
-
+module _ {share : Float} {l : List Float} {u : ℕ} {ps : List GridPoint} (es : List EdgeMark) (f : CanTry share l u (part ps es)) where
   pub add-corners : CanAdd l u (corner_at ps) (length ps)
   add-corners =
       let a = vs-ms share l u ps es in
@@ -133,13 +91,13 @@ module _ {share : Float} {l : List Float} {u : ℕ} {ps : List GridPoint} (es : 
         usable = f.usable;
         some = f.fair.some;
         few = f.fair.few;
-        ranged = λ j h. corner-ranged (get_or ps j origin) (f.fair.corner j h);
-        fits = omega (arith, all_fit, a, b);
-        room = omega (arith, all_room, a, b);
+        ranged = λ j h. point_in_lem (get_or ps j origin) (f.fair.corner j h);
+        fits = omega (arith, f.fits, a, b);
+        room = omega (arith, f.room, a, b);
       }
 
   -- the corners are added: m with v nodes, their numbers in the list vs, of which ks is the front
-  module _ {m : List Float} {v : ℕ} {vs ks : List ℕ} (s : Adds l u (corner_at ps) (length ps) m v vs) (k : ks ≡ take (length ps) vs) where
+  module _ {os : List ℕ} {m : List Float} {v : ℕ} {vs ks : List ℕ} (s : Adds l u (corner_at ps) (length ps) os m v vs) (k : ks ≡ take (length ps) vs) where
     after-corners : Usable m v
     after-corners = adding.usable add-corners s (le_refl (length ps))
 
@@ -173,7 +131,7 @@ module _ {share : Float} {l : List Float} {u : ℕ} {ps : List GridPoint} (es : 
 
     ms-is : add_nodes (nodes_in m v) (middle_at share m v ks es (length ks)) (length ks) ≡ Ms share l u ps es
     ms-is =
-        λ j. add_nodes (vs-now j) (λ i. edge_middle share (get_or (marks_in es (many j)) i Straight) (end_is i j) (end_is (suc i) j))
+        λ j. add_nodes (vs-now j) (λ i. edge_middle share (get_or (take (many j) es) i Straight) (end_is i j) (end_is (suc i) j))
         (many j)
 
     pub add-middles : CanAdd m v (middle_at share m v ks es (length ks)) (length ks)
@@ -185,16 +143,16 @@ module _ {share : Float} {l : List Float} {u : ℕ} {ps : List GridPoint} (es : 
           some = omega (arith, many, f.fair.some);
           few = omega (arith, many, f.fair.few);
           ranged = λ j h.
-              edge_by share InRange (get_or (marks_in es (length ks)) j Straight) (end_at m v ks (length ks) j)
+              edge_by share InRange (get_or (take (length ks) es) j Straight) (end_at m v ks (length ks) j)
               (end_at m v ks (length ks) (suc j))
               (middle-ranged (end_at m v ks (length ks) j) (end_at m v ks (length ks) (suc j)) (end-ranged j) (end-ranged (suc j)))
-              (λ q e. f.fair.snap j q (omega (arith, h, many)) (ap (λ (n : ℕ). get_or (marks_in es n) j Straight) (sym many) ∙ e));
-          fits = omega (arith, a, all_fit, b);
-          room = omega (arith, a, adding.same_size add-corners s (le_refl (length ps)), all_room, b);
+              (λ q e. f.fair.snap j q (omega (arith, h, many)) (ap (λ (n : ℕ). get_or (take n es) j Straight) (sym many) ∙ e));
+          fits = omega (arith, a, f.fits, b);
+          room = omega (arith, a, adding.same_size add-corners s (le_refl (length ps)), f.room, b);
         }
 
     -- the middles are added: m' with w nodes, their numbers in the list ws, of which ls is the front
-    module _ {m' : List Float} {w : ℕ} {ws ls : List ℕ} (t : Adds m v (middle_at share m v ks es (length ks)) (length ks) m' w ws) (g : ls ≡ take (length ps) ws)
+    module _ {os' : List ℕ} {m' : List Float} {w : ℕ} {ws ls : List ℕ} (t : Adds m v (middle_at share m v ks es (length ks)) (length ks) os' m' w ws) (g : ls ≡ take (length ps) ws)
       where
         pub after-middles : Usable m' w
         after-middles = adding.usable add-middles t (le_refl (length ks))
@@ -229,7 +187,7 @@ module _ {share : Float} {l : List Float} {u : ℕ} {ps : List GridPoint} (es : 
           p-is = c ∙ centre-is ∙ (λ j. mean (λ i. end_is i j) (many j))
 
           all-is : add_node (nodes_in m' w) p ≡ (A share l u ps es).nodes
-          unfolding add_nodes
+          unfolding add_nodes attempt
           all-is = λ j. add_node (ms-now j) (p-is j)
 
           pub centre-room : length (add_node (nodes_in m' w) p) * 2 ≤ length m'
@@ -237,7 +195,7 @@ module _ {share : Float} {l : List Float} {u : ℕ} {ps : List GridPoint} (es : 
               omega (
                 arith,
                 ap length all-is,
-                all_room,
+                f.room,
                 adding.same_size add-middles t (le_refl (length ks)),
                 adding.same_size add-corners s (le_refl (length ps)),
               )
@@ -248,7 +206,7 @@ module _ {share : Float} {l : List Float} {u : ℕ} {ps : List GridPoint} (es : 
             r-is = er ∙ (λ j. placed (ms-now j) (p-is j))
 
             nodes-is : m'' ≡ over l (A share l u ps es).nodes
-            unfolding add_nodes
+            unfolding add_nodes attempt
             nodes-is =
                 em
                 ∙ (λ j. over (t.nodes j) (all-is j))
@@ -258,11 +216,11 @@ module _ {share : Float} {l : List Float} {u : ℕ} {ps : List GridPoint} (es : 
                 ∙ over-over l (Ms share l u ps es).nodes (A share l u ps es).nodes (ms-all share l u ps es)
 
             cells_is : cells_to r.number ls ks (length ls) ≡ (A share l u ps es).cells
-            unfolding add_nodes
+            unfolding add_nodes attempt
             cells_is = λ j. cells_to (r-is j).number (ls-is j) (ks-is j) (as-many j)
 
-            used-is : r.used ≡ length (A share l u ps es).nodes
-            unfolding add_nodes
+            pub used-is : r.used ≡ length (A share l u ps es).nodes
+            unfolding add_nodes attempt
             used-is = ap (λ (r : Placed). r.used) r-is
 
             all-now : nodes_in m'' r.used ≡ (A share l u ps es).nodes
@@ -274,7 +232,7 @@ module _ {share : Float} {l : List Float} {u : ℕ} {ps : List GridPoint} (es : 
                 (add_node-number (Ms share l u ps es).nodes (mean (end share l u ps es) (length ps))).low
 
             pub used-room : r.used * 2 ≤ length m''
-            used-room = omega (arith, used-is, ap length nodes-is ∙ length_over l (A share l u ps es).nodes all_room, all_room)
+            used-room = omega (arith, used-is, ap length nodes-is ∙ length_over l (A share l u ps es).nodes f.room, f.room)
 
             more : w ≤ r.used
             more = omega (arith, ap (λ (r : Placed). r.used) er, (add_node-grown {P = Anything} (nodes_in m' w) p tt).longer, length_in m' w)
@@ -293,13 +251,10 @@ module _ {share : Float} {l : List Float} {u : ℕ} {ps : List GridPoint} (es : 
             pub used-up : u ≤ r.used
             used-up = omega (arith, adding.used-more add-corners s, adding.used-more add-middles t, more)
 
-            pub used_all : r.used ≡ length (attempt_in share l u (part ps es)).nodes
-            used_all = used-is ∙ ap (λ (t : Attempt). length t.nodes) try_is
-
             asks-is : (o : ℕ → Bool)
-                → asks_for (take (length ls) ks) (take (length ls) ls) r.number o (length ls) ≡ ask_with share (nodes_in l u)
-                ps (mark_at (part ps es)) o (length ps)
-            unfolding add_nodes
+                → asks_for (take (length ls) ks) (take (length ls) ls) r.number o (length ls)
+                ≡ attempt_asks share (nodes_in l u) ps (mark_at (part ps es)) o
+            unfolding add_nodes attempt_asks
             asks-is o =
                 let a : take (length ls) ks ≡ ks = take_all (length ls) ks (omega (arith, many, as-many)) in
                 let b : take (length ls) ls ≡ ls = take_all (length ls) ls (le_refl (length ls)) in
@@ -310,8 +265,7 @@ module _ {share : Float} {l : List Float} {u : ℕ} {ps : List GridPoint} (es : 
                 (length ls)) rs
                 → qs ≡ rims_by u (length (attempt_in share l u (part ps es)).nodes) (attempt_asks_in share l u (part ps es) bs) rs
             rims-are bs rs e =
-                let a = same-asks share (nodes_in l u) ps (mark_at (part ps es)) (side_at bs) in
-                e ∙ (λ j. rims_by u (used_all j) ((asks-is (side_at bs) ∙ a) j) rs)
+                e ∙ (λ j. rims_by u (used-is j) (asks-is (side_at bs) j) rs)
 
             -- what the function answers
             pub answer : (q : List ℕ) (bs : List Bool) (rs : List ℕ) {b : Bool} {k : Option ℕ} {q' qs : List ℕ}
@@ -324,18 +278,19 @@ module _ {share : Float} {l : List Float} {u : ℕ} {ps : List GridPoint} (es : 
                 → (◌≡◌ {A = Tried} (record { used = r.used; fails = k; far = b }) (tried_of (attempt_in share l u (part ps es))))
                 × (m'' ≡ over l (attempt_in share l u (part ps es)).nodes) × (q' ≡ over_cells q (attempt_in share l u (part ps es)).cells)
                 × (qs ≡ rims_by u (length (attempt_in share l u (part ps es)).nodes) (attempt_asks_in share l u (part ps es) bs) rs)
+            unfolding attempt
             answer q bs rs {b} {k} {q'} eb ek eq et =
                 let eb' : b ≡ (A share l u ps es).far =
                 eb
                 ∙ (λ j.
-                any (λ i. too_far share (get_or (marks_in es (many j)) i Straight) (end_is i j) (end_is (suc i) j)) (many j)) in
+                any (λ i. too_far share (get_or (take (many j) es) i Straight) (end_is i j) (end_is (suc i) j)) (many j)) in
                 let size : length ls ≡ length (A share l u ps es).cells = sym (cells-length r.number ls ks (length ls)) ∙ ap length cells_is in
                 let first-is : first (λ k. not (holds (nodes_in m'' r.used) (get_or (cells_to r.number ls ks (length ls)) k no_cell))) (length ls) 0 ≡ (A share l u ps es).fails =
                 λ j. first (λ k. not (holds (all-now j) (get_or (cells_is j) k no_cell))) (as-many j) 0 in
                 let ek' : k ≡ below (length (A share l u ps es).cells) (A share l u ps es).fails =
                 ek ∙ (λ j. below (size j) (first-is j)) in (
-                  (λ j. record { used = used-is j; fails = ek' j; far = eb' j }) ∙ ap tried_of try_is,
-                  nodes-is ∙ ap (λ (t : Attempt). over l t.nodes) try_is,
-                  eq ∙ ap (over_cells q) cells_is ∙ ap (λ (t : Attempt). over_cells q t.cells) try_is,
+                  λ j. record { used = used-is j; fails = ek' j; far = eb' j },
+                  nodes-is,
+                  eq ∙ ap (over_cells q) cells_is,
                   rims-are bs rs et,
                 )

@@ -57,7 +57,8 @@ fn write_body(out: &mut [u8], points: &[i32], size: u32, number: u32)
     requires { (512 ≤ length out.old) × (length points.now / 2 ≤ 60) × (number ≤ 65535) }
     ensures { out.new ≡ Writing.body_bytes points.now size number ++ drop 508 out.old }
 {
-    // Kept: w is counted, since the library says nothing of the bytes after a loop over their as_chunks_mut.
+    // Kept: w is counted. Of a loop over `out[..508].as_chunks_mut::<4>()` (tried) all closes but the answer: the library says nothing
+    // of what `out` ends as.
     for w in 0..127 {
         let at = w * 4;
         put_word(&mut out[at..], field(points, size, number, w));

@@ -27,7 +27,8 @@ use Rattle.call.specs.Call.{Lists, Call, lists_of, made_by, no_test, tests}
 pub use Rattle.call.specs.Divide.{Whole, outcome_of}
 use Rattle.call.specs.Divide.{CallAnswer, refused, refused_or, ring_tests, answered, core, cleaned_ring, start_of, divide}
 use Rattle.call.specs.Demand.{Prepared}
-use Rattle.call.proofs.Tests.{Passed, passed_by, not-false}
+use Rattle.call.proofs.Tests.{Passed, passed_by}
+use Rattle.laws.proofs.Booleans.{not-false}
 
 -- ---- tests, and what follows them
 module _ (x : Lists) (rs : List Refusal) (a : CallAnswer) where

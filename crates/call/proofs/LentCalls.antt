@@ -39,7 +39,7 @@ use Rattle.cells.proofs.Rims.{rims-none, rims_then, rims_length, rims-told, rims
 use Rattle.limits.specs.Sets.{practice_set}
 use Rattle.call.specs.Call.{Lists, Call, lists_of, over24, no_test}
 use Rattle.call.specs.Divide.{CallAnswer, asked, start_of}
-use Rattle.call.specs.Lent.{call_by, tests_for, divide_for, divide_lent, divide_records, divide_practice, all_cells}
+use Rattle.call.specs.Lent.{call_by, tests_for, divide_for, divide_lent, divide_records, divide_practice, all_cells, lent_lists}
 use Rattle.call.specs.Marked.{all_points, marked_lists, marked_start, marked_tests, divide_marked}
 use Rattle.call.specs.LentCalls.{Given, GivenMarked, LentCall, numbers, records, marked, practice, Pool, empty, lend, lend_marked, answer_of}
 use Rattle.call.specs.LentCalls.{leaves, run, start_in, limits_of, allowance, laid_out, asks_of, asks_over, LentCalls}
@@ -146,7 +146,7 @@ module _ (s : Pool) (h : Holds s) (a : CallAnswer) where
 
 -- the lists that the pool and the cells cs stand for, k of them used
 abbrev lists : Pool → List Cell → ℕ → Lists
-lists s cs k = record { nodes = nodes_in s.doubles (length s.doubles / 2); node_count_of = s.count; rims = s.rims; cells = cs; cell_count_of = k }
+lists s cs k = lent_lists s.doubles s.count s.rims cs k
 
 module _ (L : Limits) (p : Part) (s : Pool) (h : Holds s) (cs : List Cell) (k : ℕ) (a : CallAnswer) (left : NodesLeft L p (lists s cs k) a) where
   used-before : take s.count (nodes_in s.doubles (length s.doubles / 2)) ≡ used s

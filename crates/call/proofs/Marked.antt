@@ -13,7 +13,7 @@ use lib.IntN.{ℤ}
 use lib.Ieee.{Float}
 use Rattle.laws.specs.Bounded.{any}
 use Rattle.laws.specs.Table.{tab}
-use Rattle.laws.proofs.Booleans.{is_true, neither}
+use Rattle.laws.proofs.Booleans.{is_true, neither, and_both, not-false}
 use Rattle.laws.proofs.Search.{any_at, any_hit}
 use Rattle.laws.proofs.Table.{get_d_tab}
 use Rattle.vector.specs.declared.GridPoint.{GridPoint}
@@ -44,7 +44,7 @@ use Rattle.call.specs.Demand.{Ready, Prepared, AcceptedCall}
 use Rattle.call.specs.Lent.{odd}
 use Rattle.call.specs.Marked.{Marking, all_points, mark_of, lead_point, lead_line, given_mark, marked_by, mark_out, marks_out, called_for, loops_out}
 use Rattle.call.specs.Marked.{outline_out, LentMarked, marked_lists, marked_start, marked_made, marked_tests, divide_marked}
-use Rattle.call.proofs.Tests.{and_both, not-false, points_on_sheet, counts_in, points_in_lem, ready}
+use Rattle.call.proofs.Tests.{points_on_sheet, counts_in, points_in_lem, ready}
 use Rattle.call.proofs.Demand.{demand3_by}
 
 -- ---- what 13 and 14 leave

@@ -1,5 +1,5 @@
--- What a ring leaves of the node list, accepted or refused, of every entry, for every set of limits and whatever the list held before (`nodes-left_by`; of
--- the divider call `nodes-left`). Every node that was used has its number and its bits, and after them come nodes none of whose keys is listed before it; the
+-- What a ring leaves of the node list, accepted or refused, of every entry, for every set of limits and whatever the list held before (`nodes-left_by`).
+-- Every node that was used has its number and its bits, and after them come nodes none of whose keys is listed before it; the
 -- list keeps its places, and the used count stays among them; at most 2n + c + 2s + 1 nodes are added; and the used nodes are finite and within 1,024 mm if
 -- they were before.
 use Prim.Native.Nat.{ℕ, suc, ◌+◌, ◌≤◌, ◌<◌}
@@ -30,11 +30,11 @@ use Rattle.cells.proofs.Attempts.{pieces-any}
 use Rattle.cells.proofs.Ranges.{straight≢snap, pieces_in_range}
 use Rattle.cells.proofs.Bound.{pieces-most}
 use Rattle.table.specs.Refusals.{Refusal, Passes, numbered}
-use Rattle.call.specs.Call.{Lists, used_in, Call, lists_of, tests}
-use Rattle.call.specs.Divide.{CallAnswer, put, refused, refused_or, answered, core, start_of, divide}
+use Rattle.call.specs.Call.{Lists, used_in}
+use Rattle.call.specs.Divide.{CallAnswer, put, refused, refused_or, answered, core}
 use Rattle.call.specs.Demand.{Prepared, pieces_of, log_of}
 use Rattle.call.specs.LentCalls.{allowance}
-use Rattle.call.proofs.Course.{outcome_of, Divisible, Course, away, ran, course, prepared_if}
+use Rattle.call.proofs.Course.{outcome_of, Divisible, Course, away, ran, course}
 use Rattle.call.proofs.PiecesFrom.{ends, diagonals_of, cut-from, piece-corners}
 
 marks-most : (es : List EdgeMark) → mark_count es ≤ length es
@@ -150,7 +150,3 @@ module _ (L : Limits) (r : ℕ) (p : Part) (x : Lists) where
       go : Course L r p x a → NodesLeft L p x a
       go (away n t e) = subst (NodesLeft L p x) (sym e) (refused-left L p x n)
       go (ran s e) = subst (NodesLeft L p x) (sym e) (answered-left s)
-
-pub nodes-left : (L : Limits) (c : Call) → NodesLeft L (start_of c) (lists_of c) (divide L c)
-unfolding divide
-nodes-left L c = nodes-left_by L (length c.ring) (start_of c) (lists_of c) (tests L c) tt (prepared_if L c)

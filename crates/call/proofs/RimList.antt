@@ -1,5 +1,5 @@
 -- Card 12: what a ring leaves of the rim marks, accepted or refused, of every entry, for every set of limits and whatever the lists held before
--- (`rims-left_by`; of the divider call `rims-left`). The marks are those that its asks leave, each of them for a node that is then listed; every new node was
+-- (`rims-left_by`). The marks are those that its asks leave, each of them for a node that is then listed; every new node was
 -- asked for; a mark that was set stays set; a refusal other than 8 changes none; and there is a mark for each used node if there was before.
 use Prim.Native.Nat.{ℕ, ◌≤◌, ◌<◌}
 use native.Mathlib.Omega.{arith}
@@ -20,11 +20,11 @@ use Rattle.cells.specs.Rims.{rims_by, AskedFor}
 use Rattle.cells.proofs.Rims.{rims-none, rims_length, rims-stay}
 use Rattle.cells.proofs.Asking.{asks-listed, asks-cover}
 use Rattle.table.specs.Refusals.{Refusal, Passes, turns_away, numbered}
-use Rattle.call.specs.Call.{Lists, used_in, Call, lists_of, tests}
-use Rattle.call.specs.Divide.{CallAnswer, refused, refused_or, answered, asked, rims_left, core, start_of, divide}
+use Rattle.call.specs.Call.{Lists, used_in}
+use Rattle.call.specs.Divide.{CallAnswer, refused, refused_or, answered, asked, rims_left, core}
 use Rattle.call.specs.Demand.{Prepared, pieces_of}
 use Rattle.call.specs.LentCalls.{laid_out}
-use Rattle.call.proofs.Course.{outcome_of, Divisible, Course, away, ran, course, refused-code, prepared_if}
+use Rattle.call.proofs.Course.{outcome_of, Divisible, Course, away, ran, course, refused-code}
 use Rattle.call.proofs.NodeList.{fits}
 
 -- what the ring p asks for over the lists x, a being the answer
@@ -122,7 +122,3 @@ module _ (L : Limits) (r : ℕ) (p : Part) (x : Lists) where
       go : Course L r p x a → RimsLeft L p x a
       go (away m t e) = subst (RimsLeft L p x) (sym e) (refused-left L p x m t)
       go (ran s e) = subst (RimsLeft L p x) (sym e) (answered-left s)
-
-pub rims-left : (L : Limits) (c : Call) → RimsLeft L (start_of c) (lists_of c) (divide L c)
-unfolding divide
-rims-left L c = rims-left_by L (length c.ring) (start_of c) (lists_of c) (tests L c) tt (prepared_if L c)

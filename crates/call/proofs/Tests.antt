@@ -12,7 +12,7 @@ use lib.ListN.{length, get_or, get_or-eq_default}
 use lib.Dec.{T, ltb, eqb, nltb→le}
 use borrow.Author.Tests.{ltb-false}
 use Rattle.laws.specs.Bounded.{any}
-use Rattle.laws.proofs.Booleans.{not-of, not-not, neither}
+use Rattle.laws.proofs.Booleans.{not-of, not-not, neither, and_both, not-false}
 use Rattle.laws.proofs.Search.{any_none}
 use Rattle.vector.specs.declared.GridPoint.{GridPoint}
 use Rattle.vector.specs.declared.Point.{Point}
@@ -29,15 +29,6 @@ use Rattle.limits.proofs.Taken.{most-cuts}
 use Rattle.call.specs.Call.{Lists, used_in, Call, lists_of, counts_out, beyond, outside, any_outside, units_out, held, usable, rims_out, lists_over}
 use Rattle.call.specs.Call.{lists_out, node_reserve, cell_reserve, most_places, room_out_of, made_by, no_test, tests}
 use Rattle.call.specs.Demand.{Ready}
-
--- ---- tests that fail, and tests that hold
-pub and_both : (a b : Bool) → T (a && b) → T a × T b
-and_both true b t = (tt, t)
-and_both false b t = absurd t
-
-pub not-false : (b : Bool) → not b ≡ false → T b
-not-false true e = tt
-not-false false e = absurd (subst T e tt)
 
 -- ---- the points
 within-limits : (z : ℤ) → T (not (beyond z)) → nat_abs z ≤ 8388608

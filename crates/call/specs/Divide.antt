@@ -1,7 +1,8 @@
 -- 01, What is returned: the whole call, accepted or refused, with every value of the table and every place of the lists. An entry tests, prepares a ring with
 -- its marks, and hands it to the core, which is one for all of them.
-use Rattle.std.specs.Prelude.{ℕ, ◌+◌, ◌≤◌, Bool, not, cond, List, [], ◌∷◌, ◌++◌, length, take, drop, replicate, T, ltb, eqb, pos, nat_abs}
+use Rattle.std.specs.Prelude.{ℕ, ◌+◌, ◌≤◌, Bool, not, cond, List, [], ◌∷◌, length, replicate, T, ltb, eqb, pos, nat_abs}
 use Rattle.std.specs.Int.Signed.{lt_z}
+pub use Rattle.laws.specs.Lists.{put}
 use Rattle.vector.specs.declared.GridPoint.{GridPoint}
 use Rattle.vector.specs.declared.Point.{Point}
 use Rattle.vector.specs.Grid.{polygon_area}
@@ -36,10 +37,6 @@ refused x n = record { row = refused_row n x.node_count_of x.cell_count_of; node
 -- refused by the first of the tests that holds; if none does, the answer a
 abbrev pub refused_or : Lists → List Refusal → CallAnswer → CallAnswer
 refused_or x rs a = cond (eqb (first_of rs) 0) a (refused x (first_of rs))
-
--- the list l with vs over its places from i on
-abbrev pub put {ℓ} : {A : Type ℓ} → List A → ℕ → List A → List A
-put l i vs = take i l ++ vs ++ drop (i + length vs) l
 
 -- ---- the core: a ring of r points, p what cleaning left of it with the marks of its edges, and the lists x
 -- 5 "under 3 points after cleaning", 6 "not simple after cleaning", 7 "cleaned doubled area not above 0"

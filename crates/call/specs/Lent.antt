@@ -9,7 +9,7 @@ use Rattle.nodes.specs.Flat.{nodes_in}
 use Rattle.quads.specs.declared.Cell.{Cell}
 use Rattle.table.specs.Refusals.{Refusal, ◌when◌, in_order}
 use Rattle.limits.specs.Sets.{practice_set}
-use Rattle.call.specs.Call.{Call, lists_of, over24, made_by, no_test}
+use Rattle.call.specs.Call.{Lists, Call, lists_of, over24, made_by, no_test}
 use Rattle.call.specs.Divide.{CallAnswer, refused_or, core, start_of}
 
 -- point i, and the first n points
@@ -28,6 +28,10 @@ cells_in l n = tab (cell_in l) n
 
 abbrev pub all_cells : List ℕ → List Cell
 all_cells l = cells_in l (length l / 4)
+
+-- the lists that doubles and numbers hold, with the cells cs: u nodes and k cells of them used, t the rim marks
+abbrev pub lent_lists : List Float → ℕ → List ℕ → List Cell → ℕ → Lists
+lent_lists l u t cs k = record { nodes = nodes_in l (length l / 2); node_count_of = u; rims = t; cells = cs; cell_count_of = k }
 
 -- what a caller lends, its cells in a list of A
 pub record LentOf (A : Type 0) : Type 0 where
@@ -89,6 +93,9 @@ unfoldable pub divide_lent : Limits → Lent → CallAnswer
 divide_lent L l = divide_by all_cells L l
 
 -- 02, Card 8: the practice paper has "an entry of its own over the same divider", its own test of the counts and its own set
+abbrev pub practice_tests : Lent → List Refusal
+practice_tests l = tests_for over24 all_cells practice_set l
+
 unfoldable pub divide_practice : Lent → CallAnswer
 divide_practice l = divide_for over24 all_cells practice_set l
 

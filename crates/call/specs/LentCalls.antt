@@ -14,8 +14,8 @@ use Rattle.cells.specs.Asks.{Ask}
 use Rattle.cells.specs.Rims.{AskedFor, Told}
 use Rattle.call.specs.Divide.{CallAnswer, asked, start_of}
 use Rattle.limits.specs.Sets.{practice_set}
-use Rattle.call.specs.Lent.{LentOf, call_of, divide_lent, divide_practice, call_of_records, divide_records}
-use Rattle.call.specs.Marked.{Marking, LentMarked, marked_start, divide_marked}
+use Rattle.call.specs.Lent.{LentOf, call_of, divide_lent, divide_practice, call_of_records, divide_records, lent}
+use Rattle.call.specs.Marked.{Marking, LentMarked, marked_start, divide_marked, lent_marked}
 
 -- "each brings its own ring, chain, sheet size, cell list and cell count": and the set of limits, which the practice entry does not look at
 pub record Given (A : Type 0) : Type 0 where
@@ -53,30 +53,11 @@ abbrev pub empty : List Float → List ℕ → Pool
 empty l rs = record { doubles = l; count = 0; rims = rs }
 
 abbrev pub lend : {A : Type 0} → Pool → Given A → LentOf A
-lend s g =
-    record {
-      ring = g.ring;
-      chain = g.chain;
-      size = g.size;
-      nodes = s.doubles;
-      node_count_of = s.count;
-      rims = s.rims;
-      cells = g.cells;
-      cell_count_of = g.cell_count_of;
-    }
+lend s g = lent g.ring g.chain g.size s.doubles s.count s.rims g.cells g.cell_count_of
 
 abbrev pub lend_marked : Pool → GivenMarked → LentMarked
 lend_marked s g =
-    record {
-      ring = g.ring;
-      marking = g.marking;
-      size = g.size;
-      nodes = s.doubles;
-      node_count_of = s.count;
-      rims = s.rims;
-      cells = g.cells;
-      cell_count_of = g.cell_count_of;
-    }
+    lent_marked g.ring g.marking g.size s.doubles s.count s.rims g.cells g.cell_count_of
 
 -- what each entry answers, what it leaves of the node list, and one call after the other, accepted or refused
 abbrev pub answer_of : Pool → LentCall → CallAnswer

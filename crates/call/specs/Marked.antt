@@ -15,13 +15,13 @@ use Rattle.marks.specs.declared.EdgeMark.{EdgeMark}
 use Rattle.marks.specs.declared.EdgeMark.TheVariants.{Straight, Snap}
 use Rattle.marks.specs.Part.{Part}
 use Rattle.limits.specs.declared.Limits.{Limits}
-use Rattle.nodes.specs.Flat.{node_in_of, nodes_in}
+use Rattle.nodes.specs.Flat.{node_in_of}
 use Rattle.quads.specs.Quads.{middle}
 use Rattle.table.specs.Refusals.{Refusal, Tests, in_order}
 use Rattle.limits.specs.Sets.{limits_out}
 use Rattle.call.specs.Call.{Lists, held, any_outside, counts_out, units_out, lists_out, room_out_of}
 use Rattle.call.specs.Divide.{CallAnswer, refused_or, core}
-use Rattle.call.specs.Lent.{points_in, all_cells, odd}
+use Rattle.call.specs.Lent.{points_in, all_cells, odd, lent_lists}
 
 -- the marks as they are lent: mark i has kind i, 0 straight, 1 snapped to point i of the snaps, in mm, 2 snapped to the outline; the points of all loops of
 -- the outline one after the other, the rim first, and how many points each loop has
@@ -87,15 +87,13 @@ pub record LentMarked : Type 0 where
   pub cells : List ℕ
   pub cell_count_of : ℕ
 
+-- the same of its parts, in the order in which every entry takes them
+abbrev pub lent_marked : List ℤ → Marking → ℕ → List Float → ℕ → List ℕ → List ℕ → ℕ → LentMarked
+lent_marked ring marking size nodes node_count_of rims cells cell_count_of =
+    record { ring = ring; marking = marking; size = size; nodes = nodes; node_count_of = node_count_of; rims = rims; cells = cells; cell_count_of = cell_count_of }
+
 abbrev pub marked_lists : LentMarked → Lists
-marked_lists l =
-    record {
-      nodes = nodes_in l.nodes (length l.nodes / 2);
-      node_count_of = l.node_count_of;
-      rims = l.rims;
-      cells = all_cells l.cells;
-      cell_count_of = l.cell_count_of;
-    }
+marked_lists l = lent_lists l.nodes l.node_count_of l.rims (all_cells l.cells) l.cell_count_of
 
 -- the ring that the core gets
 abbrev pub marked_start : LentMarked → Part

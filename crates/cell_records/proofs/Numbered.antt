@@ -19,9 +19,8 @@ use Rattle.call.specs.Divide.{put, core, start_of}
 use Rattle.call.specs.Lent.{point_in, cells_in, all_cells, LentRecords, call_of_records, tests_by, divide_by, divide_records}
 use Rattle.call.proofs.Course.{by_tests, refused-code, prepared_if}
 use Rattle.call.proofs.Tests.{passed}
-use Rattle.divider.specs.declared.CellRoom.{CellRoom}
 use Rattle.divider.specs.Promise.{Leaves}
-use Rattle.divider.specs.Steps.{lists_in, divide_into, HasRoom}
+use Rattle.divider.specs.Steps.{lists_in, divide_into}
 use Rattle.divider.proofs.WrittenOut.{cells_out}
 use Rattle.cell_records.specs.declared.Laid.{Laid}
 use Rattle.cell_records.specs.Records.{Numbers, new_cells, laid_of}
@@ -29,10 +28,6 @@ use Rattle.cell_records.proofs.Recorded.{cells-read}
 use Rattle.cell_records.proofs.Moved.{Moved, moved}
 
 module _ (L : Limits) (few : L.cuts ≤ 32) (q : List ℕ) (long : length q ≡ 496) where
-  -- the numbers have room for every ring
-  pub has_room : (w : CellRoom) → w.at ≡ 0 → HasRoom L w q
-  has_room w z = record { reserve = λ r h k. omega (arith, few, long, h, z) }
-
   module _ (l : LentRecords) where
     abbrev c : Call
     c = call_of_records l

@@ -30,16 +30,16 @@ pub struct Laid {
     pub values: Row,
 }
 
-// The first n cells of the numbers go into the list, from place `at` on.
-fn write(cells: &mut [Cell], at: usize, numbers: &[NodeNumber; 496], n: usize)
-    requires { (n ≤ 124) × (0 < n → at + n ≤ length cells.old) }
-    ensures { cells.new ≡ written cells.old at numbers.now n }
+// The cells laid go into the list.
+fn write(cells: &mut [Cell], laid: &Laid)
+    requires { (laid.now.count ≤ 124) × (0 < laid.now.count → laid.now.at + laid.now.count ≤ length cells.old) }
+    ensures { cells.new ≡ written cells.old laid.now.at laid.now.numbers laid.now.count }
 {
-    let (fours, _) = numbers.as_chunks::<4>();
+    let (fours, _) = laid.numbers.as_chunks::<4>();
     // Kept: the place is counted. Of `cells[at..].iter_mut().zip(..)` the library doesn't say what the list holds after the loop, and
     // where there is no cell, `at` may lie beyond the list.
-    for (k, four) in fours[..n].iter().enumerate() {
-        cells[at + k] = Cell::from(*four);
+    for (k, four) in fours[..laid.count].iter().enumerate() {
+        cells[laid.at + k] = Cell::from(*four);
     }
 }
 
@@ -127,6 +127,6 @@ pub fn ring_divide_cells(
         cells.len(),
         cell_count,
     );
-    write(cells, laid.at, &laid.numbers, laid.count);
+    write(cells, &laid);
     laid.values
 }

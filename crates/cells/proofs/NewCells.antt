@@ -21,7 +21,7 @@ use Rattle.nodes.specs.Growth.{Grown, Anything}
 use Rattle.nodes.proofs.Growth.{add_nodes-grown, add_nodes-length, add_nodes-number}
 use Rattle.quads.specs.declared.Cell.{Cell}
 use Rattle.quads.specs.Quads.{edge_middle, mean, cells_to}
-use Rattle.quads.proofs.CellList.{cells-length}
+use Rattle.quads.proofs.CellList.{cells-length, cell_of}
 use Rattle.cells.specs.Cells.{Attempt, attempt, subdivide}
 use Rattle.cells.specs.Pieces.{Outcome, done, failed, onward, pieces_to}
 use Rattle.cells.specs.Stages.{corners, end, middles, centre, mark_at, straight, nodes_of}
@@ -36,15 +36,12 @@ listed-later m n h l a =
 
 -- ---- the cells of n middles and n corners whose numbers are below m
 module _ (m c : ℕ) (ms vs : List ℕ) where
-  abbrev cell : ℕ → Cell
-  cell k = record { a = c; b = get_or ms k 0; c = get_or vs (suc k % length vs) 0; d = get_or ms (suc k % length ms) 0 }
-
   cells-listed : (n k : ℕ) → c < m → ((i : ℕ) → i < n → get_or ms i 0 < m) → ((i : ℕ) → i < n → get_or vs i 0 < m) → length ms ≡ n → length vs ≡ n → k ≤ n
       → All (Listed m) (cells_to c ms vs k)
   unfolding cells_to
   cells-listed n zero h f g u v l = tt
   cells-listed n (suc k) h f g u v l =
-      all_snoc (Listed m) (cells_to c ms vs k) (cell k) (cells-listed n k h f g u v (omega arith))
+      all_snoc (Listed m) (cells_to c ms vs k) (cell_of c ms vs k) (cells-listed n k h f g u v (omega arith))
       (record { a = h; b = f k l; c = g (suc k % length vs) (wrap vs v); d = f (suc k % length ms) (wrap ms u) })
     where
       wrap : (xs : List ℕ) → length xs ≡ n → suc k % length xs < n

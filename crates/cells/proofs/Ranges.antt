@@ -34,12 +34,9 @@ use Rattle.cells.specs.Pieces.{Outcome, onward, pieces_to}
 use Rattle.cells.specs.Stages.{corners, end, mark_at, straight, first_nodes, nodes_of}
 use Rattle.cells.specs.Claims.{ValidPiece}
 use Rattle.cells.proofs.Attempts.{attempt-grown, subdivide-grown, onward-grown}
+use Rattle.vector.proofs.Sheet.{point_in_lem}
 
--- ---- a corner, a middle, a mean
-pub corner-ranged : (p : GridPoint) → OnSheet p → InRange (in_mm p)
-unfolding in_mm Units.mm
-corner-ranged p h = (mm-within p.x h.x, mm-within p.y h.y)
-
+-- ---- a middle, a mean
 pub middle-ranged : (a b : Point) → InRange a → InRange b → InRange (middle a b)
 unfolding middle
 middle-ranged a b h k = (coordinate a.x b.x h.0 k.0, coordinate a.y b.y h.1 k.1)
@@ -91,7 +88,7 @@ module _ (share : Float) where
       ps = p.points
 
       new : (i : ℕ) → i < length ps → InRange (in_mm (get_or ps i origin))
-      new i l = corner-ranged (get_or ps i origin) (f.corner i l)
+      new i l = point_in_lem (get_or ps i origin) (f.corner i l)
 
       ends : (i : ℕ) → InRange (end ns ps i)
       ends i =

@@ -20,21 +20,14 @@ use Rattle.laws.proofs.Booleans.{or-true}
 use Rattle.laws.proofs.Table.{length_tab, get_d_tab}
 use Rattle.cells.specs.Asks.{Ask, on_rim_of}
 use Rattle.cells.specs.Rims.{on_rim_at, rim_at, rims_by, AskedOnRim, Told, rim, inside}
+use Rattle.std.proofs.Math.Bool.{or-false, or_assoc}
 
 -- ---- who asked, of asks and then of more
-or_assoc : (a b c : Bool) → (a || (b || c)) ≡ (a || b || c)
-or_assoc true b c = refl
-or_assoc false b c = refl
-
-or-false : (a : Bool) → (a || false) ≡ a
-or-false true = refl
-or-false false = refl
-
 pub on_append : (a b : List Ask) (k : ℕ) → on_rim_at (a ++ b) k ≡ (on_rim_at a k || on_rim_at b k)
 unfolding on_rim_at
 on_append [] b k = refl
 on_append (q ∷ a) b k =
-    ap (λ (x : Bool). (on_rim_of q.role && eqb q.node k) || x) (on_append a b k) ∙ or_assoc (on_rim_of q.role && eqb q.node k) (on_rim_at a k) (on_rim_at b k)
+    ap (λ (x : Bool). (on_rim_of q.role && eqb q.node k) || x) (on_append a b k) ∙ sym (or_assoc (on_rim_of q.role && eqb q.node k) (on_rim_at a k) (on_rim_at b k))
 
 pub on_one : (q : Ask) (k : ℕ) → on_rim_at (q ∷ []) k ≡ (on_rim_of q.role && eqb q.node k)
 unfolding on_rim_at

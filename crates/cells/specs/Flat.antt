@@ -1,7 +1,6 @@
 -- A piece as the code has it; the lent node list of nodes' Flat, and a lent list that holds a
 -- cell as four numbers; what the functions ask of these, and what they answer. Definitions only.
-use Rattle.std.specs.Prelude.{ℕ, ◌*◌, ◌≤◌, Bool, false, List, length, get_or, Float}
-use Rattle.marks.specs.Edges.{marks_in}
+use Rattle.std.specs.Prelude.{ℕ, ◌*◌, ◌≤◌, Bool, false, List, length, get_or, take, Float}
 use Rattle.marks.specs.Part.{Part}
 use Rattle.nodes.specs.Nodes.{most_places}
 use Rattle.nodes.specs.Flat.{nodes_in, Usable}
@@ -15,7 +14,7 @@ use Rattle.cells.specs.Asks.{Ask, attempt_asks, subdivide_asks}
 
 -- ---- a piece: its points and the marks of its edges
 abbrev pub part_of : Piece → Part
-part_of p = record { points = p.points.now; edges = marks_in p.edges.now (length p.points.now) }
+part_of p = record { points = p.points.now; edges = take (length p.points.now) p.edges.now }
 
 -- ---- which edges of a piece are ring edges, as a list says
 abbrev pub side_at : List Bool → ℕ → Bool

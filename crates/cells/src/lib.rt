@@ -8,14 +8,14 @@
 
 ghost use Rattle.std.specs.Prelude.{◌≡◌, ◌≤◌, length};
 
-use marks::Edge;
+use marks::EdgeMark;
 use vector::GridPoint;
 
 // A piece: its points, the marks of its edges, and which of them are edges of the ring.
 #[derive(Clone, Copy)]
 pub struct Piece<'a> {
     pub points: &'a [GridPoint],
-    pub edges: &'a [Edge],
+    pub edges: &'a [EdgeMark],
     pub sides: &'a [bool],
     ghost marked: { length edges.now ≡ length points.now },
     ghost sided: { length points.now ≤ length sides.now },

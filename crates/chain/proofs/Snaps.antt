@@ -22,7 +22,7 @@ use Rattle.laws.proofs.Quotient.{quotient-real, above_zero}
 use Rattle.laws.proofs.Search.{first-le}
 use Rattle.vector.specs.declared.GridPoint.{GridPoint}
 use Rattle.vector.specs.Plane.{in_mm, lerp}
-use Rattle.vector.specs.Size.{InSheet}
+use Rattle.vector.specs.Size.{InRange}
 use Rattle.vector.proofs.Sheet.{point_in_lem, between_in}
 use Rattle.arclength.specs.Arclength.{point_at, arc, point_at_arclength}
 use Rattle.arclength.proofs.Lengths.{arc-within}
@@ -38,7 +38,7 @@ parameter_unit s from span h k l n =
     (quotient-real binary64 (s -f from) span (sub_within binary64 (2 ^ 20) (2 ^ 20) s from (lit≤ tt) h k).0 l.0 (above_zero span l.0 n))
 
 module _ (c : List GridPoint) (h : ChainOnSheet c) where
-  pub point_at_arclength_in_range : (s : Float) → Within (2 ^ 20) s → InSheet (point_at_arclength c s)
+  pub point_at_arclength_in_range : (s : Float) → Within (2 ^ 20) s → InRange (point_at_arclength c s)
   unfolding point_at_arclength
   point_at_arclength_in_range s w = go (span ≤f nat 0) refl
     where
@@ -58,7 +58,7 @@ module _ (c : List GridPoint) (h : ChainOnSheet c) where
       span = arc c (suc i) -f arc c i
 
       go : (b : Bool) → span ≤f nat 0 ≡ b
-          → InSheet (cond b (in_mm (point_at c (suc i))) (lerp (in_mm (point_at c i)) (in_mm (point_at c (suc i))) (clamp (nat 0) (nat 1) ((s -f arc c i) /f span))))
+          → InRange (cond b (in_mm (point_at c (suc i))) (lerp (in_mm (point_at c i)) (in_mm (point_at c (suc i))) (clamp (nat 0) (nat 1) ((s -f arc c i) /f span))))
       go true e = point_in_lem (point_at c (suc i)) (h.each (suc i))
       go false e =
           between_in (point_at c i) (point_at c (suc i)) (clamp (nat 0) (nat 1) ((s -f arc c i) /f span)) (h.each i) (h.each (suc i))
@@ -66,7 +66,7 @@ module _ (c : List GridPoint) (h : ChainOnSheet c) where
           (subst (λ (b : Bool). T (not b)) (sym e) tt))
 
   -- ---- every kept stretch
-  stretch_in_lem : (i j : ℕ) → i ≤ 60 → j ≤ 60 → InSheet (stretch c i j).snap
+  stretch_in_lem : (i j : ℕ) → i ≤ 60 → j ≤ 60 → InRange (stretch c i j).snap
   unfolding stretch
   stretch_in_lem i j a b =
       point_at_arclength_in_range (lit 5 1 *f (arc c i +f arc c j))
@@ -82,14 +82,14 @@ module _ (c : List GridPoint) (h : ChainOnSheet c) where
       go true l = le_refl (suc i)
       go false l = omega arith
 
-  one_more : (ss : List Stretch) (s : Stretch) → SnapsInRange ss → InSheet s.snap → SnapsInRange (ss ++ (s ∷ []))
+  one_more : (ss : List Stretch) (s : Stretch) → SnapsInRange ss → InRange s.snap → SnapsInRange (ss ++ (s ∷ []))
   one_more ss s g p k l = go (dec_le (suc k) (length ss))
     where
-      go : Dec (k < length ss) → InSheet (get_or (ss ++ (s ∷ [])) k no_stretch).snap
-      go (yes u) = subst (λ (q : Stretch). InSheet q.snap) (sym (get_or-append ss (s ∷ []) no_stretch k u)) (g k u)
+      go : Dec (k < length ss) → InRange (get_or (ss ++ (s ∷ [])) k no_stretch).snap
+      go (yes u) = subst (λ (q : Stretch). InRange q.snap) (sym (get_or-append ss (s ∷ []) no_stretch k u)) (g k u)
       go (no u) =
           let e : length ss ≡ k = omega (arith, length-append ss (s ∷ [])) in
-          subst (λ (q : Stretch). InSheet q.snap) (sym (get_or_at ss s [] no_stretch k e)) p
+          subst (λ (q : Stretch). InRange q.snap) (sym (get_or_at ss s [] no_stretch k e)) p
 
   stretches_in_lem : (i : ℕ) → i ≤ 60 → SnapsInRange (stretches_to c i)
   unfolding stretches_to

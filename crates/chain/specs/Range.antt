@@ -1,7 +1,7 @@
 -- What is claimed of a chain's snap points. Definitions only.
 use Rattle.std.specs.Prelude.{ℕ, ◌≤◌, ◌<◌, List, length, get_or}
 use Rattle.vector.specs.declared.GridPoint.{GridPoint}
-use Rattle.vector.specs.Size.{OnSheet, InSheet}
+use Rattle.vector.specs.Size.{OnSheet, InRange}
 use Rattle.arclength.specs.Arclength.{point_at}
 use Rattle.chain.specs.Chain.{Stretch, no_stretch}
 
@@ -12,4 +12,4 @@ pub record ChainOnSheet (c : List GridPoint) : Type 0 where
 
 -- the snap point of each stretch is finite and within 1,024 mm either way
 abbrev pub SnapsInRange : List Stretch → Type 0
-SnapsInRange ss = (k : ℕ) → k < length ss → InSheet (get_or ss k no_stretch).snap
+SnapsInRange ss = (k : ℕ) → k < length ss → InRange (get_or ss k no_stretch).snap

@@ -7,8 +7,8 @@ use native.Mathlib.Omega.{arith}
 use mathlib.Core.Path.{◌≡◌, refl, sym, ap, ◌∙◌}
 use mathlib.Core.Bool.{Bool, true, false, not, cond}
 use mathlib.Core.List.{List, [], ◌∷◌, ◌++◌, append_assoc}
-use lib.ListN.{length, get_or, take, drop, length-append, length-drop}
-use lib.Seq.{take-suc, get_or-take, length-take-le}
+use lib.ListN.{length, get_or, take, drop, replicate, length-append, length-drop}
+use lib.Seq.{take-suc, get_or-take, length-take-le, drop_at, drop-drop}
 use lib.Pow.{pow_pos}
 use lib.Dec.{eqb}
 use lib.IntN.{ℤ, pos}
@@ -16,11 +16,12 @@ use lib.Count.{ones, ones_in, ones_cat}
 use borrow.Rule.Slice.PartMut.{put_mid}
 use borrow.Author.Tests.{eq-eqb, eqb-true, eqb-false}
 use Rattle.std.specs.Simd.{first_chunks}
+use Rattle.std.proofs.lemmas.List.{take-replicate}
 use Rattle.std.proofs.lemmas.Slice.{take-put_mid, take-put_mid_below}
 use Rattle.laws.specs.Bounded.{any}
 use Rattle.laws.proofs.Booleans.{is_true}
 use Rattle.laws.proofs.Search.{any_at}
-use Rattle.choice.specs.Choice.{chosen}
+use Rattle.choice.specs.Choice.{chosen, left_out, after_chosen}
 
 -- ---- the numbers of a ring, two and two: the first r pairs are its first r points
 abbrev pub point_at : List ℤ → ℕ → List ℤ
@@ -60,6 +61,52 @@ module _ (l : List ℤ) (c i : ℕ) (ps : List ℤ) (n m rest : ℕ) (p : List �
           let g : rest % 2 ≡ c / 2 ^ i % 2 = ap (λ (k : ℕ). k % 2) f in
           let u : n + rest % 2 * 2 ≡ n = omega (arith, eqb-false (c / 2 ^ i % 2) 1 q, g) in
           rw u (take-put_mid_below n m ps p n (omega arith) h ∙ e)
+
+-- what that leaves after the points that are chosen
+module _ (l : List ℤ) (c i : ℕ) (ps : List ℤ) (n rest : ℕ) (p : List ℤ) (z : length ps ≡ 24) (h : n + 2 ≤ 24) (f : rest ≡ c / 2 ^ i)
+    (e : drop n ps ≡ after_chosen l c i n) (d : p ≡ point_at l i) where
+  -- past the point that was left out, all is 0
+  past-out : drop 2 (drop n ps) ≡ take (22 - n) (replicate 24 (pos 0))
+  unfolding left_out
+  past-out = ap (drop 2) e ∙ (λ j. drop 2 (take (k j) (left_out l c i ++ replicate 24 (pos 0)))) ∙ go i
+    where
+      k : 24 - n ≡ suc (suc (22 - n))
+      k = omega arith
+
+      nil : drop 2 (take (suc (suc (22 - n))) (replicate 24 (pos 0))) ≡ take (22 - n) (replicate 24 (pos 0))
+      nil = take-replicate (22 - n) 22 (pos 0) (omega arith) ∙ sym (take-replicate (22 - n) 24 (pos 0) (omega arith))
+
+      by : (b : Bool) (x y : ℤ) → drop 2 (take (suc (suc (22 - n))) (cond b [] (x ∷ y ∷ []) ++ replicate 24 (pos 0))) ≡ take (22 - n) (replicate 24 (pos 0))
+      by true x y = nil
+      by false x y = refl
+
+      go : (i : ℕ) → drop 2 (take (suc (suc (22 - n))) (left_out l c i ++ replicate 24 (pos 0))) ≡ take (22 - n) (replicate 24 (pos 0))
+      go zero = nil
+      go (suc i) = by (eqb (c / 2 ^ i % 2) 1) (get_or l (i * 2) (pos 0)) (get_or l (i * 2 + 1) (pos 0))
+
+  -- what stands after the first n places
+  after-n : drop n (put_mid n 2 ps p) ≡ p ++ drop 2 (drop n ps)
+  after-n = drop_at (take n ps) (p ++ drop 2 (drop n ps)) n (length-take-le n ps (omega (arith, z, h)))
+
+  pub out-more : (w : ℕ) → w ≡ 2 → drop (n + rest % 2 * 2) (put_mid n w ps p) ≡ after_chosen l c (i + 1) (n + rest % 2 * 2)
+  unfolding left_out
+  out-more w ew = rw (ew, add-one i) (go (eqb (c / 2 ^ i % 2) 1) refl)
+    where
+      go : (b : Bool) → eqb (c / 2 ^ i % 2) 1 ≡ b
+          → drop (n + rest % 2 * 2) (put_mid n 2 ps p) ≡ take (24 - (n + rest % 2 * 2)) (cond b [] (point_at l i) ++ replicate 24 (pos 0))
+      go true q =
+          let u : n + rest % 2 * 2 ≡ n + 2 = omega (arith, ap (λ (k : ℕ). k % 2) f, eqb-true (c / 2 ^ i % 2) 1 q) in
+          let w : 24 - (n + 2) ≡ 22 - n = omega arith in
+          rw (u, w) (sym (drop-drop 2 n (put_mid n 2 ps p)) ∙ ap (drop 2) (after-n ∙ ap (λ (x : List ℤ). x ++ drop 2 (drop n ps)) d) ∙ past-out)
+      go false q =
+          let g : rest % 2 ≡ c / 2 ^ i % 2 = ap (λ (k : ℕ). k % 2) f in
+          let u : n + rest % 2 * 2 ≡ n = omega (arith, eqb-false (c / 2 ^ i % 2) 1 q, g) in
+          let w : 24 - n ≡ suc (suc (22 - n)) = omega arith in
+          rw (u, w) (after-n ∙ (λ j. d j ++ past-out j))
+
+pub none_out : (l : List ℤ) (c : ℕ) → replicate 24 (pos 0) ≡ after_chosen l c 0 0
+unfolding left_out
+none_out l c = refl
 
 pub rest_more : (c i rest : ℕ) → rest ≡ c / 2 ^ i → rest / 2 ≡ c / 2 ^ (i + 1)
 rest_more c i rest f =

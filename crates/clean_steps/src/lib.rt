@@ -7,7 +7,7 @@
 
 #![tactic(auto)]
 
-ghost use Rattle.std.specs.Prelude.{◌≡◌, ◌≤◌};
+ghost use Rattle.std.specs.Prelude.{◌≡◌, ◌≤◌, drop};
 ghost use Rattle.clean_steps.specs.Steps as Steps;
 ghost use Rattle.clean_steps.specs.Choices.{spaced_places, ValidChoice};
 
@@ -27,10 +27,11 @@ pub struct Choice<'a> {
 impl<'a> Choice<'a> {
     ghost use Rattle.clean_steps.specs.Chosen.{chosen, Leaves};
 
-    // The choice without the points within tolerance of the last kept one.
+    // The choice without the points within tolerance of the last kept one. A place after those kept is what it was.
     pub fn spaced(&self) -> Choice<'a>
         requires { 1 ≤ self.now.count }
-        ensures { (1 ≤ result.count) × Leaves self.now (spaced_places self.now.tol (chosen self.now) self.now.count) result }
+        ensures { (1 ≤ result.count) × Leaves self.now (spaced_places self.now.tol (chosen self.now) self.now.count) result
+            × (drop result.count result.places ≡ drop result.count self.now.places) }
     {
         let mut out = *self;
         let places = &mut out.places;

@@ -9,7 +9,7 @@ use mathlib.Core.List.{List, [], ◌∷◌, ◌++◌, append_assoc, Memᴰ}
 use lib.ListN.{length, get_or, length-append, get_or-append}
 use lib.Seq.{get_or-append_seam}
 use Rattle.laws.specs.All.{All}
-use Rattle.laws.proofs.Lists.{all_append, all-weaken, all-get, mem_get}
+use Rattle.laws.proofs.Lists.{all_append, all-weaken, all_mem}
 use Rattle.marks.specs.Part.{Part, no_part}
 use Rattle.limits.specs.declared.Limits.{Limits}
 use Rattle.split.specs.Split.{Cut, Stack, split_bad_vertices}
@@ -20,9 +20,6 @@ use Rattle.cuts.proofs.Machine.{cut}
 use Rattle.cuts.proofs.Parts.{keep}
 use Rattle.cuts.proofs.Match.{all_match, match_back, alike-back, among-alike, among_match}
 use Rattle.cuts.proofs.Tracing.{cut-deals}
-
-all_mem : {A : Type 0} (P : A → Type 0) (l : List A) → All P l → (x : A) → Memᴰ x l → P x
-all_mem P l h x m = let p = mem_get x m in subst P (sym p.is) (all-get P l p.place x h p.low)
 
 under_more : (c : Cut) (l : List Cut) (p : Part) (q : Part) → Under l p q → Under (c ∷ l) p q
 under_more c l p q itself = itself

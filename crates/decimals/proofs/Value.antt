@@ -24,6 +24,7 @@ use Rattle.laws.proofs.Constants.{+0, plus-zero-is}
 use Rattle.root.proofs.Pattern.{fields_low, fields_high}
 use Rattle.decimals.specs.Rounded.{half_even, ten_thousandths, negative, minus}
 use Rattle.decimals.proofs.Rounding.{half-same, half-none, half_le}
+use Rattle.std.proofs.Math.Bool.{and-true}
 
 -- the highest field has no finite value
 fields_top : (s : Bool) (x t : ℕ) → suc x ≡ 2047 → T (finite (of_fields binary64 s (suc x) t)) → ⊥
@@ -157,12 +158,8 @@ pub the_minus : (x : Float) (n : ℕ) → Within 1024 x → n ≡ ten_thousandth
 unfolding minus
 the_minus x n w e z =
     let p : 0 < ten_thousandths x = rw e at (positive n z) in
-    ap (lt x) plus-zero-is ∙ below-zero x w.0 p ∙ sym (ap (λ (b : Bool). negative x && b) (lt-ltb 0 (ten_thousandths x) p) ∙ go (negative x))
+    ap (lt x) plus-zero-is ∙ below-zero x w.0 p ∙ sym (ap (λ (b : Bool). negative x && b) (lt-ltb 0 (ten_thousandths x) p) ∙ and-true (negative x))
   where
     positive : (n : ℕ) → (n ≡ 0 → ⊥) → 0 < n
     positive zero z = absurd (z refl)
     positive (suc n) z = omega arith
-
-    go : (b : Bool) → (b && true) ≡ b
-    go true = refl
-    go false = refl

@@ -3,7 +3,7 @@
 ghost use Rattle.std.specs.Prelude.{◌^◌, ◌≤◌, nat_abs};
 ghost use Rattle.vector.specs.Size.{OnSheet};
 
-use segments::Crossing;
+use segments::{Crossing, Segment};
 use std::io::Read;
 use vector::GridPoint;
 use words::Field;
@@ -27,6 +27,12 @@ fn point<R: Read>(input: &mut R) -> GridPoint
     GridPoint { x, y }
 }
 
+fn segment<R: Read>(input: &mut R) -> Segment {
+    let a = point(input);
+    let b = point(input);
+    Segment::new(a, b)
+}
+
 // An answer as the list has it.
 // Kept: no `From` beside `Crossing`, since only this list has numbers for the three.
 fn told(c: Crossing) -> u32 {
@@ -38,9 +44,7 @@ fn told(c: Crossing) -> u32 {
 }
 
 pub fn crossing<R: Read>(input: &mut R) -> bool {
-    let a = point(input);
-    let b = point(input);
-    let c = point(input);
-    let d = point(input);
-    told(segments::segments_meet(a, b, c, d)) == words::word(input)
+    let one = segment(input);
+    let other = segment(input);
+    told(one.meets(other)) == words::word(input)
 }

@@ -16,10 +16,7 @@ fn sheet<R: Read>(input: &mut R) -> bool {
     let room = words::count(input);
     let mut nodes = [0.0f64; 64];
     words::read_list(input, &mut nodes, n);
-    if 64 < n {
-        return false;
-    }
-    if 1536 < room {
+    if 64 < n || 1536 < room {
         return false;
     }
     let mut out = [0u8; 1536];
@@ -99,6 +96,8 @@ impl Records for Desk {
 
     // It counts as run.
     const UNOPENED: Tally = Tally { ran: 1, differ: 1 };
+
+    const HOW: &'static str = "";
 
     fn new() -> Desk {
         Desk

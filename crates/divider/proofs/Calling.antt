@@ -21,7 +21,7 @@ use Rattle.table.specs.Refusals.{first_of}
 use Rattle.call.specs.Call.{Lists, Call, lists_of}
 use Rattle.call.specs.Divide.{CallAnswer, refused, ring_tests, answered, core, start_of}
 use Rattle.call.specs.Demand.{Ready, Prepared}
-use Rattle.call.specs.Lent.{point_in, cell_in, all_cells, LentRecords, call_of_records, Lent, divide_lent}
+use Rattle.call.specs.Lent.{point_in, cell_in, all_cells, LentRecords, call_of_records, Lent, divide_lent, lent, lent_lists}
 use Rattle.call.specs.LentCalls.{Given, numbers, Pool, lend, answer_of, leaves}
 use Rattle.call.proofs.Course as Course
 use Rattle.call.proofs.Course.{outcome_of}
@@ -31,7 +31,7 @@ use Rattle.entry.specs.Refusal.{refusal, points_refusal, lists_refusal}
 use Rattle.entry.proofs.Tests.{told, lists_ready}
 use Rattle.divider.specs.declared.CellRoom.{CellRoom}
 use Rattle.divider.specs.Promise.{Leaves, Promise}
-use Rattle.divider.specs.Steps.{Passing, Prepares, lists_in, CanDivideRing, tested_lists, divide_by, divide_into, HasRoom}
+use Rattle.divider.specs.Steps.{Passing, Prepares, lists_in, CanDivideRing, divide_by, divide_into, HasRoom}
 use Rattle.divider.proofs.Leaving.{refused-leaves}
 
 -- ---- the core, by the outcome of its tests
@@ -54,7 +54,7 @@ module _ (L : Limits) (r : ℕ) (p : Part) (l : List Float) (u : ℕ) (rs q : Li
 -- ---- a call, by its tests before those of the lists, and by these
 module _ (L : Limits) (e r : ℕ) (p : Part) (l : List Float) (u : ℕ) (t q : List ℕ) (k : ℕ) (cs : List Cell) (w : CellRoom) where
   abbrev y : Lists
-  y = tested_lists l u t cs w.used
+  y = lent_lists l u t cs w.used
 
   abbrev x : Lists
   x = lists_in l u t q k
@@ -134,17 +134,7 @@ promised L l v m t p h = record { leaves = h; accepted = λ z. demand3_lent L l 
 
 -- the lent list, its cells as records
 abbrev pub recorded : Lent → LentRecords
-recorded l =
-    record {
-      ring = l.ring;
-      chain = l.chain;
-      size = l.size;
-      nodes = l.nodes;
-      node_count_of = l.node_count_of;
-      rims = l.rims;
-      cells = all_cells l.cells;
-      cell_count_of = l.cell_count_of;
-    }
+recorded l = lent l.ring l.chain l.size l.nodes l.node_count_of l.rims (all_cells l.cells) l.cell_count_of
 
 -- with its cells written where they were lent
 pub own_promise : (L : Limits) (l : Lent) (v : Row) (m : List Float) (t p : List ℕ)

@@ -1,26 +1,23 @@
--- Laying out the pieces of a ring that passed every test. What the split answers shows the pieces of the definition (`shown`), and all that the cells ask of
+-- Laying out the pieces of a ring that passed every test. What the split answers shows the pieces of the definition, and all that the cells ask of
 -- them holds (`can-subdivide`). By the same split with every edge marked, the rim marks that the pieces leave are the definition's (`rims-are`).
 use Prim.Native.Nat.{ℕ, zero, suc, ◌+◌, ◌/◌, ◌≤◌}
 use native.Mathlib.Omega.{arith}
 use mathlib.Core.Path.{◌≡◌, refl, sym, ap, ◌∙◌, subst}
 use mathlib.Core.List.{List, [], ◌∷◌, map}
-use lib.ListN.{length, get_or, take, replicate, length-map, length-take, length-replicate}
+use lib.ListN.{length, get_or, take, replicate}
 use lib.Ieee.{Float}
 use Rattle.laws.proofs.Table.{length_tab}
 use Rattle.vector.specs.declared.Point.{Point}
 use Rattle.vector.specs.Size.{AllOnSheet}
-use Rattle.marks.specs.declared.Edge.{Edge}
 use Rattle.marks.specs.declared.EdgeMark.{EdgeMark}
 use Rattle.marks.specs.declared.MarkedRing.{MarkedRing}
 use Rattle.marks.specs.Part.{Part, no_part}
-use Rattle.marks.specs.Edges.{marks_in, part_in}
+use Rattle.marks.specs.Edges.{part_in}
 use Rattle.limits.specs.declared.Limits.{Limits}
 use Rattle.split.specs.declared.Splitting.{Splitting}
 use Rattle.split.specs.Split.{split_bad_vertices}
 use Rattle.parts.specs.Layout.{nth}
 use Rattle.split.specs.State.{ring_part, Represents, StateInvariant}
-use Rattle.parts.specs.Pieces.{marks_of}
-use Rattle.parts.proofs.Pieces.{marks-taken}
 use Rattle.nodes.specs.Growth.{InRange}
 use Rattle.nodes.specs.Nodes.{node_at}
 use Rattle.nodes.specs.Flat.{nodes_in, Usable}
@@ -41,21 +38,13 @@ use Rattle.call.proofs.Demand.{corners_fit}
 use Rattle.call.proofs.LentCalls.{take-nodes}
 use Rattle.divider.specs.Steps.{lists_in}
 
--- as many marks as places
-pub marks-length : (es : List Edge) → length es ≡ 60 → length (marks_of es) ≡ 60
-marks-length es h = length-map es (λ (e : Edge). e.mark) ∙ h
-
 -- every mark of the ring, and of its first n edges
-pub every_length : length every_mark ≡ 60
-unfolding every_mark
-every_length = length-replicate 60 label
-
-labels_taken : (n : ℕ) (es : List Edge) → take n (replicate (length es) label) ≡ map (λ (e : EdgeMark). label) (marks_in es n)
+labels_taken : (n : ℕ) (es : List EdgeMark) → take n (replicate (length es) label) ≡ map (λ (e : EdgeMark). label) (take n es)
 labels_taken zero es = refl
 labels_taken (suc n) [] = refl
 labels_taken (suc n) (e ∷ es) = ap (λ (l : List EdgeMark). label ∷ l) (labels_taken n es)
 
-every_taken : (n : ℕ) (es : List Edge) → length es ≡ 60 → take n every_mark ≡ map (λ (e : EdgeMark). label) (marks_in es n)
+every_taken : (n : ℕ) (es : List EdgeMark) → length es ≡ 60 → take n every_mark ≡ map (λ (e : EdgeMark). label) (take n es)
 unfolding every_mark
 every_taken n es h = ap (λ (k : ℕ). take n (replicate k label)) (sym h) ∙ labels_taken n es
 
@@ -96,23 +85,11 @@ module _ (L : Limits) (r : ℕ) (m : MarkedRing) (l : List Float) (u : ℕ) (rs 
   pub cell_room : k + cell_reserve L r ≤ length q / 4
   cell_room = omega (arith, h.ready.cells_free, h.ready.stored, length_tab (cell_in q) (length q / 4))
 
-  pub three : (3 ≤ m.ring.count) × (3 ≤ r)
-  three = (omega (arith, s.whole.three, length-take m.ring.count m.ring.points), omega (arith, s.whole.three, h.fewer))
-
   -- ---- what the split answered
-  module _ (t : Splitting)
-      (shows : Represents m.ring.points (marks_of m.edges) t (split_bad_vertices L (ring_part m.ring.points (marks_of m.edges) m.ring.count)))
+  module _ (t : Splitting) (shown : Represents m.ring.points m.edges t (split_bad_vertices L p))
     where
-      split-is : split_bad_vertices L (ring_part m.ring.points (marks_of m.edges) m.ring.count) ≡ split_bad_vertices L p
-      split-is =
-          ap (λ (e : List EdgeMark). split_bad_vertices L (record { points = take m.ring.count m.ring.points; edges = e }))
-          (marks-taken m.ring.count m.edges)
-
-      pub shown : Represents m.ring.points (marks_of m.edges) t (split_bad_vertices L p)
-      shown = subst (Represents m.ring.points (marks_of m.edges) t) split-is shows
-
       pub count_is : t.pieces.count ≡ length (pieces_of L p)
-      count_is = sym (length_tab (nth m.ring.points (marks_of m.edges) t.pieces) t.pieces.count) ∙ ap length shown.pieces
+      count_is = sym (length_tab (nth m.ring.points m.edges t.pieces) t.pieces.count) ∙ ap length shown.pieces
 
       pub outcome-is : outcome_in L.share l u m.ring.points m.edges t.pieces ≡ outcome_of L p x
       outcome-is = λ j. pieces_to L.share (shown.pieces j) (sym used-is j) (count_is j)

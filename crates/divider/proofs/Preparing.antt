@@ -4,7 +4,7 @@ use native.Mathlib.Omega.{arith}
 use mathlib.Core.Path.{◌≡◌, sym, ap, ◌∙◌, subst}
 use mathlib.Core.List.{List, ◌++◌}
 use lib.IntN.{ℤ}
-use lib.ListN.{length, replicate}
+use lib.ListN.{length, take, replicate}
 use lib.Seq.{length-take-le, take_at}
 use Rattle.laws.proofs.Table.{length_tab}
 use Rattle.vector.specs.Grid.{origin}
@@ -20,9 +20,9 @@ use Rattle.clean.specs.declared.CleanedRing.{CleanedRing}
 use Rattle.clean.specs.Clean.{clean_polygon}
 use Rattle.clean.specs.Rings.{Cleaned}
 use Rattle.clean.proofs.Kept.{clean_length, clean_each}
-use Rattle.marks.specs.declared.Edge.{Edge}
+use Rattle.marks.specs.declared.EdgeMark.{EdgeMark}
 use Rattle.marks.specs.Marks.{marks_to, marked}
-use Rattle.marks.specs.Edges.{marks_in, Marked}
+use Rattle.marks.specs.Edges.{Marked}
 use Rattle.marks.proofs.SnapRange.{marked-many, marked_in_range}
 use Rattle.limits.specs.declared.Limits.{Limits}
 use Rattle.call.specs.Lent.{point_in, points_in}
@@ -64,7 +64,7 @@ passing L ring chain size z =
 
 module _ (ring chain : List ℤ) (size : ℕ) (own run : Ring) (a : points_of own ≡ all_points ring) (b : points_of run ≡ all_points chain)
     (g : CleanedRing) (w : Cleaned size (points_of own) g) (s : Simplified) (y : Simplifies (points_of run) s)
-    (es : List Edge) (drawn : Marked (stretches_in s) (points_of g.ring) (length (points_of g.ring)) es) where
+    (es : List EdgeMark) (drawn : Marked (stretches_in s) (points_of g.ring) (length (points_of g.ring)) es) where
   x : Marked (stretches_in s) (points_of g.ring) g.ring.count es
   x = subst (λ (n : ℕ). Marked (stretches_in s) (points_of g.ring) n es) (length-take-le g.ring.count g.ring.points (room g.ring w.valid)) drawn
 
@@ -74,7 +74,7 @@ module _ (ring chain : List ℤ) (size : ℕ) (own run : Ring) (a : points_of ow
   count_is : length (clean_polygon size (all_points ring)) ≡ g.ring.count
   count_is = ap length (sym points_are) ∙ length-take-le g.ring.count g.ring.points (room g.ring w.valid)
 
-  edges_are : marks_in es g.ring.count ≡ marks_to (simplify_chain (all_points chain)) (clean_polygon size (all_points ring))
+  edges_are : take g.ring.count es ≡ marks_to (simplify_chain (all_points chain)) (clean_polygon size (all_points ring))
       (length (clean_polygon size (all_points ring)))
   edges_are = x.marks ∙ (λ j. marks_to ((y.stretches ∙ ap simplify_chain b) j) (points_are j) (sym count_is j))
 

@@ -8,9 +8,7 @@ use Rattle.marks.specs.declared.MarkedRing.{MarkedRing}
 use Rattle.marks.specs.Part.{Part}
 use Rattle.marks.specs.Edges.{part_in, ValidMarkedRing}
 use Rattle.limits.specs.declared.Limits.{Limits}
-use Rattle.nodes.specs.Flat.{nodes_in}
 use Rattle.nodes.specs.Growth.{InRange}
-use Rattle.quads.specs.declared.Cell.{Cell}
 use Rattle.cells.specs.Stages.{mark_at}
 use Rattle.table.specs.declared.Answer.{Answer}
 use Rattle.table.specs.declared.Refusal.{Refusal}
@@ -20,7 +18,7 @@ use Rattle.call.specs.Call.{Lists, cell_reserve}
 use Rattle.call.specs.Divide.{CallAnswer, refused, refused_or, core, start_of}
 use Rattle.call.specs.Demand.{Prepared}
 use Rattle.call.specs.Marked.{all_points}
-use Rattle.call.specs.Lent.{all_cells, LentRecords, call_of_records, tests_by}
+use Rattle.call.specs.Lent.{all_cells, LentRecords, call_of_records, tests_by, lent_lists}
 use Rattle.entry.specs.Refusal.{lists_refusal}
 use Rattle.divider.specs.declared.CellRoom.{CellRoom}
 
@@ -46,7 +44,7 @@ pub record Prepares (p : Part) (m : MarkedRing) : Type 0 where
 
 -- the lists that doubles and numbers hold, u and k of their places used, t the rim marks
 abbrev pub lists_in : List Float → ℕ → List ℕ → List ℕ → ℕ → Lists
-lists_in l u t q k = record { nodes = nodes_in l (length l / 2); node_count_of = u; rims = t; cells = all_cells q; cell_count_of = k }
+lists_in l u t q k = lent_lists l u t (all_cells q) k
 
 -- the row of what a step of a call returns: that of its answer, or of a refusal with the caller's two counts
 abbrev pub returned : Result Answer Refusal → ℕ → ℕ → Row
@@ -58,10 +56,6 @@ pub record CanDivideRing (L : Limits) (r : ℕ) (m : MarkedRing) (l : List Float
   pub cuts : L.cuts ≤ 32
   pub held : ValidMarkedRing m
   pub prepared : Prepared L r (part_in m) (lists_in l u t q k)
-
--- the lists that are tested, of whose cells only their number is looked at
-abbrev pub tested_lists : List Float → ℕ → List ℕ → List Cell → ℕ → Lists
-tested_lists l u t cs k = record { nodes = nodes_in l (length l / 2); node_count_of = u; rims = t; cells = cs; cell_count_of = k }
 
 -- "tested in rising order": a ring of r points, cleaned to p, that the tests before those of the lists refuse with e, or not, 0; then those of the lists y; and
 -- else what the core does over x

@@ -18,8 +18,9 @@ ghost use Rattle.quads.specs.declared.Cell.{Cell};
 ghost use Rattle.table.specs.Answers as Answers;
 ghost use Rattle.table.specs.Refusals.{first_of};
 ghost use Rattle.call.specs.Divide.{Whole, outcome_of, answered, core, ring_tests};
+ghost use Rattle.call.specs.Lent.{lent, lent_lists};
 ghost use Rattle.divider.specs.Promise.{Leaves, Promise};
-ghost use Rattle.divider.specs.Steps.{lists_in, returned, CanDivideRing, tested_lists, divide_by, divide_into, HasRoom};
+ghost use Rattle.divider.specs.Steps.{lists_in, returned, CanDivideRing, divide_by, divide_into, HasRoom};
 
 mod requests;
 
@@ -141,6 +142,9 @@ pub fn answer_of(step: Result<Answer, Refusal>, nodes: usize, cells: usize) -> A
 
 // The caller's cell list, of which the tests look at the number of places and at how many are used; and the place where
 // the ring's cells go in a list of numbers, which is that list or another.
+// Kept: no constructor for a whole list. Two entries would call it, `divide_set` and that of `marked`; cell records are tested by their
+// own count, and go to place 0 of other numbers. It would be as long as what it takes from the two, and its contract would say
+// the three fields once more, for both promises to be led through.
 #[derive(Clone, Copy)]
 pub struct CellRoom {
     pub places: usize,
@@ -161,7 +165,7 @@ fn divide_steps<R: Request>(
     requires { HasRoom limits room cells.old }
     ensures { (cs : List Cell) → length cs ≡ room.places
         → Leaves (divide_by limits (R.early limits request) (R.points request) (R.part request)
-        (tested_lists nodes.old node_count rims.old cs room.used) (lists_in nodes.old node_count rims.old cells.old room.at))
+        (lent_lists nodes.old node_count rims.old cs room.used) (lists_in nodes.old node_count rims.old cells.old room.at))
         (returned result node_count room.at) nodes.old nodes.new rims.new cells.old cells.new }
 {
     request.refusal(limits)?;
@@ -205,7 +209,7 @@ pub fn divide_request<R: Request>(
     requires { HasRoom limits room cells.old }
     ensures { (cs : List Cell) → length cs ≡ room.places
         → Leaves (divide_by limits (R.early limits request) (R.points request) (R.part request)
-        (tested_lists nodes.old node_count rims.old cs room.used) (lists_in nodes.old node_count rims.old cells.old room.at))
+        (lent_lists nodes.old node_count rims.old cs room.used) (lists_in nodes.old node_count rims.old cells.old room.at))
         (Answers.values result) nodes.old nodes.new rims.new cells.old cells.new }
 {
     let step = divide_steps(limits, request, nodes, node_count, rims, cells, room);
@@ -229,16 +233,7 @@ pub fn divide_with(
 ) -> Answer
     requires { HasRoom limits room cells.old }
     ensures { (cs : List Cell) → length cs ≡ room.places
-        → Leaves (divide_into limits (record {
-          ring = ring.now;
-          chain = chain.now;
-          size = size;
-          nodes = nodes.old;
-          node_count_of = node_count;
-          rims = rims.old;
-          cells = cs;
-          cell_count_of = room.used;
-        }) cells.old room.at)
+        → Leaves (divide_into limits (lent ring.now chain.now size nodes.old node_count rims.old cs room.used) cells.old room.at)
         (Answers.values result) nodes.old nodes.new rims.new cells.old cells.new }
 {
     let request = ByChain { ring, chain, size };
@@ -257,16 +252,7 @@ pub fn divide_set(
     cells: &mut [NodeNumber],
     cell_count: usize,
 ) -> Answer
-    ensures { Promise limits (record {
-      ring = ring.now;
-      chain = chain.now;
-      size = size;
-      nodes = nodes.old;
-      node_count_of = node_count;
-      rims = rims.old;
-      cells = cells.old;
-      cell_count_of = cell_count;
-    })
+    ensures { Promise limits (lent ring.now chain.now size nodes.old node_count rims.old cells.old cell_count)
         (Answers.values result) nodes.new rims.new cells.new }
 {
     let room = CellRoom {
@@ -292,16 +278,7 @@ pub fn divide(
     cells: &mut [NodeNumber],
     cell_count: usize,
 ) -> Answer
-    ensures { Promise delivered (record {
-      ring = ring.now;
-      chain = chain.now;
-      size = size;
-      nodes = nodes.old;
-      node_count_of = node_count;
-      rims = rims.old;
-      cells = cells.old;
-      cell_count_of = cell_count;
-    })
+    ensures { Promise delivered (lent ring.now chain.now size nodes.old node_count rims.old cells.old cell_count)
         (Answers.values result) nodes.new rims.new cells.new }
 {
     let limits = Limits::on_delivery();

@@ -10,11 +10,11 @@
 ghost use Rattle.std.specs.Prelude.{◌≡◌, ◌||◌, not, cond, List, IfOk, ◌/◌, ◌≤◌, ltb, length, get_or};
 ghost use Rattle.laws.specs.Bounded.{any};
 ghost use Rattle.vector.specs.Rings.{most_points};
-ghost use Rattle.nodes.specs.Flat.{nodes_in};
 ghost use Rattle.nodes.specs.Nearby.{most_nearby, Framed, ValidNearby};
 ghost use Rattle.quads.specs.declared.Cell.{Cell};
 ghost use Rattle.table.specs.Answers.{code_of};
 ghost use Rattle.call.specs.Call as Call;
+ghost use Rattle.call.specs.Lent.{lent_lists};
 ghost use Rattle.entry.specs.Refusal as Tests;
 
 use limits::Limits;
@@ -123,13 +123,7 @@ pub fn lists_refusal(
 ) -> Result<Nearby, Refusal>
     requires { (3 ≤ own) × (own ≤ most_points) × Framed w × (length numbers.old ≡ most_nearby) × (length xs.old ≡ most_nearby) }
     ensures code { (cells : List Cell) → length cells ≡ cell_places → code_of result ≡ Tests.lists_refusal limits own
-        (record {
-          nodes = nodes_in nodes.now (length nodes.now / 2);
-          node_count_of = node_count;
-          rims = rims.now;
-          cells = cells;
-          cell_count_of = cell_count;
-        }) }
+        (lent_lists nodes.now node_count rims.now cells cell_count) }
     ensures looked { Tests.Looked w nodes.now (Tests.looked_at (length nodes.now / 2) node_count (length rims.now)
         cell_places cell_count) numbers.old xs.old result numbers.new xs.new }
     ensures near { IfOk result (λ near. ValidNearby nodes.now node_count near numbers.new xs.new) }

@@ -5,10 +5,10 @@
 use Prim.Native.Nat.{ℕ}
 use mathlib.Core.Path.{◌≡◌, sym, subst, ◌∙◌}
 use mathlib.Core.List.{List}
-use lib.Ieee.{Float, of_bits, binary64}
+use lib.Ieee.{Float}
 use Rattle.limits.specs.declared.Limits.{Limits}
 use Rattle.limits.specs.Limits.{delivered}
-use Rattle.limits.proofs.Delivered.{code_is}
+use Rattle.limits.proofs.Delivered.{code, code_is}
 use Rattle.table.specs.declared.Row.{Row}
 use Rattle.call.specs.Lent.{Lent}
 use Rattle.call.specs.Divide.{CallAnswer}
@@ -23,14 +23,7 @@ one_answer a l c v w m n r t p q g h = (g.values ∙ sym h.values, g.nodes ∙ s
 
 -- the set on delivery, as a caller hands it over
 abbrev handed : Limits
-handed =
-    record {
-      cuts = 32;
-      corner = of_bits binary64 0x3FFB_BAFF_826D_3356;
-      least = of_bits binary64 0xBFEE_11F6_4252_2D1C;
-      greatest = of_bits binary64 0x3FEF_4CFC_327A_0080;
-      share = of_bits binary64 0x3FD9_9999_9999_999A;
-    }
+handed = code
 
 pub delivered-set : (l : Lent) (v w : Row) (m n : List Float) (r t p q : List ℕ) → Promise handed l v m r p → Promise delivered l w n t q
     → (v ≡ w) × (m ≡ n) × (r ≡ t) × (p ≡ q)

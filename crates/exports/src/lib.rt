@@ -9,6 +9,7 @@ ghost use Rattle.std.specs.Prelude.{◌≡◌, length};
 ghost use Rattle.root.specs.Root.{root_bits};
 ghost use Rattle.limits.specs.Limits.{delivered};
 ghost use Rattle.call.specs.Lent.{lent};
+ghost use Rattle.call.specs.Marked.{lent_marked};
 ghost use Rattle.divider.specs.Promise.{Promise};
 ghost use Rattle.marked.specs.Promise.{MarkedPromise};
 ghost use Rattle.paper.specs.Practice as Practice;
@@ -101,16 +102,9 @@ pub fn ring_divide_marked(
     cells: &mut [NodeNumber],
     cell_count: usize,
 ) -> Row
-    ensures { MarkedPromise delivered (record {
-      ring = ring.now;
-      marking = record { kinds = kinds.now; snaps = snaps.now; outline = outline.now; loops = loops.now };
-      size = size;
-      nodes = nodes.old;
-      node_count_of = node_count;
-      rims = rims.old;
-      cells = cells.old;
-      cell_count_of = cell_count;
-    })
+    ensures { MarkedPromise delivered (lent_marked ring.now
+        (record { kinds = kinds.now; snaps = snaps.now; outline = outline.now; loops = loops.now })
+        size nodes.old node_count rims.old cells.old cell_count)
         result nodes.new rims.new cells.new }
 {
     let marking = Marking {
@@ -144,16 +138,8 @@ pub fn ring_divide_marked_set(
     cell_count: usize,
 ) -> Row
     ensures { MarkedPromise (record { cuts = cuts; corner = corner; least = least; greatest = greatest; share = share })
-        (record {
-          ring = ring.now;
-          marking = record { kinds = kinds.now; snaps = snaps.now; outline = outline.now; loops = loops.now };
-          size = size;
-          nodes = nodes.old;
-          node_count_of = node_count;
-          rims = rims.old;
-          cells = cells.old;
-          cell_count_of = cell_count;
-        })
+        (lent_marked ring.now (record { kinds = kinds.now; snaps = snaps.now; outline = outline.now; loops = loops.now })
+        size nodes.old node_count rims.old cells.old cell_count)
         result nodes.new rims.new cells.new }
 {
     let limits = set_of(corner, least, greatest, cuts, share);

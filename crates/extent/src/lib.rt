@@ -26,24 +26,6 @@ struct Extent {
     hi_y: f64,
 }
 
-// Kept: the library's `min` and `max` ask for NaN too. With them the window over 12 points and a chain of 12 takes 103 ns for 84,
-// over a ring with given marks 172 for 139; and goal 1 of docs/BENCHMARKS.md, no slower than the Rust, has no 19 ns to spare (`mix`
-// with 250 nodes far: 4.27 µs for 4.28).
-fn lesser(a: f64, b: f64) -> f64 {
-    if b < a {
-        return b;
-    }
-    a
-}
-
-// Kept: as `lesser`.
-fn greater(a: f64, b: f64) -> f64 {
-    if b > a {
-        return b;
-    }
-    a
-}
-
 // A side of the box. It is never beyond 1,025 mm, and that is seen here once.
 fn side(x: f64) -> f64
     ensures { Within 1025 result }
@@ -71,10 +53,10 @@ impl Extent {
 
     fn with(self, x: f64, y: f64) -> Extent {
         Extent {
-            lo_x: lesser(self.lo_x, x),
-            hi_x: greater(self.hi_x, x),
-            lo_y: lesser(self.lo_y, y),
-            hi_y: greater(self.hi_y, y),
+            lo_x: self.lo_x.min(x),
+            hi_x: self.hi_x.max(x),
+            lo_y: self.lo_y.min(y),
+            hi_y: self.hi_y.max(y),
         }
     }
 

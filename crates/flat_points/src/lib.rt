@@ -5,15 +5,17 @@
 
 #![tactic(auto)]
 
+ghost use Rattle.std.specs.Prelude.{◌≡◌, drop};
 ghost use Rattle.clean_steps.specs.Choices.{bent_places};
 ghost use Rattle.clean_steps.specs.Chosen.{chosen, Leaves};
 
 use clean_steps::Choice;
 
-// The choice without the points that are flat in it, each judged in the ring as it stands.
+// The choice without the points that are flat in it, each judged in the ring as it stands. A place after those kept is what it was.
 #[tactic(auto, unfolding(clean_steps::specs::Choices::bent_places))]
 pub fn bent<'a>(r: &Choice<'a>) -> Choice<'a>
-    ensures { Leaves r.now (bent_places r.now.tol (chosen r.now) r.now.count) result }
+    ensures { Leaves r.now (bent_places r.now.tol (chosen r.now) r.now.count) result
+        × (drop result.count result.places ≡ drop result.count r.now.places) }
 {
     let n = r.count;
     let mut out = *r;

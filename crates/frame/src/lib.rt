@@ -86,10 +86,7 @@ fn decade(size: u64) -> u64
     requires { size ≤ 40000000 }
     ensures { (result ≡ Bounds.decade_to size 7) × (0 < result) × (result ≤ 10000000) }
 {
-    match (size / 40).checked_ilog10() {
-        Some(k) => 10u64.pow(k + 1),
-        None => 1,
-    }
+    (size / 40).checked_ilog10().map_or(1, |k| 10u64.pow(k + 1))
 }
 
 #[tactic(auto, unfolding(crate::specs::Bounds::step_for))]

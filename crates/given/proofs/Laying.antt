@@ -5,9 +5,9 @@ use native.Mathlib.Omega.{arith}
 use native.Mathlib.Numerals.{add-one}
 use mathlib.Core.Path.{◌≡◌, refl, sym, ap, ◌∙◌}
 use mathlib.Core.Bool.{Bool, true, false, cond}
-use mathlib.Core.List.{List, ◌∷◌, [], ◌++◌, map}
+use mathlib.Core.List.{List, ◌∷◌, [], ◌++◌}
 use lib.Ieee.{Float}
-use lib.ListN.{length, get_or, set, replicate, length-set}
+use lib.ListN.{length, get_or, set, replicate, take, length-set}
 use lib.Dec.{eqb}
 use borrow.Author.Tests.{eq-eqb, eqb-true}
 use lib.Seq.{length-take-le, get_or-take, take-set-le, get_or-set_same, get_or-set_other}
@@ -21,10 +21,8 @@ use Rattle.vector.specs.declared.Ring.{Ring}
 use Rattle.vector.specs.Grid.{origin, at}
 use Rattle.vector.specs.Rings.{points_of}
 use Rattle.vector.proofs.Rings as rings
-use Rattle.marks.specs.declared.Edge.{Edge}
 use Rattle.marks.specs.declared.EdgeMark.{EdgeMark}
 use Rattle.marks.specs.declared.EdgeMark.TheVariants.{Straight, Snap}
-use Rattle.marks.specs.Edges.{marks_in, straight_edge}
 use Rattle.marks.proofs.Edges.{marks-more}
 use Rattle.clean.specs.declared.CleanedRing.{CleanedRing}
 use Rattle.survivors.specs.Survivors.{survives, surviving}
@@ -46,18 +44,18 @@ module _ (ring : Ring) (kinds : List ℕ) (snaps : List Float) (c : CleanedRing)
       let b = h.kept.below j (omega (arith, l, places-many)) in
       omega (arith, e, b)
 
-pub laid_none : (f : ℕ → EdgeMark) → Laid f 0 (replicate 60 straight_edge)
+pub laid_none : (f : ℕ → EdgeMark) → Laid f 0 (replicate 60 Straight)
 unfolding tab
-laid_none f = record { marks = refl; unused = λ k h. all_same (λ x. x ≡ straight_edge) straight_edge 60 straight_edge refl refl k; places = refl }
+laid_none f = record { marks = refl; unused = λ k h. all_same (λ x. x ≡ Straight) Straight 60 Straight refl refl k; places = refl }
 
-pub laid_more : (f : ℕ → EdgeMark) (i : ℕ) (es : List Edge) (e : Edge) → Laid f i es → i < 60 → e.mark ≡ f i → Laid f (i + 1) (set es i e)
+pub laid_more : (f : ℕ → EdgeMark) (i : ℕ) (es : List EdgeMark) (e : EdgeMark) → Laid f i es → i < 60 → e ≡ f i → Laid f (i + 1) (set es i e)
 unfolding tab
 laid_more f i es e so l q =
-    let m = ap (map (λ (e : Edge). e.mark)) (take-set-le i es i e (omega arith)) ∙ so.marks in
-    let g = ap (λ (d : Edge). d.mark) (get_or-set_same es i e straight_edge (omega (arith, so.places))) ∙ q in
+    let m = take-set-le i es i e (omega arith) ∙ so.marks in
+    let g = get_or-set_same es i e Straight (omega (arith, so.places)) ∙ q in
     record {
       marks = marks-more (set es i e) i (rw (length-set es i e) (omega (arith, so.places))) ∙ (λ j. m j ++ (g j ∷ [])) ∙ ap (tab f) (sym (add-one i));
-      unused = λ k h. get_or-set_other es i k e straight_edge (λ q. omega arith) ∙ so.unused k (omega arith);
+      unused = λ k h. get_or-set_other es i k e Straight (λ q. omega arith) ∙ so.unused k (omega arith);
       places = length-set es i e ∙ so.places;
     }
 
@@ -133,7 +131,7 @@ module _ (ring : Ring) (c : CleanedRing) (g : Marking) (o : LeadLine) (h : Marks
       let m : get_or ms (get_or ks j 0) Straight ≡ given_mark g r k = ap (λ (x : ℕ). get_or ms x Straight) a ∙ get_d_tab (given_mark g r) ring.count k Straight low in
       λ i. cond (sym s i) ((given_is k low ∙ sym m) i) Straight
 
-  pub survive : (es : List Edge) → Laid (mark_left ring c g.kinds g.snaps (sought o)) c.ring.count es → Survive g r ks es
+  pub survive : (es : List EdgeMark) → Laid (mark_left ring c g.kinds g.snaps (sought o)) c.ring.count es → Survive g r ks es
   survive es so =
       let f = mark_left ring c g.kinds g.snaps (sought o) in
       let u : surviving Straight ring.count ks ms ≡ tab f c.ring.count =
@@ -142,7 +140,7 @@ module _ (ring : Ring) (c : CleanedRing) (g : Marking) (o : LeadLine) (h : Marks
       let v : surviving Straight ring.count ks ms ≡ surviving Straight (length r) ks (tab (given_mark g r) (length r)) =
       ap (λ (x : ℕ). surviving Straight x ks (tab (given_mark g r) x)) (sym points-many) in
       record {
-        marks = ap (marks_in es) many ∙ so.marks ∙ sym u ∙ v;
+        marks = ap (λ (n : ℕ). take n es) many ∙ so.marks ∙ sym u ∙ v;
         unused = λ k l. so.unused k (omega (arith, l, many));
         places = so.places;
       }

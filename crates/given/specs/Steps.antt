@@ -9,10 +9,8 @@ use Rattle.clean.specs.declared.CleanedRing.{CleanedRing}
 use Rattle.clean.specs.Places.{Rising}
 use Rattle.survivors.specs.Survivors.{surviving}
 use Rattle.outline.specs.Outline.{Segment, segments}
-use Rattle.marks.specs.declared.Edge.{Edge}
 use Rattle.marks.specs.declared.EdgeMark.{EdgeMark}
 use Rattle.marks.specs.declared.EdgeMark.TheVariants.{Straight}
-use Rattle.marks.specs.Edges.{marks_in, straight_edge}
 use Rattle.nodes.specs.Flat.{node_in_of}
 use Rattle.call.specs.Marked.{Marking, all_points, mark_of, lead_point, given_mark, called_for}
 use Rattle.given.specs.declared.lead.LeadLine.{LeadLine}
@@ -48,13 +46,13 @@ mark_left ring c kinds snaps ss j =
     (mark_of (get_or kinds k 0) (node_in_of snaps k) (lead_point ss (get_or ring.points k origin) (get_or ring.points after origin))) Straight
 
 -- es has the first n of these marks, and the places after them are straight
-pub record Laid (f : ℕ → EdgeMark) (n : ℕ) (es : List Edge) : Type 0 where
-  pub marks : marks_in es n ≡ tab f n
-  pub unused : (k : ℕ) → n ≤ k → get_or es k straight_edge ≡ straight_edge
+pub record Laid (f : ℕ → EdgeMark) (n : ℕ) (es : List EdgeMark) : Type 0 where
+  pub marks : take n es ≡ tab f n
+  pub unused : (k : ℕ) → n ≤ k → get_or es k Straight ≡ Straight
   pub places : length es ≡ most_points
 
 -- es has the marks of the ring r that survive where the points at ks stay
-pub record Survive (g : Marking) (r : List GridPoint) (ks : List ℕ) (es : List Edge) : Type 0 where
-  pub marks : marks_in es (length ks) ≡ surviving Straight (length r) ks (tab (given_mark g r) (length r))
-  pub unused : (k : ℕ) → length ks ≤ k → get_or es k straight_edge ≡ straight_edge
+pub record Survive (g : Marking) (r : List GridPoint) (ks : List ℕ) (es : List EdgeMark) : Type 0 where
+  pub marks : take (length ks) es ≡ surviving Straight (length r) ks (tab (given_mark g r) (length r))
+  pub unused : (k : ℕ) → length ks ≤ k → get_or es k Straight ≡ Straight
   pub places : length es ≡ most_points

@@ -19,7 +19,7 @@ mod lead;
 use clean::CleanedRing;
 use given_tests::Marking;
 use lead::LeadLine;
-use marks::{Edge, EdgeMark};
+use marks::EdgeMark;
 use vector::{GridPoint, MOST_POINTS, Point, Ring};
 
 impl LeadLine {
@@ -103,19 +103,19 @@ fn marks_left(
     clean: &CleanedRing,
     marking: Marking<'_>,
     lead: &LeadLine,
-) -> [Edge; MOST_POINTS]
+) -> [EdgeMark; MOST_POINTS]
     requires { MarksOf ring.now marking.kinds.now marking.snaps.now clean.now }
     ensures { Laid (mark_left ring.now clean.now marking.entry.kinds.now marking.entry.snaps.now (sought lead.now)) clean.now.ring.count result }
 {
     let places = &clean.places[..clean.ring.count];
-    let mut edges = [Edge::STRAIGHT; MOST_POINTS];
+    let mut edges = [EdgeMark::Straight; MOST_POINTS];
     // Kept: a turn looks at a kept place and at the next one round the cleaned ring, so that it counts them.
     for (j, place) in places.iter().enumerate() {
         let k = usize::from(*place);
         let after = vector::next(k, ring.count);
         let kept = usize::from(places[vector::next(j, places.len())]);
         let p = nodes::point_at(marking.snaps, k);
-        let mark = surviving_mark(
+        edges[j] = surviving_mark(
             kept == after,
             marking.kinds[k],
             p,
@@ -123,7 +123,6 @@ fn marks_left(
             ring.points[after],
             lead,
         );
-        edges[j] = Edge { mark };
     }
     edges
 }
@@ -133,7 +132,7 @@ pub fn surviving_marks(
     ring: &Ring,
     clean: &CleanedRing,
     marking: Marking<'_>,
-) -> [Edge; MOST_POINTS]
+) -> [EdgeMark; MOST_POINTS]
     requires { MarksOf ring.now marking.kinds.now marking.snaps.now clean.now
         × (Marked.outline_out marking.kinds.now marking.outline.now marking.loops.now ≡ false) }
     ensures { Survive (lent_in marking.entry) (points_of ring.now) (places_in clean.now) result }

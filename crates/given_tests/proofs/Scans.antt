@@ -20,9 +20,6 @@ use Rattle.outline.proofs.Scan.{total_up, sum_more, loops-few}
 use Rattle.nodes.specs.Flat.{node_in_of}
 use Rattle.call.specs.Marked.{mark_out, marks_out, loops_out}
 
-abbrev pub calls : List ℕ → ℕ → Bool
-calls kinds i = eqb (get_or kinds i 0) 2
-
 abbrev pub out_of : List Float → ℕ × ℕ → Bool
 out_of snaps p = mark_out p.1 (node_in_of snaps p.0)
 

@@ -9,7 +9,7 @@ use lib.ListN.{length, take, length-replicate}
 use lib.IntN.{ℤ}
 use lib.Ieee.{Float}
 use Rattle.limits.specs.Limits.{delivered}
-use Rattle.call.specs.Lent.{Lent, divide_lent}
+use Rattle.call.specs.Lent.{Lent, divide_lent, lent}
 use Rattle.table.specs.declared.Answer.{Answer}
 use Rattle.table.specs.declared.Row.{Row}
 use Rattle.table.specs.Answers.{values}
@@ -27,7 +27,7 @@ few-cells p e = omega (arith, ap length e, length-replicate {A = ℕ} 496 0)
 module _ (s : State) (ps : List ℤ) (l : List Float) (rs : List ℕ) where
   abbrev lent_over : List ℤ → List ℕ → Lent
   lent_over chain k =
-      record { ring = take (s.count * 2) ps; chain = chain; size = s.size; nodes = l; node_count_of = s.used; rims = rs; cells = k; cell_count_of = 0 }
+      lent (take (s.count * 2) ps) chain s.size l s.used rs k 0
 
   pub divided : (chain : List ℤ) (k : List ℕ) → k ≡ no_cells → (a : Answer) (m : List Float) (y p : List ℕ)
       → Promise delivered (lent_over chain k) (values a) m y p → length p ≡ length k → (n g : ℕ) → n ≡ (values a).nodes → g ≡ s.block / 2

@@ -2,7 +2,7 @@
 -- stays as it is; and blocks that were read of an input are read of every longer one (`read_more`).
 use Prim.Native.Nat.{ℕ, zero, suc, ◌+◌, ◌-◌, ◌*◌, ◌%◌, ◌≤◌, ◌<◌}
 use mathlib.Core.Path.{◌≡◌, refl, sym, ap, ◌∙◌, subst}
-use mathlib.Core.Bool.{Bool, true, false, ◌&&◌, cond}
+use mathlib.Core.Bool.{Bool, true, false, ◌&&◌}
 use mathlib.Core.Logic.{◌⊎◌, inl, inr}
 use mathlib.Core.List.{List, [], ◌∷◌, ◌++◌}
 use native.Mathlib.Omega.{arith}
@@ -25,6 +25,7 @@ use Rattle.state.specs.declared.State.{State}
 use Rattle.told.specs.Text.{Tells}
 use Rattle.job.specs.Step.{Step, text_of, ends, waits, divides, taken, answered, step_of}
 use Rattle.job.specs.Run.{Bytes, Course, onward, ran, block_at, read_to}
+use Rattle.std.proofs.lemmas.Bool.{cond_both}
 
 -- ---- a step
 -- the step e took a whole block with the number of the state, and the run goes on to the next
@@ -38,10 +39,6 @@ pub record Went (s : State) (b : List ℕ) (e : Step) : Type 0 where
 pub record Held (s : State) (ps : List ℤ) : Type 0 where
   pub few : s.count ≤ 60
   pub long : length ps ≡ 120
-
-either : {A : Type 0} (p : A → Type 0) (t : Bool) (x y : A) → p x → p y → p (cond t x y)
-either p true x y a b = a
-either p false x y a b = b
 
 module _ (s : State) (ps : List ℤ) (l : List Float) (rs : List ℕ) where
   -- an accepted block: a ring that waits, or one that is divided
@@ -77,10 +74,10 @@ module _ (s : State) (ps : List ℤ) (l : List Float) (rs : List ℕ) where
     pub outcome : ((step_of s ps l rs b).state.ended ≡ true) ⊎ Went s b (step_of s ps l rs b)
     unfolding step_of
     outcome =
-        either (λ (e : Step). (e.state.ended ≡ true) ⊎ Went s b e) (eqb (s.block % 2) 0 && eqb (length b) 0) (ends s ps l rs Tells.Nothing)
-        (answered s ps l rs (read_block b s.block))
-        (inl (ends-ended Tells.Nothing))
-        (by_answer (read_block b s.block) refl)
+        cond_both (eqb (s.block % 2) 0 && eqb (length b) 0) (ends s ps l rs Tells.Nothing) (answered s ps l rs (read_block b s.block))
+        (λ (e : Step). (e.state.ended ≡ true) ⊎ Went s b e)
+        (λ _. inl (ends-ended Tells.Nothing))
+        (λ _. by_answer (read_block b s.block) refl)
 
     answered-held : s.count ≤ 60 → length ps ≡ 120 → (a : Result Reading Refused) → read_block b s.block ≡ a
         → Held (answered s ps l rs a).state (answered s ps l rs a).points
@@ -91,10 +88,10 @@ module _ (s : State) (ps : List ℤ) (l : List Float) (rs : List ℕ) where
     pub step-held : s.count ≤ 60 → length ps ≡ 120 → Held (step_of s ps l rs b).state (step_of s ps l rs b).points
     unfolding step_of
     step-held f g =
-        either (λ (e : Step). Held e.state e.points) (eqb (s.block % 2) 0 && eqb (length b) 0) (ends s ps l rs Tells.Nothing)
-        (answered s ps l rs (read_block b s.block))
-        (ends_held f g Tells.Nothing)
-        (answered-held f g (read_block b s.block) refl)
+        cond_both (eqb (s.block % 2) 0 && eqb (length b) 0) (ends s ps l rs Tells.Nothing) (answered s ps l rs (read_block b s.block))
+        (λ (e : Step). Held e.state e.points)
+        (λ _. ends_held f g Tells.Nothing)
+        (λ _. answered-held f g (read_block b s.block) refl)
 
     -- a number of two bytes
     pub number-below : Bytes b → Went s b (step_of s ps l rs b) → s.block < 65536
@@ -133,8 +130,8 @@ module _ (r : Course) (b : List ℕ) where
   onward-held : Held r.state r.points → Held (onward r b).state (onward r b).points
   unfolding onward
   onward-held h =
-      either (λ (e : Course). Held e.state e.points) r.state.ended r _ h
-      (step-held r.state r.points r.nodes r.rims b h.few h.long)
+      cond_both r.state.ended r _ (λ (e : Course). Held e.state e.points) (λ _. h)
+      (λ _. step-held r.state r.points r.nodes r.rims b h.few h.long)
 
   -- a short block ends it
   pub short-ends : length b < 512 → (onward r b).state.ended ≡ true

@@ -3,7 +3,7 @@ use Rattle.std.specs.Prelude.{ℕ, ◌+◌, ◌*◌, ◌/◌, ◌%◌, ◌≤◌
 use Rattle.limits.specs.Limits.{delivered}
 use Rattle.nodes.specs.Flat.{over}
 use Rattle.quads.specs.Flat.{over_cells}
-use Rattle.call.specs.Lent.{Lent, divide_lent}
+use Rattle.call.specs.Lent.{Lent, divide_lent, lent}
 use Rattle.blocks.specs.declared.Block.{Block}
 use Rattle.blocks.specs.declared.Block.TheVariants.{Ring, Chain}
 use Rattle.blocks.specs.declared.Reading.{Reading}
@@ -52,8 +52,7 @@ waits s l rs count size qs =
 
 -- the call of the ring that waits, with its chain, over the run's node list and the rim marks beside it
 abbrev pub lent_by : State → List ℤ → List Float → List ℕ → List ℤ → Lent
-lent_by s ps l rs chain =
-    record { ring = take (s.count * 2) ps; chain = chain; size = s.size; nodes = l; node_count_of = s.used; rims = rs; cells = no_cells; cell_count_of = 0 }
+lent_by s ps l rs chain = lent (take (s.count * 2) ps) chain s.size l s.used rs no_cells 0
 
 -- a chain block: the ring that waits is divided, and its row told. "ring number from 0, refused rings counted": two blocks a ring
 unfoldable pub divides : State → List ℤ → List Float → List ℕ → List ℤ → Step

@@ -1,7 +1,6 @@
 -- What is proved of keys, for the crates above.
 pub mod Rounding
-pub mod Truncation
-pub mod KeySteps
+pub mod Nearest
 pub mod KeyTests
 pub mod Skip
 pub mod Monotone

@@ -34,7 +34,7 @@ half_up-is n d D =
     twice : 0 < d → 0 < 2 * d
     twice h = omega arith
 
-half_up-le : (n d B : ℕ) → 0 < d → n ≤ B * d → half_up_of n d ≤ B
+pub half_up-le : (n d B : ℕ) → 0 < d → n ≤ B * d → half_up_of n d ≤ B
 half_up-le n d B D h = le_of_suc-le-suc ((div-lt_iff_lt-mul {k = 2 * d} (omega arith)).1 (omega arith))
 
 pub nat_abs_signed : (s : Bool) (n : ℕ) → nat_abs (signed s n) ≡ n

@@ -4,11 +4,14 @@
 
 #![tactic(auto)]
 
-ghost use Rattle.std.specs.Prelude.{◌≡◌, ◌≤◌, ◌&&◌, unsigned_abs};
+ghost use Rattle.std.specs.Prelude.{◌≡◌, ◌≤◌, ◌&&◌, length, unsigned_abs};
+ghost use Rattle.std.specs.List.{list_any};
 ghost use Rattle.laws.specs.Within.{Within};
 ghost use Rattle.laws.specs.Integer.{eq_z};
 ghost use Rattle.keys.specs.Keys as Keys;
 ghost use Rattle.keys.specs.Keys.{sought_key, key_of, Sought, near};
+
+use std::simd::prelude::*;
 
 // A key to look for, as a coordinate that has it: scaled, and itself. Most searches end before the key is worked out.
 #[derive(Clone, Copy)]
@@ -17,22 +20,13 @@ pub struct SoughtKey {
     pub own: f64,
 }
 
-// A coordinate's key; also that of a side of a ring's box, which may lie a unit beyond the sheet. What truncation leaves is
-// exact, so two comparisons with a half round it away from zero.
+// A coordinate's key; also that of a side of a ring's box, which may lie a unit beyond the sheet. `as` takes no -0.0, and
+// a small negative coordinate is rounded to it.
 pub fn key(x: f64) -> i64
     requires { Within 1025 x }
     ensures { (result ≡ Keys.key x) × (unsigned_abs result ≤ 102500000000) }
 {
-    let y = x * 1.0e8;
-    let t = std::num::truncating_f64_to_i64(y);
-    let r = y - t as f64;
-    if r >= 0.5 {
-        t + 1
-    } else if r <= -0.5 {
-        t - 1
-    } else {
-        t
-    }
+    std::num::truncating_f64_to_i64((x * 1.0e8).round())
 }
 
 impl SoughtKey {
@@ -52,6 +46,16 @@ impl SoughtKey {
     {
         let d = x * 1.0e8 - self.scaled;
         !(d * d >= 8.0)
+    }
+
+    // The same of 16 at once: whether one of them is near. A NaN is near, as there.
+    pub fn any_of_16_near(self, x: f64x16) -> bool
+        requires { length x ≡ 16 }
+        ensures { result ≡ list_any (near self.scaled) x }
+    {
+        let d = x * f64x16::splat(1.0e8) - f64x16::splat(self.scaled);
+        let far = (d * d).simd_ge(f64x16::splat(8.0));
+        !far.all()
     }
 
     // Where the two are equal, as nearly always when their keys are, no key is worked out.

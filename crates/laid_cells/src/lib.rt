@@ -27,7 +27,8 @@ pub fn put_cells(cells: &mut [NodeNumber], round: &Round<'_>)
     requires { length round.now.middles.now * 4 ≤ length cells.old }
     ensures { cells.new ≡ over_cells cells.old (cells_of round.now) }
 {
-    // Kept: k is counted, since the library does not say what a list ends as after `as_chunks_mut` or `chunks_exact_mut`.
+    // Kept: k is counted. Over the fours of `as_chunks_mut` and over those of `chunks_exact_mut`, both tried, the promise doesn't close:
+    // the library says what a four holds as it is lent, and nothing of what the list ends as.
     for k in 0..round.middles.len() {
         let at = k * 4;
         put_cell(&mut cells[at..], round.cell(k));

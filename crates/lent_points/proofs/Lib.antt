@@ -1,3 +1,2 @@
 -- Laws for the code of this crate.
 pub mod Reading
-pub mod Made

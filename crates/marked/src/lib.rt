@@ -9,7 +9,7 @@
 ghost use Rattle.std.specs.Prelude.{◌≡◌, ◌/◌, length};
 ghost use Rattle.limits.specs.Limits.{delivered};
 ghost use Rattle.table.specs.Answers as Answers;
-ghost use Rattle.call.specs.Marked.{all_points, marked_by};
+ghost use Rattle.call.specs.Marked.{lent_marked, all_points, marked_by};
 ghost use Rattle.marked.specs.Promise.{MarkedPromise};
 ghost use Rattle.given_tests.specs.Lent.{lent_in};
 ghost use Rattle.marked.specs.Steps.{early_refusal};
@@ -89,16 +89,7 @@ pub fn divide_marked_set(
     cells: &mut [NodeNumber],
     cell_count: usize,
 ) -> Answer
-    ensures { MarkedPromise limits (record {
-      ring = ring.now;
-      marking = lent_in marking.entry;
-      size = size;
-      nodes = nodes.old;
-      node_count_of = node_count;
-      rims = rims.old;
-      cells = cells.old;
-      cell_count_of = cell_count;
-    })
+    ensures { MarkedPromise limits (lent_marked ring.now (lent_in marking.entry) size nodes.old node_count rims.old cells.old cell_count)
         (Answers.values result) nodes.new rims.new cells.new }
 {
     let request = ByMarks {
@@ -127,16 +118,7 @@ pub fn divide_marked(
     cells: &mut [NodeNumber],
     cell_count: usize,
 ) -> Answer
-    ensures { MarkedPromise delivered (record {
-      ring = ring.now;
-      marking = lent_in marking.entry;
-      size = size;
-      nodes = nodes.old;
-      node_count_of = node_count;
-      rims = rims.old;
-      cells = cells.old;
-      cell_count_of = cell_count;
-    })
+    ensures { MarkedPromise delivered (lent_marked ring.now (lent_in marking.entry) size nodes.old node_count rims.old cells.old cell_count)
         (Answers.values result) nodes.new rims.new cells.new }
 {
     let limits = Limits::on_delivery();

@@ -12,7 +12,7 @@ use Rattle.laws.specs.Bounded.{first}
 use Rattle.vector.specs.declared.GridPoint.{GridPoint}
 use Rattle.vector.specs.declared.Point.{Point}
 use Rattle.vector.specs.Grid.{at}
-use Rattle.vector.specs.Size.{InSheet}
+use Rattle.vector.specs.Size.{InRange}
 use Rattle.chain.specs.Chain.{Stretch, no_stretch, simplify_chain}
 use Rattle.chain.specs.Range.{ChainOnSheet, SnapsInRange}
 use Rattle.chain.proofs.Snaps.{snaps_in_range}
@@ -32,13 +32,13 @@ marked-many ss r = marks-many ss r (length r)
 
 -- ---- in range
 abbrev pub InSheetEdge : EdgeMark → Type 0
-InSheetEdge m = (q : Point) → m ≡ Snap q → InSheet q
+InSheetEdge m = (q : Point) → m ≡ Snap q → InRange q
 
 pub straight_in : InSheetEdge Straight
 straight_in q e = let z : ◌≡◌ {A = ℕ} 0 1 = cc in absurd (omega arith)
 
-pub snap_in : (p : Point) → InSheet p → InSheetEdge (Snap p)
-snap_in p h q e = let z : p ≡ q = cc in subst InSheet z h
+pub snap_in : (p : Point) → InRange p → InSheetEdge (Snap p)
+snap_in p h q e = let z : p ≡ q = cc in subst InRange z h
 
 mark_in : (ss : List Stretch) (a b : GridPoint) → SnapsInRange ss → InSheetEdge (mark ss a b)
 unfolding mark
@@ -64,6 +64,6 @@ marks_in_lem ss r h (suc n) i = last (marks_to ss r n) (mark ss (at r n) (at r (
     last (d ∷ es) e f g (suc i) = last es e (λ j. f (suc j)) g i
 
 pub marked_in_range : (c : List GridPoint) → ChainOnSheet c → (r : List GridPoint) (i : ℕ) (q : Point)
-    → get_or (marked (simplify_chain c) r).edges i Straight ≡ Snap q → InSheet q
+    → get_or (marked (simplify_chain c) r).edges i Straight ≡ Snap q → InRange q
 unfolding marked
 marked_in_range c h r i = marks_in_lem (simplify_chain c) r (snaps_in_range c h) (length r) i

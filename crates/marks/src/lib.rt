@@ -25,25 +25,13 @@ pub enum EdgeMark {
     Snap(Point),
 }
 
-// A mark as an array holds it: by this name definitions and contracts read an array of marks.
-#[derive(Clone, Copy)]
-pub struct Edge {
-    pub mark: EdgeMark,
-}
-
-impl Edge {
-    pub const STRAIGHT: Edge = Edge {
-        mark: EdgeMark::Straight,
-    };
-}
-
 // A ring with the marks of its edges, one for each point: what is split and laid out, wherever the marks came from.
 // Kept: the specification names this form ("held beside the ring's points"). A list of pairs would put the 24 bytes of a mark between
 // two points for the area, the test of crossings and the diagonals, which take a list of points.
 #[derive(Clone, Copy)]
 pub struct MarkedRing {
     pub ring: Ring,
-    pub edges: [Edge; MOST_POINTS],
+    pub edges: [EdgeMark; MOST_POINTS],
 }
 
 // Stretch j of the simplified chain joins a and b, in either sense.
@@ -69,16 +57,16 @@ fn stretch_between(chain: &Simplified, a: GridPoint, b: GridPoint) -> Option<usi
 }
 
 // The marks of the ring along the simplified chain.
-pub fn mark_edges(ring: &[GridPoint], chain: &Simplified) -> [Edge; MOST_POINTS]
+pub fn mark_edges(ring: &[GridPoint], chain: &Simplified) -> [EdgeMark; MOST_POINTS]
     requires { OnSheetPoints ring.now × (chain.now.count ≤ 59) }
     ensures { Marked (stretches_in chain.now) ring.now (length ring.now) result }
 {
-    let mut edges = [Edge::STRAIGHT; MOST_POINTS];
+    let mut edges = [EdgeMark::Straight; MOST_POINTS];
     // Kept: a turn looks at a point, at the next one round the ring and at the edge's place, which is the point's.
     for (i, &a) in ring.iter().enumerate() {
         let b = ring[vector::next(i, ring.len())];
         if let Some(j) = stretch_between(chain, a, b) {
-            edges[i].mark = EdgeMark::Snap(chain.snaps[j]);
+            edges[i] = EdgeMark::Snap(chain.snaps[j]);
         }
     }
     edges
@@ -96,5 +84,5 @@ pub fn mark_count(ring: &MarkedRing) -> usize
     ensures { (result ≡ mark_count (part_in ring.now).edges) × (result ≤ ring.now.ring.count) }
 {
     let edges = &ring.edges[..ring.ring.count];
-    edges.iter().filter(|e| is_marked(e.mark)).count()
+    edges.iter().filter(|&&m| is_marked(m)).count()
 }

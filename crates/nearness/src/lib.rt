@@ -24,6 +24,7 @@ pub fn near(a: GridPoint, b: GridPoint, tol: f64) -> bool
 
 // Whether p is within tolerance of the segment joining a and b. The two products are whole numbers, so their quotient is
 // rounded once.
+// Kept: two ends. `flat` alone calls it, to which they are the neighbours of p; a struct would be made there for this one call.
 #[tactic(auto, using(laws::proofs::Signed::back, vector::proofs::Same::derived_same, laws::proofs::Clamp::unit_clamp), unfolding(crate::specs::Nearness::point_segment_distance))]
 fn near_segment(p: GridPoint, a: GridPoint, b: GridPoint, tol: f64) -> bool
     requires { OnSheet p × OnSheet a × OnSheet b }

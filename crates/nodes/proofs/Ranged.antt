@@ -20,7 +20,7 @@ use Rattle.laws.specs.Within.{Within}
 use Rattle.laws.proofs.Between.{tested_1024}
 use Rattle.laws.proofs.Constants.{least_1024, most_1024}
 use Rattle.laws.proofs.Search.{any_at, any-fails, any_ext, any_listed}
-use Rattle.nodes.specs.Flat.{node_in_of, held}
+use Rattle.nodes.specs.Flat.{node_in_of, held, all_held}
 
 pub held-is : (x : Float) → (le (fin true 1 (pos 10)) x && le x (fin false 1 (pos 10))) ≡ held x
 unfolding held
@@ -38,7 +38,7 @@ out l i = not (held (get_or l i nan))
 
 -- ---- passes
 -- a flag that gathers the tests of a list's elements, which are those of its places
-listed : {A : Type 0} (p : A → Bool) (l : List A) (b : Bool) → fold (λ f x. f || p x) b l ≡ (b || list_any p l)
+pub listed : {A : Type 0} (p : A → Bool) (l : List A) (b : Bool) → fold (λ f x. f || p x) b l ≡ (b || list_any p l)
 listed p [] b = sym (or-false b)
 listed p (x ∷ xs) b = listed p xs (b || p x) ∙ or_assoc b (p x) (list_any p xs)
 
@@ -73,6 +73,11 @@ pub any_before : {A : Type 0} (p : A → Bool) (d : A) (l : List A) (n : ℕ) �
 any_before p d l n h =
     let e : length (take n l) ≡ n = simp length-take (omega arith) in
     ap (any (λ j. p (get_or (take n l) j d))) e ∙ any_ext _ _ n (λ j k. ap p (get_or-take n l j d k))
+
+-- all of a list's first n numbers, as a list of their own
+pub front_held : (l : List Float) (n : ℕ) → n ≤ length l → all_held (take n l) (length (take n l)) ≡ all_held l n
+unfolding all_held
+front_held l n h = ap not (any_before (λ x. not (held x)) nan l n h)
 
 -- ---- blocks
 -- all of them are, and those before place i

@@ -13,7 +13,7 @@ ghost use Rattle.nodes.specs.Flat.{node_in_of};
 mod held;
 mod nearby;
 
-pub use held::{all_held, any_out, is_held};
+pub use held::{all_held, any_of_16_out, any_out, is_held};
 pub use nearby::{Collected, MOST_NEARBY, Nearby, Span, Window, block_end};
 use vector::Point;
 

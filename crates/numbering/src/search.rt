@@ -12,8 +12,9 @@ ghost use Rattle.nodes.specs.Flat.{node_in_of, Usable};
 ghost use Rattle.nodes.specs.Nearby.{NearbyLists};
 ghost use Rattle.numbering.specs.Search.{found};
 
-use keys::SoughtPoint;
+use keys::{SoughtKey, SoughtPoint};
 use nodes::NodeNumber;
+use std::simd::prelude::*;
 
 // Places, in each of which a point stands.
 pub trait Places: Copy {
@@ -31,6 +32,11 @@ pub trait Places: Copy {
     fn y(self, i: usize) -> f64
         requires { i < count self }
         ensures { result ≡ (at self i).y };
+
+    // Whether one of the 16 points before place `to` is near a first key: all are judged at once.
+    fn any_near(self, to: usize, key: SoughtKey) -> bool
+        requires { (16 ≤ to) × (to ≤ count self) }
+        ensures { result ≡ any (λ j. near key.scaled (at self (to - 16 + j)).x) 16 };
 
     ghost ranged: { (s : Self) (i : ℕ) → i < count s → InRange (at s i) };
 }
@@ -74,6 +80,14 @@ impl<'a> Places for Used<'a> {
         self.nodes[i * 2 + 1]
     }
 
+    // The x of 16 nodes, which stand among their y.
+    fn any_near(self, to: usize, key: SoughtKey) -> bool {
+        let front = f64x16::from_slice(&self.nodes[(to - 16) * 2..]);
+        let back = f64x16::from_slice(&self.nodes[(to - 8) * 2..]);
+        let (xs, _) = front.deinterleave(back);
+        key.any_of_16_near(xs)
+    }
+
     ghost ranged = { λ s i h. s.usable.ranged i h };
 }
 
@@ -93,6 +107,10 @@ impl<'a> Places for Listed<'a> {
     fn y(self, i: usize) -> f64 {
         let k = self.numbers[i] as usize;
         self.nodes[k * 2 + 1]
+    }
+
+    fn any_near(self, to: usize, key: SoughtKey) -> bool {
+        key.any_of_16_near(f64x16::from_slice(&self.xs[to - 16..]))
     }
 
     ghost ranged = { λ s i h. s.usable.ranged (get_or s.numbers.now i 0) (s.lists.low i h) };
@@ -121,31 +139,13 @@ fn find_in<P: Places>(places: P, from: usize, to: usize, key: SoughtPoint) -> Op
     )
 }
 
-// Whether one of the 16 points before place `to` is near the first key. Nothing ends the pass, so that two are judged at
-// once.
-fn any_near<P: Places>(places: P, to: usize, key: SoughtPoint) -> bool
-    requires { (16 ≤ to) × (to ≤ P.count places) }
-    ensures { result ≡ any (λ j. near key.x.scaled (P.at places (to - 16 + j)).x) 16 }
-{
-    (to - 16..to).fold(
-        false,
-        |found: bool, i: usize| -> bool
-            requires { i < P.count places }
-            ensures { result ≡ (found || near key.x.scaled (P.at places i).x) }
-        {
-            let kx = key.x;
-            found | kx.is_near(places.x(i))
-        },
-    )
-}
-
 // The same as find_in of at most 16 places. The 16 before `to` are judged first: one that stands before `from` may be near
 // and does no harm.
 fn find_block<P: Places>(places: P, from: usize, to: usize, key: SoughtPoint) -> Option<usize>
     requires { (from ≤ to) × (to ≤ from + 16) × (16 ≤ to) × (to ≤ P.count places) }
     ensures { result ≡ found (λ i. has_key (key_of key.x) (key_of key.y) (P.at places i)) from to }
 {
-    if any_near(places, to, key) {
+    if places.any_near(to, key.x) {
         return find_in(places, from, to, key);
     }
     None
@@ -161,15 +161,11 @@ pub fn find_from<P: Places>(places: P, from: usize, key: SoughtPoint) -> Option<
     if count - from < 16 {
         return find_in(places, from, count, key);
     }
-    let mut i = from;
-    // Kept: this loop ends at the last place, up to 16 a turn. A `for` over the blocks' numbers is as long and takes 30.6 ns for
-    // 29.0 of 20 places and 208 for 201 of 256, `find_map` 31.2 and 205; of two as short the faster stands (docs/DECISIONS.md).
-    while i < count {
-        let to = nodes::block_end(i, 16, count);
-        if let Some(j) = find_block(places, i, to, key) {
+    for start in (from..count).step_by(16) {
+        let to = nodes::block_end(start, 16, count);
+        if let Some(j) = find_block(places, start, to, key) {
             return Some(j);
         }
-        i = to;
     }
     None
 }

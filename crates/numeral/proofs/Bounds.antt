@@ -1,9 +1,9 @@
 -- How large the numbers of a scan get, byte by byte; that the two steps of `units` are the one division; and signs.
 use Prim.Native.Nat.{ℕ, zero, suc, ◌+◌, ◌-◌, ◌*◌, ◌/◌, ◌%◌, ◌^◌, ◌≤◌, ◌<◌}
 use mathlib.Core.Path.{◌≡◌, refl, sym, ap, ◌∙◌}
-use mathlib.Core.Bool.{Bool, true, false, ◌||◌, ◌&&◌}
+use mathlib.Core.Bool.{Bool, true, false, ◌||◌}
 use mathlib.Core.List.{List, [], ◌∷◌}
-use native.Mathlib.Nat.{pow-succ', pow-le-pow_right, div-add-mod', add-mul-div_left, mul_assoc, mul_comm, mul_left_comm, mod-lt, div-lt_iff_lt-mul}
+use native.Mathlib.Nat.{pow-succ', pow-le-pow_right, div-add-mod', add-mul-div_left, mul_assoc, mul_comm, mul_left_comm}
 use native.Mathlib.Omega.{arith}
 use lib.ListN.{length, get_or, take}
 use lib.Dec.{ltb, eqb}
@@ -19,6 +19,7 @@ use Rattle.std.proofs.lemmas.Bool.Decides.{nat_tests}
 use Rattle.numeral.specs.declared.Met.{Met}
 use Rattle.numeral.specs.declared.Said.{Said}
 use Rattle.numeral.specs.Numeral.{no_digit_of, scaled, more, scan_to, scanned, whole, has_minus, behind, Small, Scaled, units, signed}
+use Rattle.std.proofs.Math.Bool.{and-true}
 
 -- after i bytes
 pub record Below (s : Met) (i : ℕ) : Type 0 where
@@ -87,13 +88,6 @@ module _ (n d : ℕ) (h : 0 < d) where
       let p = ap (λ (x : ℕ). x / (2 * d)) parts in
       omega (arith, p, q)
 
-  -- the part of a mm gives 8,192 units at most
-  pub part-most : (n % d * 16384 + d) / (2 * d) ≤ 8192
-  part-most =
-      let k = mod-lt n h in
-      let z : (n % d * 16384 + d) / (2 * d) < 8193 = (div-lt_iff_lt-mul {k = 2 * d} {x = n % d * 16384 + d} {y = 8193} (omega arith)).1 (omega arith) in
-      omega arith
-
   pub far : 1024 < n / d → 8388608 < units n d
   far k = let e = two_steps in omega arith
 
@@ -155,7 +149,3 @@ pub front_is : (w : List ℕ) (t : Bool) → pointwise eqb (take 1 w) (45 ∷ []
 unfolding has_minus
 front_is [] t e = e
 front_is (b ∷ w) t e = sym (and-true (eqb b 45)) ∙ e
-  where
-    and-true : (x : Bool) → (x && true) ≡ x
-    and-true true = refl
-    and-true false = refl

@@ -16,6 +16,7 @@ use Rattle.vector.specs.Grid.{origin, at}
 use Rattle.vector.specs.Size.{OnSheet, AllOnSheet}
 use Rattle.vector.specs.Plane.{in_mm, lerp}
 use Rattle.vector.proofs.Rings.{at_place, at_following}
+use Rattle.segments.specs.declared.Segment.{Segment}
 use Rattle.segments.specs.Segments.{segments_cross}
 use Rattle.segments.specs.Meeting.{strictly_between}
 use Rattle.simple.specs.Simple.{point_in_polygon}
@@ -38,12 +39,17 @@ module _ (l : List GridPoint) (k : ℕ) (lk : k < length l) where
 
   -- edge e, whose end is the place j
   module _ (e j : ℕ) (le : e < length l) (ej : j ≡ (e + 1) % length l) where
-    pub opened : clear_of (length l) k e && segments_cross (get_or l 0 origin) (get_or l k origin) (get_or l e origin) (get_or l j origin) ≡ blocks l k e
+    pub by_points : clear_of (length l) k e && segments_cross (get_or l 0 origin) (get_or l k origin) (get_or l e origin) (get_or l j origin) ≡ blocks l k e
     unfolding blocks
-    opened =
+    by_points =
         let c = at_place l e le in
         let d = at_following l e j ej in
         λ i. clear_of (length l) k e && segments_cross (sym first i) (sym last i) (sym c i) (sym d i)
+
+    -- it and the diagonal as segments
+    pub opened : (s t : Segment) → (s.a ≡ get_or l 0 origin) × (s.b ≡ get_or l k origin) → (t.a ≡ get_or l e origin) × (t.b ≡ get_or l j origin)
+        → clear_of (length l) k e && segments_cross s.a s.b t.a t.b ≡ blocks l k e
+    opened s t es et = (λ i. clear_of (length l) k e && segments_cross (es.0 i) (es.1 i) (et.0 i) (et.1 i)) ∙ by_points
 
   -- the corners
   pub over : list_any (strictly_between (get_or l 0 origin) (get_or l k origin)) l ≡ any (runs_over l k) (length l)

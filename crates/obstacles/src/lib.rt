@@ -11,6 +11,7 @@ ghost use Rattle.laws.specs.Bounded.{any};
 ghost use Rattle.vector.specs.Rings.{most_points, OnSheetPoints};
 ghost use Rattle.obstacles.specs.Obstacles as Obstacles;
 
+use segments::Segment;
 use vector::{GridPoint, Point};
 
 // Whether edge e of n touches neither corner 0 nor corner k.
@@ -29,12 +30,11 @@ fn blocked(part: &[GridPoint], k: usize) -> bool
     ensures { result ≡ any (Obstacles.blocks part.now k) (length part.now) }
 {
     let n = part.len();
-    let o = part[0];
-    let q = part[k];
+    let diagonal = Segment::new(part[0], part[k]);
     let mut found = false;
     // Kept: as above.
     'scan: for e in 0..n {
-        if clear_of(n, k, e) && segments::segments_cross(o, q, part[e], part[vector::next(e, n)]) {
+        if clear_of(n, k, e) && diagonal.crosses(Segment::new(part[e], part[vector::next(e, n)])) {
             found = true;
             break 'scan;
         }
@@ -47,9 +47,8 @@ fn runs_over(part: &[GridPoint], k: usize) -> bool
     requires { OnSheetPoints part.now × (k < length part.now) }
     ensures { result ≡ any (Obstacles.runs_over part.now k) (length part.now) }
 {
-    let o = part[0];
-    let q = part[k];
-    part.iter().any(|c| segments::strictly_between(o, q, *c))
+    let diagonal = Segment::new(part[0], part[k]);
+    part.iter().any(|c| diagonal.runs_over(*c))
 }
 
 // Whether the diagonal to corner k has its midpoint inside, crosses no edge and runs over no corner.

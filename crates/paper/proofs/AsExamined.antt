@@ -34,7 +34,7 @@ use Rattle.limits.specs.Sets.{with_cuts, practice_set}
 use Rattle.limits.proofs.Taken.{delivered-taken, practice-taken}
 use Rattle.call.specs.Call.{Lists, used_in, Call, lists_of, counts_out, over24, units_out, lists_out, node_reserve, cell_reserve, room_out_of}
 use Rattle.call.specs.Divide.{CallAnswer, put, refused, refused_or, ring_tests, asked, rims_left, answered, core, start_of}
-use Rattle.call.specs.Lent.{all_cells, Lent, call_of, odd, tests_by, tests_for, divide_lent, divide_practice}
+use Rattle.call.specs.Lent.{all_cells, Lent, call_of, odd, tests_by, divide_lent, divide_practice, practice_tests}
 use Rattle.call.proofs.Tests.{passed}
 use Rattle.call.proofs.Course.{by_tests, by_tests-both, refused-code, start-points}
 use Rattle.rims.proofs.Edges.{marked-cuts}
@@ -114,9 +114,6 @@ module _ (l : Lent) (o : OnPracticePaper (call_of l)) where
   abbrev examination : List Refusal
   examination = tests_by all_cells delivered l
 
-  abbrev practised : List Refusal
-  practised = tests_for over24 all_cells practice_set l
-
   -- the tests of either, by those that can hold
   abbrev order : Bool → Bool → Bool → ℕ
   order over set room =
@@ -128,7 +125,7 @@ module _ (l : Lent) (o : OnPracticePaper (call_of l)) where
       (cond (lists_out x) 3
       (cond room 4 0))))))
 
-  same_first : first_of practised ≡ first_of examination
+  same_first : first_of (practice_tests l) ≡ first_of examination
   same_first =
       let over = within_24 r (length c.chain) o.ring o.chain in
       let less = room_free practice_set r x (holds-less r x o.reserve) in

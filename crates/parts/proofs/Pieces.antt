@@ -1,29 +1,28 @@
 -- The pieces that the code holds, one by one: their size, points and marks.
-use Prim.Native.Nat.{ℕ, zero, suc, ◌+◌, ◌-◌, ◌%◌, ◌≤◌, ◌<◌}
+use Prim.Native.Nat.{ℕ, suc, ◌+◌, ◌-◌, ◌%◌, ◌≤◌, ◌<◌}
 use native.Mathlib.Numerals.{add-one}
 use native.Mathlib.Omega.{arith}
-use mathlib.Core.Path.{◌≡◌, refl, sym, ap, ◌∙◌}
-use mathlib.Core.List.{List, [], ◌∷◌, map}
+use mathlib.Core.Path.{◌≡◌, sym, ap, ◌∙◌}
+use mathlib.Core.List.{List}
 use denote.Ref.{Bor}
 use Rattle.std.proofs.Common.{Option, Some, None}
 use Rattle.std.specs.Option.{unwrap_or, option_copied}
 use Rattle.std.specs.Slice.{IsItemAt}
-use lib.ListN.{get_or-eq_default, length, get_or, take, drop, length-map, length-drop, get_or-map}
+use lib.ListN.{get_or-eq_default, length, get_or, take, drop, length-drop}
 use lib.Seq.{get_or-take, get_or-drop, length-take-le}
-use Rattle.std.proofs.lemmas.List.{get_or_default, take-map}
+use Rattle.std.proofs.lemmas.List.{get_or_default}
 use Rattle.laws.specs.Table.{tab}
-use Rattle.laws.proofs.Table.{length_tab, get_d_tab, is_tab, tab_ext}
+use Rattle.laws.proofs.Table.{length_tab, get_d_tab, is_tab, tab_ext, map_tab}
 use Rattle.vector.specs.declared.GridPoint.{GridPoint}
 use Rattle.vector.specs.Grid.{origin}
 use Rattle.marks.specs.declared.EdgeMark.{EdgeMark}
-use Rattle.marks.specs.declared.Edge.{Edge}
-use Rattle.marks.specs.Edges.{marks_in, straight_edge}
+use Rattle.marks.specs.declared.EdgeMark.TheVariants.{Straight}
 use Rattle.marks.specs.Part.{Part, no_part}
 use Rattle.parts.specs.declared.list.Vertex.{Vertex}
 use Rattle.parts.specs.declared.list.PartList.{PartList}
 use Rattle.parts.specs.Vertices.{no_vertex, vertex, corner_point, edge_at}
 use Rattle.parts.specs.Layout.{end, size, nth}
-use Rattle.parts.specs.Pieces.{piece_in, marks_of}
+use Rattle.parts.specs.Pieces.{piece_in}
 use Rattle.parts.proofs.Stored.{rises, kept_rises}
 use Rattle.parts.proofs.Segments.{from_first}
 use Rattle.parts.specs.Layout.{corners_of}
@@ -47,33 +46,15 @@ module _ (p : PartList) (i : ℕ) (l : i < p.count) where
       (omega (arith, f, s.0), omega (arith, f, s.1), omega (arith, f, t, p.fits), ap (λ (e : ℕ). e - end p i) (sym f))
 
 -- ---- marks
--- the marks of the ring's part are those of the first n edges
-pub marks-taken : (n : ℕ) (marks : List Edge) → take n (marks_of marks) ≡ marks_in marks n
-marks-taken n marks = take-map (λ (e : Edge). e.mark) n marks
+-- what the code reads of a corner's edge
+pub mark-read : (marks : List EdgeMark) (k : ℕ) (r : Option (Bor EdgeMark)) → IsItemAt marks k r → unwrap_or (option_copied r) Straight ≡ get_or marks k Straight
+mark-read marks k None h = sym (get_or-eq_default marks Straight h.3)
+mark-read marks k (Some x) h = h.1 ∙ get_or_default marks k x.now Straight h.3.0
 
--- the mark of a corner's edge, as an array of marks holds it
-abbrev pub mark_at : List Edge → List Vertex → ℕ → Edge
-mark_at marks vs i = get_or marks (vertex vs i).edge straight_edge
-
--- what the code reads of it
-pub mark-read : (marks : List Edge) (k : ℕ) (r : Option (Bor Edge)) → IsItemAt marks k r → unwrap_or (option_copied r) straight_edge ≡ get_or marks k straight_edge
-mark-read marks k None h = sym (get_or-eq_default marks straight_edge h.3)
-mark-read marks k (Some x) h = h.1 ∙ get_or_default marks k x.now straight_edge h.3.0
-
-map_tab : {A B : Type 0} (f : A → B) (g : ℕ → A) (n : ℕ) (d : A) → map f (tab g n) ≡ tab (λ i. f (g i)) n
-map_tab f g n d =
-    is_tab (map f (tab g n)) (λ i. f (g i)) n (f d) (length-map (tab g n) f ∙ length_tab g n)
-    (λ i l. get_or-map f (tab g n) i d ∙ ap f (get_d_tab g n i d l))
-
-pub marks_are : (p : PartList) (i : ℕ) → i < p.count → (marks out : List Edge)
-    → take (size p i) out ≡ tab (λ j. mark_at marks p.corners (end p i + j)) (size p i) → (ring : List GridPoint)
-    → marks_of (take (size p i) out) ≡ (piece_in ring (marks_of marks) p i).edges
-marks_are p i l marks out e ring =
-    let f : Edge → EdgeMark = (λ e. e.mark) in
-    ap marks_of e ∙ map_tab f (λ j. mark_at marks p.corners (end p i + j)) (size p i) straight_edge
-    ∙ tab_ext (λ j. f (mark_at marks p.corners (end p i + j))) (λ j. edge_at (marks_of marks) p.corners (end p i + j)) (size p i)
-    (λ j h. sym (get_or-map f marks (vertex p.corners (end p i + j)).edge straight_edge))
-    ∙ sym (ap (λ (q : Part). q.edges) (piece-nth p i l ring (marks_of marks)))
+pub marks_are : (p : PartList) (i : ℕ) → i < p.count → (marks out : List EdgeMark)
+    → take (size p i) out ≡ tab (λ j. edge_at marks p.corners (end p i + j)) (size p i) → (ring : List GridPoint)
+    → take (size p i) out ≡ (piece_in ring marks p i).edges
+marks_are p i l marks out e ring = e ∙ sym (ap (λ (q : Part). q.edges) (piece-nth p i l ring marks))
 
 pub points_are : (p : PartList) (i : ℕ) → i < p.count → (ring : List GridPoint) (es : List EdgeMark)
     → tab (λ j. corner_point ring p.corners (end p i + j)) (size p i) ≡ (piece_in ring es p i).points

@@ -1,5 +1,5 @@
 -- The corners that the code copies out of a part, closes with the diagonal and turns round are those of make_sub_polygon, of the first part and of the second.
-use Prim.Native.Nat.{ℕ, suc, ◌+◌, ◌-◌, ◌%◌, ◌≤◌, ◌<◌}
+use Prim.Native.Nat.{ℕ, ◌+◌, ◌-◌, ◌%◌, ◌≤◌, ◌<◌}
 use native.Mathlib.Nat.{mod-eq_of_lt, add-mod_right, add-zero, zero-add, add-mod-mod, add_comm}
 use native.Mathlib.Numerals.{add-one}
 use native.Mathlib.Omega.{arith}
@@ -11,11 +11,11 @@ use mathlib.Core.List.{List, [], ◌∷◌, ◌++◌, reverse}
 use lib.ListN.{length, get_or, set, take, drop, get_or-eq_default}
 use lib.Seq.{get_or-take, length-take-le}
 use lib.Dec.{ltb}
-use lib.IntN.{ℤ, pos, negsuc, nat_abs}
+use lib.IntN.{ℤ, pos, nat_abs}
 use lib.Signed.{non_neg, le_z}
-use borrow.Author.Tests.{lt-ltb, le-ltb, le-leb}
+use borrow.Author.Tests.{lt-ltb, le-ltb}
 use Rattle.laws.specs.Table.{tab}
-use Rattle.laws.proofs.Table.{is_tab, more-last, get_d_tab, tab_ext, take-of, drop_of, round_of, reverse_of, rotation_of}
+use Rattle.laws.proofs.Table.{is_tab, more-last, get_d_tab, tab_ext, take-of, drop_of, round_of, reverse_of, rotation_of, last_more}
 use Rattle.vector.specs.declared.GridPoint.{GridPoint}
 use Rattle.vector.specs.Grid.{origin, polygon_area}
 use Rattle.marks.specs.declared.EdgeMark.{EdgeMark}
@@ -23,14 +23,11 @@ use Rattle.marks.specs.declared.EdgeMark.TheVariants.{Straight}
 use Rattle.parts.specs.declared.list.Vertex.{Vertex}
 use Rattle.parts.specs.Cut.{rotate, oriented, make_sub_polygon, turned_area, first_points, second_points, first_part, second_part}
 use Rattle.parts.specs.Vertices.{no_vertex, vertex, corner_point, edge_at, part_of, straight, closing, backward}
+use Rattle.laws.proofs.SignedTests.{from_zero}
 
 -- ---- the test of an area's sign, on the number z that was computed
 pub by_sign : (z w : ℤ) (b : Bool) → z ≡ w → le_z (pos 0) z ≡ b → non_neg w ≡ b
-by_sign z w b e h = ap non_neg (sym e) ∙ same z ∙ h
-  where
-    same : (z : ℤ) → non_neg z ≡ le_z (pos 0) z
-    same (pos n) = sym (le-leb 0 n (omega arith))
-    same (negsuc n) = refl
+by_sign z w b e h = ap non_neg (sym e) ∙ from_zero z ∙ h
 
 -- ---- a corner is its two numbers
 pub same_vertex : (x y : Vertex) → x.at ≡ y.at → x.edge ≡ y.edge → x ≡ y
@@ -95,10 +92,6 @@ edge_of es c d e = ap (λ (x : Vertex). get_or es x.edge Straight) e
 -- the number 60 is no mark's
 pub straight-edge : (es : List EdgeMark) → length es ≡ 60 → (k : ℕ) → k ≡ 60 → get_or es k Straight ≡ Straight
 straight-edge es len k e = get_or-eq_default es Straight (omega (arith, len, e))
-
-last_more : {A : Type 0} (f : ℕ → A) (m : ℕ) → 1 ≤ m → tab f m ≡ tab f (m - 1) ++ (f (m - 1) ∷ [])
-unfolding tab
-last_more f m h = let e : m ≡ suc (m - 1) = omega arith in ap (tab f) e
 
 -- counted from the first corner
 pub from_first : (ring : List GridPoint) (vs : List Vertex) (m : ℕ) → tab (λ i. corner_point ring vs ((0 + i) % m)) m ≡ tab (corner_point ring vs) m

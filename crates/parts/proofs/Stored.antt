@@ -102,17 +102,6 @@ module _ (vs ps : List Vertex) (a : ℕ) (l : a + length ps ≤ length vs) where
         ∙ get_or-drop (length ps) (drop a vs) j no_vertex ∙ get_or-drop a vs (length ps + j) no_vertex ∙ ap (vertex vs) (sym e);
   }
 
-  pub length-laid : length laid ≡ length vs
-  length-laid =
-      omega (
-        arith,
-        length-append (take a vs) (ps ++ drop (length ps) (drop a vs)),
-        before,
-        length-append ps (drop (length ps) (drop a vs)),
-        length-drop (length ps) (drop a vs),
-        length-drop a vs,
-      )
-
 -- ---- what a push gives: r is p with the first n corners of ps put at its end, and one end more
 module _ (p : PartList) (few : p.count < 33) (wide : length p.ends ≡ 34) (ps : List Vertex) (n : ℕ) (r : PartList)
     (s : Stored p.corners (end p p.count) ps n r.corners) (ends : r.ends ≡ set p.ends (p.count + 1) (end p p.count + n)) (count : r.count ≡ p.count + 1) where

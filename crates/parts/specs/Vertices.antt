@@ -1,5 +1,5 @@
 -- A part as the code holds it: corners that are numbers of the ring's points and of the marks of its edges; and what the functions over them give.
-use Rattle.std.specs.Prelude.{ℕ, ◌+◌, ◌-◌, ◌%◌, List, cond, ltb, get_or}
+use Rattle.std.specs.Prelude.{ℕ, ◌+◌, ◌-◌, ◌%◌, List, cond, ltb, length, get_or}
 use lib.Dec.{lit<}
 use Rattle.laws.specs.Table.{tab}
 use Rattle.vector.specs.declared.GridPoint.{GridPoint}
@@ -9,6 +9,7 @@ use Rattle.marks.specs.declared.EdgeMark.{EdgeMark}
 use Rattle.marks.specs.declared.EdgeMark.TheVariants.{Straight}
 use Rattle.marks.specs.Part.{Part}
 use Rattle.parts.specs.declared.list.Vertex.{Vertex}
+use Rattle.parts.specs.declared.list.RingPart.{RingPart}
 
 abbrev pub no_vertex : Vertex
 no_vertex = record { at = 0; edge = 0; below = lit< tt }
@@ -34,6 +35,13 @@ edge_at es vs i = get_or es (vertex vs i).edge Straight
 -- the part of the first m corners
 abbrev pub part_of : List GridPoint → List EdgeMark → List Vertex → ℕ → Part
 part_of ring es vs m = record { points = tab (corner_point ring vs) m; edges = tab (edge_at es vs) m }
+
+-- the points of the corners of a part of a ring, and the part with the marks of the ring's edges
+abbrev pub corner_points : RingPart → List GridPoint
+corner_points p = tab (corner_point p.ring.now p.corners.now) (length p.corners.now)
+
+abbrev pub part_with : RingPart → List EdgeMark → Part
+part_with p es = part_of p.ring.now es p.corners.now (length p.corners.now)
 
 abbrev pub straight : Vertex → Vertex
 straight c = record { at = c.at; edge = straight_number; below = c.below }

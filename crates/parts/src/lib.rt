@@ -13,15 +13,15 @@ ghost use Rattle.vector.specs.Grid.{origin};
 ghost use Rattle.vector.specs.Size.{AllOnSheet};
 ghost use Rattle.vector.specs.Rings.{most_points, points_of, OnSheetRing};
 ghost use Rattle.marks.specs.declared.EdgeMark.{EdgeMark};
-ghost use Rattle.marks.specs.Edges.{straight_edge};
+ghost use Rattle.marks.specs.declared.EdgeMark.TheVariants.{Straight};
 ghost use Rattle.parts.specs.Vertices.{vertex, corner_point};
 ghost use Rattle.parts.specs.Layout as Layout;
-ghost use Rattle.parts.specs.Pieces.{piece_in, marks_of};
+ghost use Rattle.parts.specs.Pieces.{piece_in};
 
 mod list;
 
-pub use list::{PartList, Vertex};
-use marks::Edge;
+pub use list::{PartList, RingPart, Vertex};
+use marks::EdgeMark;
 use vector::{GridPoint, MOST_POINTS, Ring};
 
 impl PartList {
@@ -50,23 +50,28 @@ impl PartList {
     }
 }
 
-// The points of a part's corners, counted from corner v, in the first places. The places after them are zero.
-pub fn rotated_points(ring: &[GridPoint; MOST_POINTS], vs: &[Vertex], v: usize) -> Ring
-    requires { (length vs.now ≤ most_points) × (v < length vs.now) × AllOnSheet ring.now }
-    ensures { (points_of result ≡ tab (λ i. corner_point ring.now vs.now ((v + i) % length vs.now)) (length vs.now)) × OnSheetRing result
-        × (result.count ≡ length vs.now) × ((j : ℕ) → result.count ≤ j → get_or result.points j origin ≡ origin) }
-{
-    let mut out = Ring {
-        points: [GridPoint::ORIGIN; MOST_POINTS],
-        count: vs.len(),
-    };
-    // Kept: the place is counted. `for (place, c) in out.points.iter_mut().zip(..)` was tried, and its promise doesn't close: the library
-    // says what a place that an adapter lends holds before the turn, and not what the list holds after the loop. Over the places alone,
-    // by `enumerate`, the corner would be counted.
-    for (i, c) in vs[v..].iter().chain(&vs[..v]).enumerate() {
-        out.points[i] = ring[usize::from(c.at)];
+impl RingPart<'_> {
+    // The points of the corners, counted from corner v, in the first places. The places after them are zero.
+    pub fn rotated_points(&self, v: usize) -> Ring
+        requires { v < length self.now.corners.now }
+        ensures { (points_of result ≡ tab (λ i. corner_point self.now.ring.now self.now.corners.now ((v + i) % length self.now.corners.now))
+            (length self.now.corners.now))
+            × OnSheetRing result × (result.count ≡ length self.now.corners.now)
+            × ((j : ℕ) → result.count ≤ j → get_or result.points j origin ≡ origin) }
+    {
+        let vs = self.corners;
+        let mut out = Ring {
+            points: [GridPoint::ORIGIN; MOST_POINTS],
+            count: vs.len(),
+        };
+        // Kept: the place is counted. `for (place, c) in out.points.iter_mut().zip(..)` was tried, and its promise doesn't close: the
+        // library says what a place that an adapter lends holds before the turn, and not what the list holds after the loop. Over the
+        // places alone, by `enumerate`, the corner would be counted.
+        for (i, c) in vs[v..].iter().chain(&vs[..v]).enumerate() {
+            out.points[i] = self.ring[usize::from(c.at)];
+        }
+        out
     }
-    out
 }
 
 // The points of piece i, and the marks of its edges, in the first places. The places after them are zero, and straight.
@@ -78,21 +83,29 @@ pub fn piece_points(ring: &[GridPoint; MOST_POINTS], pieces: &PartList, i: usize
         × (result.count ≡ Layout.size pieces.now i) × (3 ≤ result.count)
         × ((j : ℕ) → result.count ≤ j → get_or result.points j origin ≡ origin) }
 {
-    rotated_points(ring, pieces.part(i), 0)
+    let part = RingPart {
+        ring,
+        corners: pieces.part(i),
+    };
+    part.rotated_points(0)
 }
 
 #[tactic(auto, using(crate::proofs::Pieces::marks_are))]
-pub fn piece_marks(marks: &[Edge; MOST_POINTS], pieces: &PartList, i: usize) -> [Edge; MOST_POINTS]
+pub fn piece_marks(
+    marks: &[EdgeMark; MOST_POINTS],
+    pieces: &PartList,
+    i: usize,
+) -> [EdgeMark; MOST_POINTS]
     requires { i < pieces.now.count }
-    ensures { ((ring : List GridPoint) → marks_of (take (Layout.size pieces.now i) result) ≡ (piece_in ring (marks_of marks.now) pieces.now i).edges)
-        × ((j : ℕ) → Layout.size pieces.now i ≤ j → get_or result j straight_edge ≡ straight_edge) }
+    ensures { ((ring : List GridPoint) → take (Layout.size pieces.now i) result ≡ (piece_in ring marks.now pieces.now i).edges)
+        × ((j : ℕ) → Layout.size pieces.now i ≤ j → get_or result j Straight ≡ Straight) }
 {
-    let mut out = [Edge::STRAIGHT; MOST_POINTS];
-    // Kept: the place is counted, as above. `std::array::from_fn` takes 660 instructions more a piece, 3 in a hundred of a small ring's
-    // call, where the median of `mix` at 250 nodes stands at 100 % of the Rust's, the goal (docs/BENCHMARKS.md).
+    let mut out = [EdgeMark::Straight; MOST_POINTS];
+    // Kept: the place is counted, as above. `std::array::from_fn` would ask of each of the 60 places whether the piece has a corner
+    // there, no plainer, and takes 660 instructions more a piece.
     for (j, c) in pieces.part(i).iter().enumerate() {
         let mark = marks.get(usize::from(c.edge));
-        out[j] = mark.copied().unwrap_or(Edge::STRAIGHT);
+        out[j] = mark.copied().unwrap_or(EdgeMark::Straight);
     }
     out
 }

@@ -1,7 +1,10 @@
-// A corner and a list of parts, in a file of their own: a struct with a ghost field stands on all that the clauses of its file cite.
+// A corner, a part and a list of parts, in a file of their own: a struct with a ghost field stands on all that the clauses of its file cite.
 
-ghost use Rattle.std.specs.Prelude.{ℕ, suc, ◌+◌, ◌≤◌, ◌<◌, get_or};
+ghost use Rattle.std.specs.Prelude.{ℕ, suc, ◌+◌, ◌≤◌, ◌<◌, length, get_or};
 ghost use Rattle.vector.specs.Rings.{most_points};
+ghost use Rattle.vector.specs.Size.{AllOnSheet};
+
+use vector::{GridPoint, MOST_POINTS};
 
 // A corner of a part: the number of its point among the ring's, and that of the mark of the edge that starts there.
 // Kept: no Option<u8> for the edge, which takes two bytes, so a corner would take three. The state of the split, two lists of 124
@@ -22,6 +25,15 @@ impl Vertex {
         at: 0,
         edge: Vertex::STRAIGHT,
     };
+}
+
+// A part of a ring: the ring's points, and the part's corners, which are numbers of them.
+#[derive(Clone, Copy)]
+pub struct RingPart<'a> {
+    pub ring: &'a [GridPoint; MOST_POINTS],
+    pub corners: &'a [Vertex],
+    ghost few: { length corners.now ≤ most_points },
+    ghost sheet: { AllOnSheet ring.now },
 }
 
 // Parts one after the other: part j has the corners from ends[j] to ends[j + 1], three or more and no more than 60. No more than

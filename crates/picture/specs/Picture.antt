@@ -1,6 +1,7 @@
 -- The picture of a job as one definition, `pictured`, from the bytes that go in to those that come out; and what is owed of it after so many bytes. Of what the
 -- operating system takes no contract can speak, so it stands for its length. Definitions only.
-use Rattle.std.specs.Prelude.{ℕ, zero, suc, ◌+◌, ◌*◌, ◌/◌, ◌%◌, ◌≤◌, ◌<◌, ◌≡◌, false, cond, List, [], ◌++◌, length, take, eqb, ℤ, Float, Result, Ok, Err, IfErr}
+use Rattle.std.specs.Prelude.{ℕ, zero, suc, ◌+◌, ◌*◌, ◌/◌, ◌%◌, ◌≤◌, ◌<◌, ◌≡◌, false, cond, List, [], ◌++◌, length, take, eqb, ℤ, Float, Option, IfSome, Result, Ok, Err, IfOk, IfErr}
+use Rattle.std.specs.Io.KnownBytes.{Consumes}
 use Rattle.text.specs.Text.{bytes}
 use Rattle.text.specs.declared.Page.{Page}
 use Rattle.state.specs.declared.State.{State}
@@ -104,6 +105,13 @@ counted (Err failed) = torn failed.done
 abbrev pub Ends : List ℕ → End → Type 0
 Ends l (Drawn read sent) = (sent ≡ length (pictured (take (counted read) l))) × (counted read ≤ 262144) × IfErr read (λ failed. 0 < counted read % 512)
 Ends l (TooLong count) = 262144 < count
+
+-- of a reader whose bytes are known, where no read failed, it is the picture of all of them; and a failed read came after those that were read. What is too
+-- long has more than 256 rings, or a read failed after them
+abbrev pub Own : Option (List ℕ) → Option (List ℕ) → List ℕ → End → Type 0
+Own old new l (Drawn read sent) =
+    IfOk read (λ n. IfSome old (λ xs. sent ≡ length (pictured xs))) × IfErr read (λ failed. Consumes old new (take failed.done l))
+Own old new l (TooLong count) = IfSome old (λ xs. 262144 ≤ length xs)
 
 -- and what it says of that, or of a write that failed
 unfoldable pub said : Result End WriteFailed → List ℕ

@@ -5,7 +5,7 @@
 // The box of the drawing stands in front, so the whole job is read first, 256 rings at most. Then the blocks are stepped over
 // by `run::Job`. specs/Picture says what comes out as one definition, `pictured`: each text that is handed over is what it has
 // next after the bytes written so far, and a run that ends has written as many as it has. `draw_job` is the whole program, and
-// `main` only says how it ended. What is left to the operating system's calls is said in stream.
+// what it has read is all that the reader had, where no read failed, by `Own`; `main` only says how it ended. What is left to the operating system's calls is said in stream.
 
 #![tactic(auto)]
 
@@ -14,7 +14,7 @@ ghost use Rattle.told.specs.Text.{tells_of, CanTell};
 ghost use Rattle.sketch.specs.Drawn.{told_drawn, lead_at, most_step};
 ghost use Rattle.frame.specs.Bounds.{extent_of, frame_of};
 ghost use Rattle.frame.specs.Head.{head_text, most_head};
-ghost use Rattle.picture.specs.Picture.{on, rings_drawn, all_drawn, pictured, most_rings, Wrote, Owed, Sends, Reached, Drew, Left, torn, counted, Ends, said};
+ghost use Rattle.picture.specs.Picture.{on, rings_drawn, all_drawn, pictured, most_rings, Wrote, Owed, Sends, Reached, Drew, Left, torn, counted, Ends, Own, said};
 
 use frame::{Edges, Frame, MOST_HEAD};
 use run::Job;
@@ -56,10 +56,7 @@ fn count_of(read: Result<usize, ReadFailed>) -> usize
     requires err { IfErr read (λ failed. failed.done < 262145) }
     ensures { (result ≡ counted read) × (result ≤ 262145) × IfErr read (λ failed. 0 < result % 512) }
 {
-    match read {
-        Ok(count) => count,
-        Err(failed) => torn(failed.done),
-    }
+    read.unwrap_or_else(|failed| torn(failed.done))
 }
 
 // Writes the text on a page, which is owed after `sent` bytes.
@@ -199,7 +196,8 @@ fn draw_job<R: Read, W: Write>(
     bytes: &mut [u8],
 ) -> Result<End, WriteFailed>
     requires { length bytes.old ≡ 262145 }
-    ensures { IfOk result (Ends bytes.new) }
+    ensures ends { IfOk result (Ends bytes.new) }
+    ensures own { IfOk result (Own (R.remaining input.old) (R.remaining input.new) bytes.new) }
 {
     let read = stream::fill(input, bytes);
     let count = count_of(read);

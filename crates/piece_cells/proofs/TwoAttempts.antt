@@ -6,11 +6,10 @@ use Prim.Native.Nat.{ℕ, zero, suc, ◌≤◌}
 use native.Mathlib.Omega.{arith}
 use mathlib.Core.Bool.{Bool, true, false}
 use borrow.Author.Tests.{eq-eqb, ne_eqb}
-use lib.ListN.{length, get_or, take, replicate, get_or-map}
+use lib.ListN.{length, get_or, take, replicate}
 use lib.Ieee.{Float}
 use Rattle.laws.specs.Bounded.{below}
 use Rattle.laws.proofs.Search.{below-none, below-absent}
-use Rattle.marks.specs.declared.Edge.{Edge}
 use Rattle.marks.specs.Part.{Part}
 use Rattle.marks.specs.declared.EdgeMark.TheVariants.{Straight}
 use Rattle.nodes.specs.Growth.{InRange, EachNode}
@@ -23,7 +22,6 @@ use Rattle.nodes.proofs.Flat.{length_in, in_over, length_over, over-over}
 use Rattle.cells.specs.declared.Tried.{Tried}
 use Rattle.cells.specs.Cells.{Attempt, attempt, subdivide}
 use Rattle.cells.specs.Stages.{mark_at, straight}
-use Rattle.marks.specs.Edges.{marks_in}
 use Rattle.cells.specs.Asks.{Ask, attempt_asks, subdivide_asks}
 use Rattle.cells.specs.Rims.{rims_by}
 use Rattle.cells.specs.Flat.{side_at, attempt_in, attempt_asks_in, subdivide_in, subdivide_asks_in, tried_of, CanTry, CanSubdividePiece}
@@ -38,18 +36,15 @@ use Rattle.cells.proofs.Rims.{rims_length, rims_then}
 use Rattle.cells.proofs.Asking.{attempt-listed}
 
 -- ---- marks that are all straight
-abbrev plain_edge : Edge
-plain_edge = record { mark = Straight }
-
-all_plain : (n i m k : ℕ) → get_or (take n (take i (replicate m plain_edge))) k plain_edge ≡ plain_edge
+all_plain : (n i m k : ℕ) → get_or (take n (take i (replicate m Straight))) k Straight ≡ Straight
 all_plain zero i m k = refl
 all_plain (suc n) zero m k = refl
 all_plain (suc n) (suc i) zero k = refl
 all_plain (suc n) (suc i) (suc m) zero = refl
 all_plain (suc n) (suc i) (suc m) (suc k) = all_plain n i m k
 
-plain_at : (n m k : ℕ) → get_or (marks_in (take n (replicate m plain_edge)) n) k Straight ≡ Straight
-plain_at n m k = get_or-map (λ (e : Edge). e.mark) (take n (take n (replicate m plain_edge))) k plain_edge ∙ ap (λ (e : Edge). e.mark) (all_plain n n m k)
+plain_at : (n m k : ℕ) → get_or (take n (take n (replicate m Straight))) k Straight ≡ Straight
+plain_at n m k = all_plain n n m k
 
 -- what an attempt t over the lists l and q answers and leaves, as the contracts have it
 abbrev Answers : Attempt → List Ask → List Float → ℕ → List ℕ → List ℕ → Tried → List Float → List ℕ → List ℕ → Type 0
@@ -171,7 +166,7 @@ module _ {share : Float} {l : List Float} {u : ℕ} {p : Part} (f : CanSubdivide
     -- ---- two attempts
     module _ (h : r.fails ≡ None → ⊥) (e : r.far ≡ false) where
       abbrev plain : Part
-      plain = record { points = p.points; edges = marks_in (take (length p.points) (replicate 60 plain_edge)) (length p.points) }
+      plain = record { points = p.points; edges = take (length p.points) (take (length p.points) (replicate 60 Straight)) }
 
       used-is : r.used ≡ length T1.nodes
       used-is = ap (λ (r : Tried). r.used) t.0

@@ -13,7 +13,7 @@ ghost use Rattle.cells.specs.Rims.{rims_by};
 ghost use Rattle.cells.specs.Flat.{CanSubdividePiece, part_of, subdivide_in, tried_of, subdivide_asks_in};
 
 use cells::{Piece, Tried};
-use marks::Edge;
+use marks::EdgeMark;
 use nodes::{Collected, NodeNumber};
 use vector::MOST_POINTS;
 
@@ -43,7 +43,7 @@ pub fn subdivide(
     if t.far {
         return t;
     }
-    let straight = [Edge::STRAIGHT; MOST_POINTS];
+    let straight = [EdgeMark::Straight; MOST_POINTS];
     let n = piece.points.len();
     // Kept: `..*piece` is refused, since the struct has ghost fields.
     let plain = Piece {

@@ -6,8 +6,8 @@ use Prim.Native.Nat.{ℕ, zero, suc, ◌+◌, ◌-◌, ◌*◌, ◌≤◌, ◌<�
 use native.Mathlib.Nat.{le_trans, le_refl}
 use native.Mathlib.Numerals.{add-one}
 use native.Mathlib.Omega.{arith}
-use lib.ListN.{length, get_or, set, length-set}
-use lib.Seq.{take-suc-set, get_or-take}
+use lib.ListN.{length, get_or, set, drop, length-set}
+use lib.Seq.{take-suc-set, get_or-take, drop-set-lt, drop-drop}
 use lib.Ieee.{Float}
 use Rattle.vector.specs.declared.Point.{Point}
 use Rattle.nodes.specs.declared.Placed.{Placed}
@@ -58,50 +58,54 @@ module _ (l : List Float) (u : ℕ) (p : ℕ → Point) where
   rise i n h = let e : i + (n - i) ≡ n = omega arith in subst (λ (k : ℕ). length (E i).nodes ≤ length (E k).nodes) e (up i (n - i))
 
 module _ {l : List Float} {u : ℕ} {p : ℕ → Point} where
-  pub start : (ks : List ℕ) → u * 2 ≤ length l → length ks ≡ 60 → Adds l u p 0 l u ks
+  pub start : (ks : List ℕ) → u * 2 ≤ length l → length ks ≡ 60 → Adds l u p 0 ks l u ks
   unfolding add_nodes
-  start ks h k = record { numbers = refl; long = k; used = sym (length_in l u); nodes = sym (over_in l u h) }
+  start ks h k = record { numbers = refl; rest = refl; long = k; used = sym (length_in l u); nodes = sym (over_in l u h) }
 
   -- the nodes that are listed now
-  pub now-is : {i : ℕ} {m : List Float} {v : ℕ} {ks : List ℕ} → Adds l u p i m v ks → nodes_in m v ≡ (E l u p i).nodes
-  now-is {i} s = (λ j. nodes_in (s.nodes j) (s.used j)) ∙ in_over l (E l u p i).nodes
+  pub now-is : {i : ℕ} {os : List ℕ} {m : List Float} {v : ℕ} {ks : List ℕ} → Adds l u p i os m v ks → nodes_in m v ≡ (E l u p i).nodes
+  now-is {i} {os} s = (λ j. nodes_in (s.nodes j) (s.used j)) ∙ in_over l (E l u p i).nodes
 
-  pub next : {i : ℕ} {m : List Float} {v : ℕ} {ks : List ℕ} {q : Point} {r : Placed} {m' : List Float} → Adds l u p i m v ks → i < 60 → q ≡ p i
+  pub next : {i : ℕ} {os : List ℕ} {m : List Float} {v : ℕ} {ks : List ℕ} {q : Point} {r : Placed} {m' : List Float} → Adds l u p i os m v ks → i < 60 → q ≡ p i
       → r ≡ placed (nodes_in m v) q → m' ≡ over m (add_node (nodes_in m v) q)
-      → Adds l u p (i + 1) m' r.used (set ks i r.number)
+      → Adds l u p (i + 1) os m' r.used (set ks i r.number)
   unfolding add_nodes
-  next {i} {m} {v} {ks} {q} {r} {m'} s h e a b =
+  next {i} {os} {m} {v} {ks} {q} {r} {m'} s h e a b =
       let n : nodes_in m v ≡ (E l u p i).nodes = now-is s in
       let f : r ≡ placed (E l u p i).nodes (p i) = a ∙ (λ j. placed (n j) (e j)) in
       let k = add_node-grown {P = Anything} (E l u p i).nodes (p i) tt in
       let g : m' ≡ over l (add_node (E l u p i).nodes (p i)) =
       b ∙ (λ j. over (s.nodes j) (add_node (n j) (e j))) ∙ over-over l (E l u p i).nodes (add_node (E l u p i).nodes (p i)) k.longer in
-      subst (λ (k : ℕ). Adds l u p k m' r.used (set ks i r.number)) (sym (add-one i))
+      let d : drop 1 (drop i ks) ≡ drop 1 (drop i os) = ap (drop 1) s.rest in
+      subst (λ (k : ℕ). Adds l u p k os m' r.used (set ks i r.number)) (sym (add-one i))
       (record {
         numbers = take-suc-set ks i r.number (omega (arith, s.long)) ∙ (λ j. s.numbers j ++ ((f j).number ∷ []));
+        rest =
+            drop-set-lt (suc i) ks i r.number (omega arith)
+            ∙ rw (add-one i) at (sym (drop-drop 1 i ks) ∙ d ∙ drop-drop 1 i os);
         long = length-set ks i r.number ∙ s.long;
         used = ap (λ (r : Placed). r.used) f;
         nodes = g;
       })
 
   -- a place that was used before is as it was
-  pub read : {i : ℕ} {m : List Float} {v : ℕ} {ks : List ℕ} → Adds l u p i m v ks → (j : ℕ) → j < u → node_in_of m j ≡ node_at (nodes_in l u) j
+  pub read : {i : ℕ} {os : List ℕ} {m : List Float} {v : ℕ} {ks : List ℕ} → Adds l u p i os m v ks → (j : ℕ) → j < u → node_in_of m j ≡ node_at (nodes_in l u) j
   read {i} s j h =
       ap (λ (m : List Float). node_in_of m j) s.nodes ∙ at-over l (E l u p i).nodes j (omega (arith, longer l u p i))
       ∙ (grown l u p i).same j (omega (arith, length_in l u))
 
   -- what was collected of the list stays true of it
-  pub held : {c : Nearby} {numbers : List ℕ} {xs : List Float} {i : ℕ} {m : List Float} {v : ℕ} {ks : List ℕ} → Adds l u p i m v ks
+  pub held : {c : Nearby} {numbers : List ℕ} {xs : List Float} {i : ℕ} {os : List ℕ} {m : List Float} {v : ℕ} {ks : List ℕ} → Adds l u p i os m v ks
       → ValidNearby l u c numbers xs → ValidNearby m v c numbers xs
-  held {c} {numbers} {xs} {i} {m} {v} s h = held-over l m u v (E l u p i).nodes c numbers xs s.nodes s.used (grown l u p i) h
+  held {c} {numbers} {xs} {i} {os} {m} {v} s h = held-over l m u v (E l u p i).nodes c numbers xs s.nodes s.used (grown l u p i) h
 
   -- the numbers are those of listed nodes
-  pub listed : {n : ℕ} {m : List Float} {v : ℕ} {ks : List ℕ} → Adds l u p n m v ks → ListedTo v ks n
-  listed {n} {m} {v} {ks} s j h =
+  pub listed : {n : ℕ} {os : List ℕ} {m : List Float} {v : ℕ} {ks : List ℕ} → Adds l u p n os m v ks → ListedTo v ks n
+  listed {n} {os} {m} {v} {ks} s j h =
       omega (arith, sym (get_or-take n ks j 0 h) ∙ ap (λ (k : List ℕ). get_or k j 0) s.numbers, (add_nodes-number (nodes_in l u) p n j h).low, s.used)
 
   -- while there is room for all n
-  module _ {n : ℕ} (g : CanAdd l u p n) {i : ℕ} {m : List Float} {v : ℕ} {ks : List ℕ} (s : Adds l u p i m v ks) where
+  module _ {n : ℕ} (g : CanAdd l u p n) {i : ℕ} {os : List ℕ} {m : List Float} {v : ℕ} {ks : List ℕ} (s : Adds l u p i os m v ks) where
     pub same_size : i ≤ n → length m ≡ length l
     same_size o = ap length s.nodes ∙ length_over l (E l u p i).nodes (omega (arith, rise l u p i n o, g.room))
 

@@ -1,14 +1,13 @@
 -- Points added one by one to the lent node list of nodes' Flat: what a function that does so asks of the list, and what it
 -- leaves. Then the points that a piece adds: its corners, and the middles of its edges. Definitions only.
-use Rattle.std.specs.Prelude.{ℕ, suc, ◌*◌, ◌%◌, ◌≤◌, ◌<◌, Bool, ◌≡◌, List, length, get_or, take, Float}
+use Rattle.std.specs.Prelude.{ℕ, suc, ◌*◌, ◌%◌, ◌≤◌, ◌<◌, Bool, ◌≡◌, List, length, get_or, take, drop, Float}
 use Rattle.vector.specs.declared.GridPoint.{GridPoint}
 use Rattle.vector.specs.declared.Point.{Point}
 use Rattle.vector.specs.Grid.{origin}
 use Rattle.vector.specs.Plane.{in_mm}
 use Rattle.vector.specs.Rings.{most_points}
-use Rattle.marks.specs.declared.Edge.{Edge}
+use Rattle.marks.specs.declared.EdgeMark.{EdgeMark}
 use Rattle.marks.specs.declared.EdgeMark.TheVariants.{Straight}
-use Rattle.marks.specs.Edges.{marks_in}
 use Rattle.nodes.specs.Nodes.{most_places, node_at, add_nodes}
 use Rattle.nodes.specs.Growth.{InRange}
 use Rattle.nodes.specs.Flat.{nodes_in, over, Usable}
@@ -24,9 +23,11 @@ pub record CanAdd (l : List Float) (u : ℕ) (p : ℕ → Point) (n : ℕ) : Typ
   pub fits : length (add_nodes (nodes_in l u) p n).nodes ≤ most_places
   pub room : length (add_nodes (nodes_in l u) p n).nodes * 2 ≤ length l
 
--- they have been added: the list is now m, with v nodes, and the first n of ks are their numbers
-pub record Adds (l : List Float) (u : ℕ) (p : ℕ → Point) (n : ℕ) (m : List Float) (v : ℕ) (ks : List ℕ) : Type 0 where
+-- they have been added: the list is now m, with v nodes, and their numbers stand over the first n of os, which is now ks, all else
+-- in it as found
+pub record Adds (l : List Float) (u : ℕ) (p : ℕ → Point) (n : ℕ) (os : List ℕ) (m : List Float) (v : ℕ) (ks : List ℕ) : Type 0 where
   pub numbers : take n ks ≡ (add_nodes (nodes_in l u) p n).numbers
+  pub rest : drop n ks ≡ drop n os
   pub long : length ks ≡ most_points
   pub used : v ≡ length (add_nodes (nodes_in l u) p n).nodes
   pub nodes : m ≡ over l (add_nodes (nodes_in l u) p n).nodes
@@ -40,8 +41,8 @@ corner_at ps i = in_mm (get_or ps i origin)
 abbrev pub end_at : List Float → ℕ → List ℕ → ℕ → ℕ → Point
 end_at l u vs n i = node_at (nodes_in l u) (get_or (take n vs) (i % n) 0)
 
-abbrev pub middle_at : Float → List Float → ℕ → List ℕ → List Edge → ℕ → ℕ → Point
-middle_at share l u vs es n i = edge_middle share (get_or (marks_in es n) i Straight) (end_at l u vs n i) (end_at l u vs n (suc i))
+abbrev pub middle_at : Float → List Float → ℕ → List ℕ → List EdgeMark → ℕ → ℕ → Point
+middle_at share l u vs es n i = edge_middle share (get_or (take n es) i Straight) (end_at l u vs n i) (end_at l u vs n (suc i))
 
-abbrev pub far_at : Float → List Float → ℕ → List ℕ → List Edge → ℕ → ℕ → Bool
-far_at share l u vs es n i = too_far share (get_or (marks_in es n) i Straight) (end_at l u vs n i) (end_at l u vs n (suc i))
+abbrev pub far_at : Float → List Float → ℕ → List ℕ → List EdgeMark → ℕ → ℕ → Bool
+far_at share l u vs es n i = too_far share (get_or (take n es) i Straight) (end_at l u vs n i) (end_at l u vs n (suc i))

@@ -12,7 +12,7 @@ ghost use Rattle.nodes.specs.Nearby.{ValidCollected};
 ghost use Rattle.quads.specs.Flat.{ListedTo};
 ghost use Rattle.piece_nodes.specs.Adding.{CanAdd, Adds, corner_at, middle_at, far_at};
 
-use marks::Edge;
+use marks::EdgeMark;
 use nodes::{Collected, NodeNumber};
 use vector::{GridPoint, Point};
 
@@ -34,7 +34,7 @@ pub fn add_corners(
 ) -> usize
     requires { CanAdd nodes.old used (corner_at points.now) (length points.now)
         × ValidCollected nodes.old used found × (length list.old ≡ most_points) }
-    ensures { Adds nodes.old used (corner_at points.now) (length points.now) nodes.new result list.new }
+    ensures { Adds nodes.old used (corner_at points.now) (length points.now) list.old nodes.new result list.new }
 {
     let mut at = used;
     // Kept: the place is counted, since the library doesn't say what a list holds after its places were lent by `iter_mut().zip(..)`;
@@ -52,7 +52,7 @@ pub fn add_middles(
     nodes: &mut [f64],
     used: usize,
     vs: &[NodeNumber],
-    marks: &[Edge],
+    marks: &[EdgeMark],
     share: f64,
     found: Collected<'_>,
     list: &mut [NodeNumber],
@@ -60,18 +60,18 @@ pub fn add_middles(
     requires { CanAdd nodes.old used (middle_at share nodes.old used vs.now marks.now (length vs.now)) (length vs.now)
         × ListedTo used vs.now (length vs.now) × (length marks.now ≡ length vs.now)
         × ValidCollected nodes.old used found × (length list.old ≡ most_points) }
-    ensures { Adds nodes.old used (middle_at share nodes.old used vs.now marks.now (length vs.now)) (length vs.now) nodes.new
-        result.used list.new
+    ensures { Adds nodes.old used (middle_at share nodes.old used vs.now marks.now (length vs.now)) (length vs.now) list.old
+        nodes.new result.used list.new
         × (result.far ≡ any (far_at share nodes.old used vs.now marks.now (length vs.now)) (length vs.now)) }
 {
     let mut at = used;
     let mut far = false;
     // Kept: a turn looks at an edge's mark and at the numbers of both its ends, the second the next one round the piece.
-    for (i, e) in marks.iter().enumerate() {
+    for (i, &mark) in marks.iter().enumerate() {
         let j = vector::next(i, vs.len());
         let a = quads::node_at(nodes, vs[i]);
         let b = quads::node_at(nodes, vs[j]);
-        let m = quads::edge_middle(e.mark, a, b, share);
+        let m = quads::edge_middle(mark, a, b, share);
         let r = numbering::add_node(nodes, at, m.at, found);
         list[i] = r.number;
         at = r.used;

@@ -10,15 +10,16 @@ use borrow.Rule.Slice.PartMut.{put_mid}
 use Rattle.quads.specs.declared.Cell.{Cell}
 use Rattle.quads.specs.Quads.{no_cell}
 use Rattle.quads.specs.Flat.{four, flat_cells, over_cells}
-use Rattle.quads.proofs.CellList.{length-cells, cells-append, length_over, over-over, over_none}
+use Rattle.quads.proofs.CellList.{length-cells, length_over, over-over, over_none}
 use Rattle.pieces.specs.Flat.{over_from}
+use Rattle.std.proofs.lemmas.Grind.{flat_map-append}
 
 -- ---- written out
 flat-zero : (n : ℕ) → replicate (n * 4) 0 ≡ flat_cells (replicate n no_cell)
 flat-zero zero = refl
 flat-zero (suc n) = let e : suc n * 4 ≡ suc (suc (suc (suc (n * 4)))) = omega arith in rw e (ap (λ (l : List ℕ). four no_cell ++ l) (flat-zero n))
 
-pub zeros : (l : List ℕ) (n : ℕ) → replicate (n * 4) 0 ++ drop (n * 4) l ≡ over_cells l (replicate n no_cell)
+zeros : (l : List ℕ) (n : ℕ) → replicate (n * 4) 0 ++ drop (n * 4) l ≡ over_cells l (replicate n no_cell)
 unfolding over_cells
 zeros l n = λ j. flat-zero n j ++ drop (sym (length-replicate n no_cell) j * 4) l
 
@@ -47,6 +48,11 @@ part-back r x a ds e =
     let t : take (length r - a * 4) (drop (a * 4) r) ≡ drop (a * 4) r = take_all (length r - a * 4) (drop (a * 4) r) n in
     let d : drop (length r - a * 4) (drop (a * 4) r) ≡ [] = drop_of_length-le (drop (a * 4) r) n in
     rw (e, t, d) (simp append-nil)
+
+-- zeros were filled in over the places of n cells from place a on
+pub zeros-back : (r : List ℕ) (a n : ℕ) → put_mid (a * 4) (n * 4) r (replicate (n * 4) 0) ≡ over_from r a (replicate n no_cell)
+unfolding over_from
+zeros-back r a n = ap (λ (l : List ℕ). take (a * 4) r ++ l) (zeros (drop (a * 4) r) n)
 
 -- more cells right after
 module _ (q : List ℕ) (a : ℕ) (cs ds : List Cell) (h : (a + length cs) * 4 ≤ length q) where
@@ -81,7 +87,7 @@ module _ (q : List ℕ) (a : ℕ) (cs ds : List Cell) (h : (a + length cs) * 4 �
           (λ j. t j ++ (flat_cells ds ++ drop (length ds * 4) (d j)))
           ∙ append_assoc (take (a * 4) q) (flat_cells cs) (flat_cells ds ++ drop (length ds * 4) rest)
           ∙ ap (λ (l : List ℕ). take (a * 4) q ++ l)
-          (sym (append_assoc (flat_cells cs) (flat_cells ds) (drop (length ds * 4) rest)) ∙ (λ j. sym (cells-append cs ds) j ++ z j))
+          (sym (append_assoc (flat_cells cs) (flat_cells ds) (drop (length ds * 4) rest)) ∙ (λ j. sym (flat_map-append four cs ds) j ++ z j))
 
 -- cells over cells, no fewer
 pub from-again : (q : List ℕ) (a : ℕ) (cs ds : List Cell) → a * 4 ≤ length q → length cs ≤ length ds → over_from (over_from q a cs) a ds ≡ over_from q a ds

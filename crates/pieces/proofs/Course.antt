@@ -10,17 +10,18 @@ use native.Mathlib.Numerals.{add-one}
 use native.Mathlib.Omega.{arith}
 use borrow.Author.Tests.{eq-eqb, ne_eqb}
 use borrow.Rule.Slice.PartMut.{put_mid}
-use lib.ListN.{length, get_or, take, drop, replicate, length-append, length-replicate}
+use lib.ListN.{length, get_or, take, drop, replicate, length-append, length-drop, length-replicate}
+use lib.Seq.{length-take-le}
 use lib.Ieee.{Float}
 use Rattle.laws.specs.All.{All}
 use Rattle.laws.specs.Bounded.{below}
 use Rattle.laws.proofs.Search.{below-given, below-absent}
 use Rattle.vector.specs.declared.GridPoint.{GridPoint}
 use Rattle.vector.specs.declared.Point.{Point}
-use Rattle.marks.specs.declared.Edge.{Edge}
+use Rattle.marks.specs.declared.EdgeMark.{EdgeMark}
 use Rattle.marks.specs.Part.{Part, no_part}
 use Rattle.parts.specs.declared.list.PartList.{PartList}
-use Rattle.parts.specs.Pieces.{piece_in, marks_of}
+use Rattle.parts.specs.Pieces.{piece_in}
 use Rattle.nodes.specs.Growth.{Grown, Anything, InRange, EachNode}
 use Rattle.nodes.specs.Flat.{nodes_in, over, Usable}
 use Rattle.nodes.specs.declared.nearby.Nearby.{Nearby}
@@ -48,15 +49,15 @@ use Rattle.std.specs.Prelude.{Some, None, Result, Err}
 use Rattle.pieces.specs.declared.Laid.{Laid}
 use Rattle.pieces.specs.declared.FailedPiece.{FailedPiece}
 use Rattle.pieces.specs.Flat.{pieces_in, every_mark, labelled_in, CanSubdivide, row, row_of, over_from, cells_left_of}
-use Rattle.pieces.proofs.CellPlaces.{from-none, length_from, part-back, from_more, from-again}
+use Rattle.pieces.proofs.CellPlaces.{from-none, length_from, part-back, zeros-back, from_more, from-again}
 
 -- what the first i pieces ask for
-abbrev pub asks_at : Float → List Float → ℕ → List GridPoint → List Edge → PartList → ℕ → List Ask
+abbrev pub asks_at : Float → List Float → ℕ → List GridPoint → List EdgeMark → PartList → ℕ → List Ask
 asks_at share l u ring es p i = asks_to share (pieces_in ring es p) (labelled_in ring p) (nodes_in l u) i
 
 -- the first i pieces are done: the list of nodes is now m, with v used, that of cells r, and the next cell goes to place at; the rim marks are ts where they
 -- were rs
-pub record Reached (share : Float) (l : List Float) (u : ℕ) (rs q : List ℕ) (first : ℕ) (ring : List GridPoint) (es : List Edge) (p : PartList) (i : ℕ)
+pub record Reached (share : Float) (l : List Float) (u : ℕ) (rs q : List ℕ) (first : ℕ) (ring : List GridPoint) (es : List EdgeMark) (p : PartList) (i : ℕ)
     (m : List Float) (v : ℕ) (ts r : List ℕ) (at : ℕ) : Type 0 where
   pub ns : List Point
   pub cs : List Cell
@@ -68,10 +69,10 @@ pub record Reached (share : Float) (l : List Float) (u : ℕ) (rs q : List ℕ) 
   pub rims : ts ≡ rims_by u (length ns) (asks_at share l u ring es p i) rs
 
 -- piece i was read, of n corners, bs saying which of its edges are ring edges
-pub record Read (ring : List GridPoint) (es : List Edge) (p : PartList) (i n : ℕ) (piece : Part) (bs : List Bool) : Type 0 where
+pub record Read (ring : List GridPoint) (es : List EdgeMark) (p : PartList) (i n : ℕ) (piece : Part) (bs : List Bool) : Type 0 where
   pub count : i < p.count
-  pub corners : n ≡ length (piece_in ring (marks_of es) p i).points
-  pub is : piece ≡ piece_in ring (marks_of es) p i
+  pub corners : n ≡ length (piece_in ring es p i).points
+  pub is : piece ≡ piece_in ring es p i
   pub sides : (j : ℕ) → get_or bs j false ≡ of_ring (piece_in ring every_mark p i) j
 
 -- what is left when the loop ends: the answer, the nodes, the cells and, with all that was asked for, the rim marks
@@ -85,7 +86,7 @@ corners_rise ps i (suc d) =
     let e : i + suc d ≡ suc (i + d) = omega arith in
     subst (λ (k : ℕ). corners_to ps i ≤ corners_to ps k) (sym e) (omega (arith, corners_rise ps i d))
 
-module _ {share : Float} {l : List Float} {u : ℕ} {q : List ℕ} {first reserve : ℕ} {ring : List GridPoint} {es : List Edge} {p : PartList}
+module _ {share : Float} {l : List Float} {u : ℕ} {q : List ℕ} {first reserve : ℕ} {ring : List GridPoint} {es : List EdgeMark} {p : PartList}
     (f : CanSubdivide share l u q first reserve ring es p) (rs : List ℕ) where
   abbrev ps : List Part
   ps = pieces_in ring es p
@@ -156,7 +157,7 @@ module _ {share : Float} {l : List Float} {u : ℕ} {q : List ℕ} {first reserv
     -- piece i
     module _ {n : ℕ} {piece : Part} {bs : List Bool} (k : Read ring es p i n piece bs) where
       abbrev P : Part
-      P = piece_in ring (marks_of es) p i
+      P = piece_in ring es p i
 
       abbrev S : Attempt
       S = subdivide share s.ns P
@@ -254,9 +255,6 @@ module _ {share : Float} {l : List Float} {u : ℕ} {q : List ℕ} {first reserv
         both : length (s.cs ++ S.cells) ≡ length s.cs + n
         both = omega (arith, length-append s.cs S.cells, new-cells)
 
-        long_after : length r' ≡ length q
-        long_after = ap length cells-now ∙ length_from q first (s.cs ++ S.cells) (omega (arith, both, ahead, f.places))
-
         won : S.fails ≡ n → O (i + 1) ≡ done S.nodes (s.cs ++ S.cells)
         unfolding onward
         won g = next-is ∙ rw (eq-eqb S.fails (length P.points) (g ∙ sym corners))
@@ -299,20 +297,24 @@ module _ {share : Float} {l : List Float} {u : ℕ} {q : List ℕ} {first reserv
             (stays d g)
             ∙ append-nil (asks (i + 1 + d)) ∙ none-asked d g
 
-        -- y is what `clear` left in the part of the cells from `first` on
-        module _ {y : List ℕ} (c : y ≡ over_cells (take (length r' - first * 4) (drop (first * 4) r')) (replicate reserve no_cell)) where
-          abbrev r'' : List ℕ
-          r'' = put_mid (first * 4) (length r' - first * 4) r' y
+        long_after : length r' ≡ length q
+        long_after = ap length cells-now ∙ length_from q first (s.cs ++ S.cells) (omega (arith, both, ahead, f.places))
 
-          cleared : r'' ≡ over_from q first (replicate reserve no_cell)
+        -- y is what filling in zeros left in the reserve's places from `first` on, len of them
+        module _ {len : ℕ} {y : List ℕ} (h : len ≡ reserve * 4) (c : y ≡ replicate (length (take len (drop (first * 4) r'))) 0) where
+          all-places : length (take len (drop (first * 4) r')) ≡ reserve * 4
+          all-places = omega (arith, h, length-take-le len (drop (first * 4) r') (omega (arith, h, length-drop (first * 4) r', long_after, f.places)))
+
+          cleared : put_mid (first * 4) len r' y ≡ over_from q first (replicate reserve no_cell)
           cleared =
-              part-back r' y first (replicate reserve no_cell) c
+              (λ j. put_mid (first * 4) (h j) r' ((c ∙ ap (λ (k : ℕ). replicate k 0) all-places) j))
+              ∙ zeros-back r' first reserve
               ∙ (λ j. over_from (cells-now j) first (replicate reserve no_cell))
               ∙ from-again q first (s.cs ++ S.cells) (replicate reserve no_cell) (omega (arith, f.places))
               (omega (arith, both, ahead, length-replicate reserve no_cell))
 
           pub after-failure : {j : ℕ} → t.fails ≡ Some j
-              → Left l u rs q first reserve (O p.count) (asks p.count) (Err (record { corners = n; k = j; nodes = t.used })) m' ts' r''
+              → Left l u rs q first reserve (O p.count) (asks p.count) (Err (record { corners = n; k = j; nodes = t.used })) m' ts' (put_mid (first * 4) len r' y)
           after-failure {j} g =
               let z = below-given (length S.cells) S.fails j (sym g ∙ fails-is) in
               let b : i + 1 + (p.count - (i + 1)) ≡ p.count = omega (arith, k.count) in

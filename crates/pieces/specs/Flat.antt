@@ -3,12 +3,11 @@ use Rattle.std.specs.Prelude.{ℕ, ◌+◌, ◌*◌, ◌≤◌, ◌<◌, List, �
 use Rattle.vector.specs.declared.GridPoint.{GridPoint}
 use Rattle.vector.specs.Size.{AllOnSheet}
 use Rattle.vector.specs.Rings.{most_points}
-use Rattle.marks.specs.declared.Edge.{Edge}
 use Rattle.marks.specs.declared.EdgeMark.{EdgeMark}
 use Rattle.marks.specs.Part.{Part}
 use Rattle.parts.specs.declared.list.PartList.{PartList}
 use Rattle.parts.specs.Layout.{list_of}
-use Rattle.parts.specs.Pieces.{piece_in, marks_of}
+use Rattle.parts.specs.Pieces.{piece_in}
 use Rattle.nodes.specs.Nodes.{most_places}
 use Rattle.nodes.specs.Flat.{nodes_in, Usable}
 use Rattle.quads.specs.declared.Cell.{Cell}
@@ -22,11 +21,11 @@ use Rattle.pieces.specs.declared.Laid.{Laid}
 use Rattle.pieces.specs.declared.FailedPiece.{FailedPiece}
 
 -- the pieces that p holds, of the ring's points and the marks of its edges
-abbrev pub pieces_in : List GridPoint → List Edge → PartList → List Part
-pieces_in ring es p = list_of ring (marks_of es) p p.count
+abbrev pub pieces_in : List GridPoint → List EdgeMark → PartList → List Part
+pieces_in ring es p = list_of ring es p p.count
 
 -- what they come to, over the first u nodes of l
-abbrev pub outcome_in : Float → List Float → ℕ → List GridPoint → List Edge → PartList → Outcome
+abbrev pub outcome_in : Float → List Float → ℕ → List GridPoint → List EdgeMark → PartList → Outcome
 outcome_in share l u ring es p = pieces_to share (pieces_in ring es p) (nodes_in l u) p.count
 
 -- ---- the ring edges among theirs
@@ -37,16 +36,16 @@ every_mark = replicate most_points label
 abbrev pub labelled_in : List GridPoint → PartList → List Part
 labelled_in ring p = list_of ring every_mark p p.count
 
-abbrev pub asks_in : Float → List Float → ℕ → List GridPoint → List Edge → PartList → List Ask
+abbrev pub asks_in : Float → List Float → ℕ → List GridPoint → List EdgeMark → PartList → List Ask
 asks_in share l u ring es p = asks_to share (pieces_in ring es p) (labelled_in ring p) (nodes_in l u) p.count
 
 -- ---- what is asked
 -- the pieces are fair, and there is room for all their nodes, and for a cell a corner in the reserve of places from `first` on
-pub record CanSubdivide (share : Float) (l : List Float) (u : ℕ) (q : List ℕ) (first reserve : ℕ) (ring : List GridPoint) (es : List Edge) (p : PartList) :
+pub record CanSubdivide (share : Float) (l : List Float) (u : ℕ) (q : List ℕ) (first reserve : ℕ) (ring : List GridPoint) (es : List EdgeMark) (p : PartList) :
     Type 0 where
   pub usable : Usable l u
   pub sheet : AllOnSheet ring
-  pub fair : (i : ℕ) → i < p.count → ValidPiece (piece_in ring (marks_of es) p i)
+  pub fair : (i : ℕ) → i < p.count → ValidPiece (piece_in ring es p i)
   pub fits : length (nodes_of (outcome_in share l u ring es p)) ≤ most_places
   pub room : length (nodes_of (outcome_in share l u ring es p)) * 2 ≤ length l
   pub corners : corners_to (pieces_in ring es p) p.count ≤ reserve

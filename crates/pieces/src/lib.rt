@@ -6,16 +6,14 @@
 
 #![tactic(auto)]
 
-ghost use Rattle.std.specs.Prelude.{◌≡◌, List, ℕ, ◌*◌, ◌≤◌, ◌<◌, false, length, get_or, replicate};
+ghost use Rattle.std.specs.Prelude.{◌≡◌, List, ℕ, ◌≤◌, ◌<◌, false, length, get_or};
 ghost use Rattle.vector.specs.declared.GridPoint.{GridPoint};
 ghost use Rattle.parts.specs.Pieces.{piece_in};
 ghost use Rattle.nodes.specs.Flat.{over};
 ghost use Rattle.nodes.specs.Nearby.{ValidCollected};
-ghost use Rattle.quads.specs.Quads.{no_cell};
 ghost use Rattle.cells.specs.Stages.{nodes_of};
 ghost use Rattle.cells.specs.Asks.{of_ring};
 ghost use Rattle.cells.specs.Rims.{rims_by};
-ghost use Rattle.quads.specs.Flat.{over_cells};
 ghost use Rattle.pieces.specs.Flat.{outcome_in, every_mark, asks_in, CanSubdivide, row, row_of, over_from, cells_left_of};
 
 use cells::Piece;
@@ -39,14 +37,6 @@ pub struct FailedPiece {
     pub nodes: usize,
 }
 
-// Zeros over the first n cells.
-fn clear(cells: &mut [NodeNumber], n: usize)
-    requires { n * 4 ≤ length cells.old }
-    ensures { cells.new ≡ over_cells cells.old (replicate n no_cell) }
-{
-    cells[..n * 4].fill(0);
-}
-
 // Which edges of piece i are edges of the ring: the diagonal of a cut is straight by its number.
 fn piece_sides(pieces: &PartList, i: usize) -> [bool; MOST_POINTS]
     requires { i < pieces.now.count }
@@ -54,8 +44,8 @@ fn piece_sides(pieces: &PartList, i: usize) -> [bool; MOST_POINTS]
 {
     let mut out = [false; MOST_POINTS];
     // Kept: the place is counted, since the library doesn't say what a list holds after its places were lent by `iter_mut().zip(..)`
-    // (tried). `std::array::from_fn` takes 466 instructions for 72: with the marks' 660, 5 in a hundred of a small ring's call, which
-    // goal 1 of docs/BENCHMARKS.md has not to spare (`parts`).
+    // (tried). `std::array::from_fn` would ask of each of the 60 places whether the piece has a corner there, no plainer, and takes 466
+    // instructions for 72.
     for (j, c) in pieces.part(i).iter().enumerate() {
         out[j] = c.edge < Vertex::STRAIGHT;
     }
@@ -104,7 +94,7 @@ pub fn subdivide_all(
         let t = piece_cells::subdivide(nodes, u, rims, &mut cells[start..], &piece, share, found);
         if let Some(k) = t.fails {
             let window = first * 4;
-            clear(&mut cells[window..], reserve);
+            cells[window..window + reserve * 4].fill(0);
             return Err(FailedPiece {
                 corners: n,
                 k,

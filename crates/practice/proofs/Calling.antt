@@ -12,12 +12,12 @@ use Rattle.laws.proofs.Table.{length_tab}
 use Rattle.limits.specs.declared.Limits.{Limits}
 use Rattle.table.specs.declared.Row.{Row}
 use Rattle.table.specs.Answers.{refused_row}
-use Rattle.table.specs.Refusals.{Refusal, first_of}
+use Rattle.table.specs.Refusals.{first_of}
 use Rattle.limits.specs.Sets.{limits_out, practice_set}
 use Rattle.call.specs.Call.{Call, lists_of, counts_out, over24, units_out, lists_out, room_out_of}
 use Rattle.call.specs.Divide.{CallAnswer, refused, core, start_of}
 use Rattle.call.specs.Demand.{AcceptedCall}
-use Rattle.call.specs.Lent.{point_in, all_cells, Lent, call_of, odd, tests_for, divide_lent, divide_practice}
+use Rattle.call.specs.Lent.{point_in, Lent, call_of, odd, divide_lent, divide_practice, practice_tests}
 use Rattle.call.specs.LentCalls.{Given, practice, Pool, lend, answer_of, leaves}
 use Rattle.call.proofs.Course.{turned-away}
 use Rattle.divider.specs.Promise as Examination
@@ -61,20 +61,17 @@ module _ (l : Lent) where
       (cond (lists_out (lists_of c)) 3
       (cond (room_out_of practice_set (length c.ring) (length c.nodes - c.node_count_of) (length c.cells - c.cell_count_of)) 4 0)))
 
-  abbrev practised : List Refusal
-  practised = tests_for over24 all_cells practice_set l
-
   abbrev divided : CallAnswer
   divided = core practice_set (length c.ring) (start_of c) (lists_of c)
 
-  is_16 : over_paper ≡ true → first_of practised ≡ 16
+  is_16 : over_paper ≡ true → first_of (practice_tests l) ≡ 16
   is_16 e =
       due (odd l.ring || odd l.chain) (counts_out (length c.ring) (length c.chain)) (over24 (length c.ring) (length c.chain)) later
       (of-points true e)
 
   away : over_paper ≡ true → divide_practice l ≡ refused (lists_of c) 16
   unfolding divide_practice
-  away e = turned-away (lists_of c) practised divided (λ f. absurd (omega (arith, f, is_16 e))) ∙ ap (refused (lists_of c)) (is_16 e)
+  away e = turned-away (lists_of c) (practice_tests l) divided (λ f. absurd (omega (arith, f, is_16 e))) ∙ ap (refused (lists_of c)) (is_16 e)
 
   pub practice-refused : over_paper ≡ true → PracticePromise l (refused_row 16 l.node_count_of l.cell_count_of) l.nodes l.rims l.cells
   practice-refused e =

@@ -10,6 +10,7 @@ use lib.ListN.{length, get_or, take, drop, length-append, length-drop, drop_of_l
 use lib.Seq.{take_all, drop-drop, take_at, drop-append-add}
 use borrow.Rule.Slice.PartMut.{put_mid}
 use Rattle.laws.specs.Table.{tab}
+use Rattle.laws.proofs.WrittenOut as written
 use Rattle.laws.proofs.Table.{length_tab, get_d_tab}
 use Rattle.quads.specs.declared.Cell.{Cell}
 use Rattle.quads.specs.Quads.{no_cell, cells_to}
@@ -20,7 +21,7 @@ use Rattle.quads.specs.Round.{cells_of, ListedRound}
 -- ---- the cells of a piece
 module _ (c : ℕ) (ms vs : List ℕ) where
   -- cell k
-  abbrev cell_of : ℕ → Cell
+  abbrev pub cell_of : ℕ → Cell
   cell_of k = record { a = c; b = get_or ms k 0; c = get_or vs (suc k % length vs) 0; d = get_or ms (suc k % length ms) 0 }
 
   cells_tab : (n : ℕ) → cells_to c ms vs n ≡ tab cell_of n
@@ -65,57 +66,24 @@ cell-listed {u} r g k h =
 
 -- ---- written out
 pub length-cells : (cs : List Cell) → length (flat_cells cs) ≡ length cs * 4
-length-cells [] = refl
-length-cells (c ∷ cs) = omega (arith, length-cells cs)
-
-pub cells-append : (cs ds : List Cell) → flat_cells (cs ++ ds) ≡ flat_cells cs ++ flat_cells ds
-cells-append [] ds = refl
-cells-append (c ∷ cs) ds = ap (λ (l : List ℕ). four c ++ l) (cells-append cs ds)
+length-cells cs = written.out-length four 4 (λ c. refl) cs
 
 pub length_over : (l : List ℕ) (cs : List Cell) → length cs * 4 ≤ length l → length (over_cells l cs) ≡ length l
 unfolding over_cells
-length_over l cs h = omega (arith, length-append (flat_cells cs) (drop (length cs * 4) l), length-cells cs, length-drop (length cs * 4) l)
+length_over l cs h = written.length_over four 4 (λ c. refl) l cs h
 
 -- cells over cells, no fewer
 pub over-over : (l : List ℕ) (cs ds : List Cell) → length cs ≤ length ds → over_cells (over_cells l cs) ds ≡ over_cells l ds
 unfolding over_cells
-over-over l cs ds h =
-    let e : length ds * 4 ≡ length (flat_cells cs) + (length ds * 4 - length cs * 4) = omega (arith, length-cells cs) in
-    let f : length cs * 4 + (length ds * 4 - length cs * 4) ≡ length ds * 4 = omega arith in
-    ap (λ (r : List ℕ). flat_cells ds ++ r)
-    (ap (λ (n : ℕ). drop n (flat_cells cs ++ drop (length cs * 4) l)) e
-    ∙ drop-append-add (flat_cells cs) (drop (length cs * 4) l) (length ds * 4 - length cs * 4)
-    ∙ drop-drop (length ds * 4 - length cs * 4) (length cs * 4) l
-    ∙ ap (λ (n : ℕ). drop n l) f)
+over-over l cs ds h = written.over-over four 4 (λ c. refl) l cs ds h
 
 pub over_none : (l : List ℕ) → l ≡ over_cells l []
 unfolding over_cells
-over_none l = refl
-
--- a callee wrote v at the front of the part from a on, which is back
-part-back : (l : List ℕ) (a : ℕ) (v r : List ℕ) → a + length v ≤ length l → r ≡ v ++ drop (length v) (take (length l - a) (drop a l))
-    → put_mid a (length l - a) l r ≡ take a l ++ (v ++ drop (a + length v) l)
-part-back l a v r h e =
-    let n : length (drop a l) ≡ length l - a = length-drop a l in
-    let p : length (drop a l) ≤ length l - a = omega arith in
-    let t : take (length l - a) (drop a l) ≡ drop a l = take_all (length l - a) (drop a l) p in
-    let d : drop (length l - a) (drop a l) ≡ [] = drop_of_length-le (drop a l) p in
-    rw (e, t, d) (simp (append-nil, drop-drop))
+over_none l = written.over_none four 4 (λ c. refl) l
 
 -- one cell more, written through the part from at on
 pub turn : (l m : List ℕ) (at : ℕ) (cs : List Cell) (c : Cell) (r : List ℕ) → m ≡ over_cells l cs → at ≡ length cs * 4 → length cs * 4 + 4 ≤ length l
     → r ≡ four c ++ drop 4 (take (length m - at) (drop at m))
     → put_mid at (length m - at) m r ≡ over_cells l (cs ++ (c ∷ []))
 unfolding over_cells
-turn l m at cs c r e a h q =
-    let w : length m ≡ length l = ap length e ∙ length_over l cs (omega arith) in
-    let f : length (flat_cells cs) ≡ at = omega (arith, length-cells cs) in
-    let t : take at m ≡ flat_cells cs = ap (take at) e ∙ take_at (flat_cells cs) (drop (length cs * 4) l) at f in
-    let g : length (cs ++ (c ∷ [])) * 4 ≡ length cs * 4 + 4 = omega (arith, length-append cs (c ∷ [])) in
-    let i : at + 4 ≡ length (flat_cells cs) + 4 = omega arith in
-    let d : drop (at + 4) m ≡ drop (length cs * 4 + 4) l =
-    ap (drop (at + 4)) e
-    ∙ ap (λ (k : ℕ). drop k (flat_cells cs ++ drop (length cs * 4) l)) i
-    ∙ drop-append-add (flat_cells cs) (drop (length cs * 4) l) 4
-    ∙ drop-drop 4 (length cs * 4) l in
-    part-back m at (four c) r (omega arith) q ∙ rw (t, d, g, cells-append) (sym (append_assoc (flat_cells cs) (four c) (drop (length cs * 4 + 4) l)))
+turn l m at cs c r e a h q = written.over-more four 4 (λ c. refl) l m at cs c r e a h q

@@ -5,11 +5,10 @@ use Prim.Native.Nat.{ℕ, suc, ◌+◌, ◌%◌, ◌<◌}
 use native.Mathlib.Nat.{mod-lt, mod-eq_of_lt}
 use native.Mathlib.Numerals.{add-one}
 use native.Mathlib.Omega.{arith}
-use lib.ListN.{get_or, take, get_or-map}
+use lib.ListN.{get_or, take}
 use lib.Seq.{get_or-take}
-use Rattle.marks.specs.declared.Edge.{Edge}
+use Rattle.marks.specs.declared.EdgeMark.{EdgeMark}
 use Rattle.marks.specs.declared.EdgeMark.TheVariants.{Straight}
-use Rattle.marks.specs.Edges.{marks_in}
 
 -- the numbers of the two ends of edge i
 pub here : (vs : List ℕ) (n i : ℕ) → i < n → get_or vs i 0 ≡ get_or (take n vs) (i % n) 0
@@ -19,7 +18,5 @@ pub after : (vs : List ℕ) (n i : ℕ) → i < n → get_or vs ((i + 1) % n) 0 
 after vs n i h = sym (get_or-take n vs ((i + 1) % n) 0 (mod-lt (i + 1) (omega arith))) ∙ ap (λ (k : ℕ). get_or (take n vs) (k % n) 0) (add-one i)
 
 -- its mark
-pub mark : (es : List Edge) (n i : ℕ) (e : Edge) → i < n → e ≡ get_or es i (record { mark = Straight }) → e.mark ≡ get_or (marks_in es n) i Straight
-mark es n i e h q =
-    ap (λ (e : Edge). e.mark) (q ∙ sym (get_or-take n es i (record { mark = Straight }) h))
-    ∙ sym (get_or-map (λ (e : Edge). e.mark) (take n es) i (record { mark = Straight }))
+pub mark : (es : List EdgeMark) (n i : ℕ) (e : EdgeMark) → i < n → e ≡ get_or es i Straight → e ≡ get_or (take n es) i Straight
+mark es n i e h q = q ∙ sym (get_or-take n es i Straight h)

@@ -1,6 +1,8 @@
 -- Cells and edges as the code has them: a lent list that holds a cell as four numbers, and what the functions answer.
 -- Definitions only.
-use Rattle.std.specs.Prelude.{ℕ, ◌*◌, ◌<◌, Bool, ◌&&◌, List, [], ◌∷◌, ◌++◌, length, get_or, drop, Float}
+use Rattle.std.specs.Prelude.{ℕ, ◌<◌, Bool, ◌&&◌, List, [], ◌∷◌, get_or, Float}
+use Rattle.std.specs.List.{flat_map}
+use Rattle.laws.specs.Lists.{written_over}
 use Rattle.vector.specs.declared.Point.{Point}
 use Rattle.marks.specs.declared.EdgeMark.{EdgeMark}
 use Rattle.quads.specs.declared.Cell.{Cell}
@@ -31,9 +33,8 @@ abbrev pub four : Cell → List ℕ
 four c = c.a ∷ c.b ∷ c.c ∷ c.d ∷ []
 
 abbrev pub flat_cells : List Cell → List ℕ
-flat_cells [] = []
-flat_cells (c ∷ cs) = four c ++ flat_cells cs
+flat_cells cs = flat_map four cs
 
 -- l with the cells cs over its first places, all else as found
 unfoldable pub over_cells : List ℕ → List Cell → List ℕ
-over_cells l cs = flat_cells cs ++ drop (length cs * 4) l
+over_cells l cs = written_over four 4 l cs

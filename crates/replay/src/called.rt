@@ -1,7 +1,9 @@
-// The entry that a call is of: the examination, one that takes a set of limits, or the practice paper.
+// The entry that a call is of: the examination, one that takes a set of limits, the practice paper, or the examination over
+// cell records.
 
 use given_tests::Marking;
 use nodes::NodeNumber;
+use quads::Cell;
 use std::io::Read;
 use table::Row;
 use words::Field;
@@ -51,6 +53,31 @@ pub enum Entry {
     Examination,
     WithSet(Set),
     Practice,
+    OverRecords,
+}
+
+// The call over cell records. A record stands for four numbers of the cell list, each of them 65,535 before the call, as
+// they are there; after it its numbers go there.
+fn over_records(
+    ring: &[i32],
+    chain: &[i32],
+    size: u32,
+    nodes: &mut [f64],
+    used: usize,
+    rims: &mut [u8],
+    cells: &mut [NodeNumber],
+    cell_count: usize,
+) -> Row {
+    let blank = Cell::from([65535; 4]);
+    let mut records = [blank; 512];
+    let n = (cells.len() / 4).min(512);
+    let lent = &mut records[..n];
+    let v = cell_records::ring_divide_cells(ring, chain, size, nodes, used, rims, lent, cell_count);
+    let (fours, _) = cells.as_chunks_mut::<4>();
+    for (four, cell) in fours.iter_mut().zip(&records[..n]) {
+        *four = <[NodeNumber; 4]>::from(*cell);
+    }
+    v
 }
 
 // Kept: what a call is lent comes list by list; of a struct of these lists the proof of no call closed.
@@ -98,10 +125,14 @@ impl Entry {
             Entry::Practice => exports::ring_divide_practice(
                 ring, chain, size, nodes, used, rims, cells, cell_count,
             ),
+            Entry::OverRecords => over_records(
+                ring, chain, size, nodes, used, rims, cells, cell_count,
+            ),
         }
     }
 
-    // The practice paper has no call with given marks: one in a list is run as the examination's.
+    // The practice paper has no call with given marks, nor is there one over cell records: one in a list is run as the
+    // examination's.
     fn marked(
         self,
         ring: &[i32],
@@ -124,9 +155,10 @@ impl Entry {
                 s.corner, s.least, s.greatest, s.cuts, s.share, ring, kinds, snaps, outline, loops,
                 size, nodes, used, rims, cells, cell_count,
             ),
-            Entry::Examination | Entry::Practice => exports::ring_divide_marked(
-                ring, kinds, snaps, outline, loops, size, nodes, used, rims, cells, cell_count,
-            ),
+            Entry::Examination | Entry::Practice | Entry::OverRecords =>
+                exports::ring_divide_marked(
+                    ring, kinds, snaps, outline, loops, size, nodes, used, rims, cells, cell_count,
+                ),
         }
     }
 }

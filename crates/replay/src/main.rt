@@ -1,6 +1,6 @@
 // Replay: runs the fixed lists of data/, calls and blocks with what the original Rust answers, and compares every returned
-// value, every node bit, every rim mark, every cell place, every byte read and every byte written. docs/REPLAY.md has the form
-// of the lists.
+// value, every node bit, every rim mark, every cell place, every byte read and every byte written. The calls that are the
+// examination's by a chain it runs over cell records too. docs/REPLAY.md has the form of the lists.
 
 #![tactic(auto)]
 
@@ -9,7 +9,8 @@ mod kept;
 
 use called::{Entry, Set};
 use kept::Kept;
-use std::io::Read;
+use std::io::{Read, Write};
+use std::rt::Files;
 use words::{Lists, Records, Tally, UnknownKind};
 
 // A block read.
@@ -83,6 +84,8 @@ impl Records for Kept {
 
     const UNOPENED: Tally = Tally { ran: 0, differ: 1 };
 
+    const HOW: &'static str = "";
+
     fn new() -> Kept {
         Kept::blank()
     }
@@ -106,6 +109,35 @@ impl Records for Kept {
     }
 }
 
+// The same lists, of which the calls that the entry over cell records can make are made by it and compared. All others are
+// run for the nodes and marks that they leave.
+#[derive(Drop)]
+struct Recorded {
+    kept: Kept,
+}
+
+impl Records for Recorded {
+    type Kind = Kind;
+
+    const UNOPENED: Tally = Tally { ran: 0, differ: 1 };
+
+    const HOW: &'static str = " over cell records";
+
+    fn new() -> Recorded {
+        Recorded {
+            kept: Kept::blank(),
+        }
+    }
+
+    fn run<R: Read>(&mut self, input: &mut R, kind: Kind) -> Option<bool> {
+        if let Kind::Call = kind {
+            return Some(self.kept.by_chain(input, Entry::OverRecords));
+        }
+        self.kept.run(input, kind);
+        None
+    }
+}
+
 // First the lists of the base: calls, blocks read and blocks written; then those of the other entries, and of rim marks.
 const LISTS: [&str; 8] = [
     "rings.list",
@@ -118,16 +150,28 @@ const LISTS: [&str; 8] = [
     "rims.list",
 ];
 
+// Those with calls for the entry over cell records.
+const RECORDED: [&str; 4] = ["rings.list", "calls.list", "marks.list", "rims.list"];
+
+// Runs lists, and those rows that are wrong on purpose.
+fn run_lists<P: Records, F: Files, W: Write, E: Write>(
+    lists: &mut Lists<'_, F, W, E>,
+    paths: &[&str],
+) {
+    let mut all = Tally::default();
+    for path in paths {
+        all = all + lists.run::<P>(path);
+    }
+    all.print(lists.output, "total", P::HOW);
+    lists.run_wrong::<P>("wrong.list");
+}
+
 fn main(rt: HostRuntime) {
     let mut lists = Lists {
         files: &rt,
         output: &mut rt.stdout(),
         errors: &mut rt.stderr(),
     };
-    let mut all = Tally::default();
-    for path in LISTS {
-        all = all + lists.run::<Kept>(path);
-    }
-    all.print(lists.output, "total");
-    lists.run_wrong::<Kept>("wrong.list");
+    run_lists::<Kept, _, _, _>(&mut lists, &LISTS);
+    run_lists::<Recorded, _, _, _>(&mut lists, &RECORDED);
 }

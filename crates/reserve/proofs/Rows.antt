@@ -9,14 +9,14 @@ use lib.ListN.{get_or}
 use Rattle.laws.specs.Table.{tab}
 use Rattle.laws.proofs.Table.{get_d_tab}
 use Rattle.reserve.specs.Reserve.{node_places, cell_places}
-use Rattle.reserve.specs.Sheet.{node_sheet, cell_sheet, nodes_at, cells_at_of}
+use Rattle.reserve.specs.Sheet.{sheet, node_sheet, cell_sheet, nodes_at, cells_at_of}
 
 pub node-rows : node_sheet ≡ tab (λ i. node_places 32 (3 + i)) 58
-unfolding node_sheet tab
+unfolding sheet node_sheet tab
 node-rows = refl
 
 pub cell-rows : cell_sheet ≡ tab (λ i. cell_places 32 (3 + i)) 58
-unfolding cell_sheet tab
+unfolding sheet cell_sheet tab
 cell-rows = refl
 
 -- the row of r points in a list whose rows, from 3 points on, are f

@@ -9,19 +9,66 @@
 ghost use Rattle.std.specs.Prelude.{◌≡◌, ◌≤◌};
 ghost use Rattle.reserve.specs.Reserve as Reserve;
 
-// The printed reserve sheet, for ring counts from 3 to 60: the node places,
-// Kept: two lists, which are the two columns of the sheet, a byte a row; in pairs the page would be printed from no column.
-const NODE_SHEET: [u8; 58] = [
-    10, 15, 20, 25, 30, 35, 40, 45, 50, 55, 60, 65, 70, 75, 80, 85, 90, 95, 100, 105, 110, 115,
-    120, 125, 130, 135, 140, 145, 150, 155, 160, 165, 170, 173, 176, 179, 182, 185, 188, 191, 194,
-    197, 200, 203, 206, 209, 212, 215, 218, 221, 224, 227, 230, 233, 236, 239, 242, 245,
-];
-
-// and the cell places.
-const CELL_SHEET: [u8; 58] = [
-    3, 6, 9, 12, 15, 18, 21, 24, 27, 30, 33, 36, 39, 42, 45, 48, 51, 54, 57, 60, 63, 66, 69, 72,
-    75, 78, 81, 84, 87, 90, 93, 96, 99, 100, 101, 102, 103, 104, 105, 106, 107, 108, 109, 110, 111,
-    112, 113, 114, 115, 116, 117, 118, 119, 120, 121, 122, 123, 124,
+// The printed reserve sheet: a row for each ring count from 3 to 60, its node places and its cell places.
+const SHEET: [(u8, u8); 58] = [
+    (10, 3),
+    (15, 6),
+    (20, 9),
+    (25, 12),
+    (30, 15),
+    (35, 18),
+    (40, 21),
+    (45, 24),
+    (50, 27),
+    (55, 30),
+    (60, 33),
+    (65, 36),
+    (70, 39),
+    (75, 42),
+    (80, 45),
+    (85, 48),
+    (90, 51),
+    (95, 54),
+    (100, 57),
+    (105, 60),
+    (110, 63),
+    (115, 66),
+    (120, 69),
+    (125, 72),
+    (130, 75),
+    (135, 78),
+    (140, 81),
+    (145, 84),
+    (150, 87),
+    (155, 90),
+    (160, 93),
+    (165, 96),
+    (170, 99),
+    (173, 100),
+    (176, 101),
+    (179, 102),
+    (182, 103),
+    (185, 104),
+    (188, 105),
+    (191, 106),
+    (194, 107),
+    (197, 108),
+    (200, 109),
+    (203, 110),
+    (206, 111),
+    (209, 112),
+    (212, 113),
+    (215, 114),
+    (218, 115),
+    (221, 116),
+    (224, 117),
+    (227, 118),
+    (230, 119),
+    (233, 120),
+    (236, 121),
+    (239, 122),
+    (242, 123),
+    (245, 124),
 ];
 
 // The places of nodes and of cells that a ring may take.
@@ -38,9 +85,10 @@ pub fn places_for(cuts: usize, r: usize) -> Places
     ensures cells { result.cells ≡ Reserve.cell_places cuts r }
 {
     if cuts == 32 {
+        let (nodes, cells) = SHEET[r - 3];
         return Places {
-            nodes: usize::from(NODE_SHEET[r - 3]),
-            cells: usize::from(CELL_SHEET[r - 3]),
+            nodes: usize::from(nodes),
+            cells: usize::from(cells),
         };
     }
     let most = cuts.min(r - 3);

@@ -22,7 +22,7 @@ fn main(rt: HostRuntime) {
             The free places of the node list and of the cell list that a ring asks for, by its number of points, at 32 cuts.\n\n\
             | points | node places | cell places |\n|---:|---:|---:|\n"
     );
-    for r in 3usize..61 {
+    for r in 3usize..=60 {
         row(&mut output, r);
     }
 }

@@ -25,7 +25,7 @@ use Rattle.run.specs.declared.Job.{Job}
 use Rattle.run.specs.Onward.{Begins, Onward}
 
 -- before the first block
-begun : Reached start no_points no_nodes no_rims
+unfoldable pub begun : Reached start no_points no_nodes no_rims
 unfolding ran read_to
 begun = record { input = []; blocks = 0; state = refl; points = refl; nodes = refl; rims = refl; bytes = λ i. omega arith; whole = λ e. refl }
 
@@ -33,7 +33,7 @@ pub zero_bits : of_bits binary64 0 ≡ naught
 unfolding of_bits
 zero_bits = refl
 
-none_written : Wrote start no_points no_nodes no_rims 0
+unfoldable pub none_written : Wrote start no_points no_nodes no_rims 0
 unfolding ran read_to begun
 none_written = record { reached = begun; text = refl; bound = omega arith }
 
@@ -51,7 +51,7 @@ module _ (s : State) (ps : List ℤ) (l : List Float) (rs : List ℕ) (r : Reach
       let h = ran-held (read_to r.input r.blocks) in
       record { few = omega (arith, ap (λ (z : State). z.count) r.state, h.few); long = ap length r.points ∙ h.long }
 
-  pub listed : s.ended ≡ true → EndedWith s.used l
+  unfoldable pub listed : s.ended ≡ true → EndedWith s.used l
   listed e =
       let f : (ran (read_to r.input r.blocks)).state.ended ≡ true = ap (λ (z : State). z.ended) (sym r.state) ∙ e in
       record { input = r.input; blocks = r.blocks; bytes = r.bytes; ended = f; count = ap (λ (z : State). z.used) r.state; nodes = r.nodes }
@@ -81,7 +81,7 @@ module _ (s : State) (ps : List ℤ) (l : List Float) (rs : List ℕ) (r : Reach
       longer : read_to (r.input ++ b) r.blocks ≡ read_to r.input r.blocks
       longer = read_more r.input b r.blocks (omega (arith, r.whole e))
 
-      after : ran (read_to (r.input ++ b) (suc r.blocks)) ≡ record {
+      pub after : ran (read_to (r.input ++ b) (suc r.blocks)) ≡ record {
         state = (step_of s ps l rs b).state;
         points = (step_of s ps l rs b).points;
         nodes = (step_of
@@ -108,14 +108,14 @@ module _ (s : State) (ps : List ℤ) (l : List Float) (rs : List ℕ) (r : Reach
           })
 
       module _ (x : Stepped) (qs : List ℤ) (m : List Float) (w p : List ℕ) (t : Steps (step_of s ps l rs b) x qs m w p) where
-        still-whole : x.state.ended ≡ false → length (r.input ++ b) ≡ 512 * suc r.blocks
+        pub still-whole : x.state.ended ≡ false → length (r.input ++ b) ≡ 512 * suc r.blocks
         still-whole g = by (outcome s ps l rs b)
           where
             by : ((step_of s ps l rs b).state.ended ≡ true) ⊎ Went s b (step_of s ps l rs b) → length (r.input ++ b) ≡ 512 * suc r.blocks
             by (inl z) = not-both x.state.ended (ap (λ (q : State). q.ended) t.state ∙ z) g
             by (inr w) = simp length-append (omega (arith, w.whole, r.whole e))
 
-        pub turned : Reached x.state qs m w
+        unfoldable pub turned : Reached x.state qs m w
         turned =
             record {
               input = r.input ++ b;
@@ -128,7 +128,7 @@ module _ (s : State) (ps : List ℤ) (l : List Float) (rs : List ℕ) (r : Reach
               whole = still-whole;
             }
 
-        same_text : told_text (tells_of x.told) p ≡ text_of (step_of s ps l rs b)
+        pub same_text : told_text (tells_of x.told) p ≡ text_of (step_of s ps l rs b)
         same_text = λ i. told_text (t.told i) (t.cells i)
 
 module _ (s : State) (ps : List ℤ) (l : List Float) (rs : List ℕ) (sent : ℕ) (r : Wrote s ps l rs sent) where
@@ -160,7 +160,7 @@ module _ (s : State) (ps : List ℤ) (l : List Float) (rs : List ℕ) (sent : �
         }
 
     -- and once it is sent, it was written
-    pub wrote : (n : ℕ) → Sends sent (told_text (tells_of x.told) p) n → Wrote x.state qs m w n
+    unfoldable pub wrote : (n : ℕ) → Sends sent (told_text (tells_of x.told) p) n → Wrote x.state qs m w n
     unfolding turned
     wrote n d =
         let g = r.reached in
@@ -187,5 +187,5 @@ module _ (j k : Job) (t : Told) (n : Onward j k t) where
     pub owes_onward : Owed sent (told_text (tells_of t) k.cells)
     owes_onward = owes j.state j.ring j.nodes j.rims sent w n.going n.block n.bytes n.few (record { state = k.state; told = t }) k.ring k.nodes k.rims k.cells n.steps
 
-    pub wrote_onward : (m : ℕ) → Sends sent (told_text (tells_of t) k.cells) m → Wrote k.state k.ring k.nodes k.rims m
+    unfoldable pub wrote_onward : (m : ℕ) → Sends sent (told_text (tells_of t) k.cells) m → Wrote k.state k.ring k.nodes k.rims m
     wrote_onward = wrote j.state j.ring j.nodes j.rims sent w n.going n.block n.bytes n.few (record { state = k.state; told = t }) k.ring k.nodes k.rims k.cells n.steps

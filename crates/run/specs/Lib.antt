@@ -1,2 +1,3 @@
--- What one block more does to a job under way.
+-- What one block more does to a job under way, and what a reader gave to a run.
 pub mod Onward
+pub mod Given

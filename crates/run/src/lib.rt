@@ -3,17 +3,20 @@
 //
 // `Job` holds what a run keeps from block to block, and reads and steps in one place, for `run` and for the program sheet. The
 // loop's invariant is that the state, the node list with its rim marks and the count of bytes written were reached by the
-// bytes read so far, and a run that ends has written `printed` of them. What is left to the calls of the operating system is
-// said in stream.
+// bytes read so far, which are those that the reader gave, and that the writer got their text. So a run that ends has written
+// `printed` of all that the reader had, by `Gives`, in specs/Given; where a read failed, `printed` of the whole blocks before it
+// and of part of a block. A run that stops before is not proved. What is left to the calls of the operating system is said in
+// stream.
 
 #![tactic(auto)]
 
 ghost use Rattle.std.specs.Prelude.{◌≡◌, true, IfOk};
 ghost use Rattle.std.specs.Option.{MatchOption};
 ghost use Rattle.job.specs.Step.{step_of, Steps, CanStep};
-ghost use Rattle.job.specs.Run.{Bytes};
+ghost use Rattle.job.specs.Run.{Bytes, printed};
 ghost use Rattle.telling.specs.Reached.{Finished};
-ghost use Rattle.run.specs.Onward.{Begins, Onward};
+ghost use Rattle.run.specs.Onward.{Begins, Onward, Reading};
+ghost use Rattle.run.specs.Given.{Gives};
 
 use nodes::NodeNumber;
 use state::State;
@@ -69,7 +72,8 @@ impl Job {
     // Reads the next block and steps over it, and answers what the step tells; None once the run has ended.
     pub fn next<R: Read>(&mut self, input: &mut R) -> Option<Told>
         requires { CanStep self.old.state self.old.ring }
-        ensures { MatchOption result ((self.old.state.ended ≡ true) × (self.new ≡ self.old)) (Onward self.old self.new) }
+        ensures onward { MatchOption result ((self.old.state.ended ≡ true) × (self.new ≡ self.old)) (Onward self.old self.new) }
+        ensures read { MatchOption result (input.new ≡ input.old) (Reading (R.remaining input.old) (R.remaining input.new) self.old self.new) }
     {
         if !state::goes_on(self.state) {
             return None;
@@ -81,9 +85,9 @@ impl Job {
 }
 
 // The whole run, which answers how many bytes it wrote. It ends early only where writing fails.
-#[tactic(auto, using(crate::proofs::Reaching::begins_unwritten, crate::proofs::Reaching::owes_onward, crate::proofs::Reaching::falls_onward))]
 pub fn run<R: Read, W: Write>(input: &mut R, output: &mut W) -> Result<u64, WriteFailed>
-    ensures { IfOk result Finished }
+    ensures ended { IfOk result Finished }
+    ensures own { IfOk result (Gives printed (R.remaining input.old) (R.remaining input.new) (W.contents output.old) (W.contents output.new)) }
 {
     let mut job = Job::new();
     let mut sent: u64 = 0;

@@ -8,6 +8,7 @@
 #![tactic(auto)]
 
 ghost use Rattle.std.specs.Prelude.{◌≡◌, ◌+◌, length, IfOk, OnOk};
+ghost use Rattle.std.specs.Io.KnownBytes.{Appends};
 ghost use Rattle.listing.specs.Sheet as Sheet;
 ghost use Rattle.telling.specs.Reached.{EndedWith};
 ghost use Rattle.sheet_lines.specs.Sheeted.{Owed};
@@ -20,7 +21,8 @@ use stream::WriteFailed;
 // need a trait for that and a type to carry it.
 fn send<W: Write>(output: &mut W, line: &[u8], sent: &mut u64) -> Result<(), WriteFailed>
     requires { Owed sent.old line.now }
-    ensures { OnOk result (sent.new ≡ sent.old + length line.now) }
+    ensures counted { OnOk result (sent.new ≡ sent.old + length line.now) }
+    ensures written { OnOk result (Appends (W.contents output.old) (W.contents output.new) line.now) }
 {
     stream::write_counted(output, line, sent)
 }
@@ -29,7 +31,8 @@ fn send<W: Write>(output: &mut W, line: &[u8], sent: &mut u64) -> Result<(), Wri
 // proved here but tested once.
 pub fn print_sheet<W: Write>(output: &mut W, nodes: &[f64], used: usize) -> Result<u64, WriteFailed>
     requires { EndedWith used nodes.now }
-    ensures { IfOk result (λ sent. sent ≡ length (Sheet.lines nodes.now used)) }
+    ensures counted { IfOk result (λ sent. sent ≡ length (Sheet.lines nodes.now used)) }
+    ensures written { OnOk result (Appends (W.contents output.old) (W.contents output.new) (Sheet.lines nodes.now used)) }
 {
     let mut sent: u64 = 0;
     if listing::nodes_out(nodes, used) {

@@ -1,4 +1,3 @@
 -- That the ring's own check rejects crossings alone; and laws for the code of this crate.
 pub mod SameRings
 pub mod Pairs
-pub mod Parity

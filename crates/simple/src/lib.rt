@@ -9,6 +9,7 @@ ghost use Rattle.std.specs.Prelude.{◌≡◌};
 ghost use Rattle.vector.specs.Rings.{OnSheetPoints};
 ghost use Rattle.simple.specs.Simple as Simple;
 
+use segments::Segment;
 use vector::{GridPoint, Point};
 
 // Whether no edge of the ring crosses another. The scan over pairs of edges ends at the first crossing; the edge after i is
@@ -26,11 +27,10 @@ pub fn polygon_simple(ring: &[GridPoint]) -> bool
     let mut found = false;
     // Kept: as above, both.
     'scan: for i in 0..n {
-        let a = ring[i];
-        let b = ring[vector::next(i, n)];
+        let edge = Segment::new(ring[i], ring[vector::next(i, n)]);
         for j in i + 2..n {
             let k = vector::next(j, n);
-            if k != i && segments::segments_cross(a, b, ring[j], ring[k]) {
+            if k != i && edge.crosses(Segment::new(ring[j], ring[k])) {
                 found = true;
                 break 'scan;
             }
@@ -52,7 +52,7 @@ fn ray_meets(a: Point, b: Point, p: Point) -> bool
 }
 
 // Whether p is inside the ring: its ray meets an odd number of edges.
-#[tactic(auto, using(crate::proofs::Parity::turned, vector::proofs::Rings::at_place, vector::proofs::Rings::at_following), unfolding(laws::specs::Bounded::parity, crate::specs::Simple::meets_edge, crate::specs::Simple::point_in_polygon))]
+#[tactic(auto, using(laws::proofs::Search::parity_next, vector::proofs::Rings::at_place, vector::proofs::Rings::at_following), unfolding(laws::specs::Bounded::parity, crate::specs::Simple::meets_edge, crate::specs::Simple::point_in_polygon))]
 pub fn point_in_polygon(ring: &[GridPoint], p: Point) -> bool
     requires { OnSheetPoints ring.now }
     ensures { result ≡ Simple.point_in_polygon ring.now p }

@@ -99,11 +99,9 @@ pub fn search(ring: &[i32], chain: &[i32], size: u32) -> Result<Found, Refusal>
     ensures { Rule.row_of result ≡ Rule.smallest_refused ring.now chain.now size }
 {
     let own = lone_ring::answer(ring, chain, size);
-    let points = ring.len() / 2;
-    let refusal = tested(own, points)?;
+    let refusal = tested(own, ring.len() / 2)?;
     let all = Search {
         ring,
-        points,
         chain,
         size,
         wanted: u64::from(refusal),

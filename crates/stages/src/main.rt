@@ -65,8 +65,8 @@ fn print_chain<W: Write>(output: &mut W, s: &Simplified, n: usize)
 fn print_marks<W: Write>(output: &mut W, ring: &MarkedRing)
     requires { OnSheetRing ring.now.ring }
 {
-    for (i, edge) in ring.edges[..ring.ring.count].iter().enumerate() {
-        text::mark(output, i, edge.mark);
+    for (i, mark) in ring.edges[..ring.ring.count].iter().enumerate() {
+        text::mark(output, i, *mark);
     }
 }
 
@@ -75,8 +75,8 @@ fn print_piece<W: Write>(output: &mut W, piece: &MarkedRing)
 {
     text::number(output, "piece ", piece.ring.count as u64);
     text::end(output);
-    for (p, edge) in piece.ring.as_slice().iter().zip(&piece.edges) {
-        text::corner(output, *p, edge.mark);
+    for (p, mark) in piece.ring.as_slice().iter().zip(&piece.edges) {
+        text::corner(output, *p, *mark);
     }
 }
 

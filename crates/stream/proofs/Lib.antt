@@ -1,2 +1,3 @@
--- What a text's parts have written.
+-- What reads give one after the other, and what a text's parts have written.
+mod Reading
 mod Writing

@@ -1,2 +1,3 @@
--- How a number is written.
+-- What reads gave, and how a number is written.
+pub mod Reads
 pub mod Shown

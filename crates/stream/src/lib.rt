@@ -2,16 +2,21 @@
 // run and the other programs that read blocks or print; what they write to their standard output goes through here.
 //
 // What the operating system reads or writes has no contract; a reader and a writer over memory have one, and the clauses name
-// their bytes. `write_some` alone counts: it calls `write` once, and adds what was taken to the count that it is lent; so whoever
-// hands a text over twice has counted it twice, and cannot show that the count is the definition's. That the input has ended
-// is answered only where a `read` gave nothing, and not where one failed. Left to these few lines is that the bytes of a block
-// are those that `read` gave, of which the promises have the number alone.
+// their bytes, for every reader and writer whose bytes are known. What is read into a list is what the reader had next, in its
+// order, and the reader has lost no more than that; a block is the next 512 bytes or what is left, by specs/Reads. That the
+// input has ended is answered only where a `read` gave nothing, and not where one failed. `write_some` alone counts: it calls
+// `write` once, and adds what was taken to the count that it is lent; so whoever hands a text over twice has counted it twice,
+// and cannot show that the count is the definition's.
+//
+// These lines are the same for the operating system's reader and writer. Left to them is that a read or a write of which it is
+// said that it failed did fail: the trait says what a failed one keeps, and not that there was one.
 
 #![tactic(auto)]
 
-ghost use Rattle.std.specs.Prelude.{◌≡◌, ◌+◌, ◌^◌, ◌≤◌, ◌<◌, length, take, IfOk, IfErr, OnOk, OnErr};
-ghost use Rattle.std.specs.Io.KnownBytes.{Appends, IsAtEnd};
+ghost use Rattle.std.specs.Prelude.{◌≡◌, ◌+◌, ◌^◌, ◌≤◌, ◌<◌, max, length, take, IfOk, IfErr, OnOk, OnErr};
+ghost use Rattle.std.specs.Io.KnownBytes.{Appends, Consumes, IsAtEnd};
 ghost use Rattle.std.specs.Fmt.{decimal};
+ghost use Rattle.stream.specs.Reads.{Reads};
 ghost use Rattle.stream.specs.Shown.{sixteen};
 
 use std::io;
@@ -33,6 +38,8 @@ pub fn fill<R: Read>(input: &mut R, bytes: &mut [u8]) -> Result<usize, ReadFaile
     ensures whole { IfOk result (λ n. n ≤ length bytes.new) }
     ensures part { IfErr result (λ failed. failed.done < length bytes.new) }
     ensures ended { IfOk result (λ n. n < length bytes.new → IsAtEnd (R.remaining input.new)) }
+    ensures read { IfOk result (λ n. Consumes (R.remaining input.old) (R.remaining input.new) (take n bytes.new)) }
+    ensures before { IfErr result (λ failed. Consumes (R.remaining input.old) (R.remaining input.new) (take failed.done bytes.new)) }
 {
     let mut done: usize = 0;
     // Kept: `read_exact` does not say how much was read of a list that is not filled.
@@ -53,29 +60,25 @@ pub fn read_block<R: Read>(input: &mut R, bytes: &mut [u8]) -> usize
     requires { length bytes.old ≡ 512 }
     ensures whole { result ≤ 512 }
     ensures ended { result ≡ 0 → IsAtEnd (R.remaining input.new) }
+    ensures read { Reads (R.remaining input.old) (R.remaining input.new) (take result bytes.new) }
 {
-    match fill(input, bytes) {
-        Ok(n) => n,
-        Err(failed) => part_of(failed.done),
-    }
+    fill(input, bytes).unwrap_or_else(|failed| part_of(failed.done))
 }
 
 // How much of a block there is after a failed read.
 fn part_of(done: usize) -> usize
     requires { done < 512 }
-    ensures { (0 < result) × (result < 512) }
+    ensures { (0 < result) × (result < 512) × (result ≡ max done 1) }
 {
     done.max(1)
 }
 
 // Reads until the list is full, the input ends or a read fails, and answers how many bytes there are.
 pub fn read_full<R: Read>(input: &mut R, bytes: &mut [u8]) -> usize
-    ensures { result ≤ length bytes.new }
+    ensures whole { result ≤ length bytes.new }
+    ensures read { Consumes (R.remaining input.old) (R.remaining input.new) (take result bytes.new) }
 {
-    match fill(input, bytes) {
-        Ok(n) => n,
-        Err(failed) => failed.done,
-    }
+    fill(input, bytes).unwrap_or_else(|failed| failed.done)
 }
 
 // Hands bytes over once, and counts those that were taken.

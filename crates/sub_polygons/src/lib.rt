@@ -5,18 +5,19 @@
 
 #![tactic(auto)]
 
-ghost use Rattle.std.specs.Prelude.{◌≡◌, List, ◌+◌, ◌-◌, ◌^◌, ◌≤◌, ◌<◌, length, take};
+ghost use Rattle.std.specs.Prelude.{◌≡◌, List, ◌+◌, ◌-◌, ◌^◌, ◌≤◌, ◌<◌, length, take, drop, replicate};
 ghost use Rattle.laws.specs.Table.{tab};
 ghost use Rattle.vector.specs.Size.{AllOnSheet};
 ghost use Rattle.vector.specs.Rings.{most_points};
 ghost use Rattle.marks.specs.declared.EdgeMark.{EdgeMark};
 ghost use Rattle.parts.specs.Cut as Cut;
-ghost use Rattle.parts.specs.Vertices.{vertex, corner_point, edge_at, straight_number, closing, backward, part_of};
+ghost use Rattle.parts.specs.Vertices.{vertex, blank, corner_point, edge_at, straight_number, closing, backward, part_of, corner_points, part_with};
 
-use parts::Vertex;
+use parts::{RingPart, Vertex};
 use vector::{GridPoint, MOST_POINTS};
 
-// A part that a cut makes, its corners in the first places, and the doubled area that was turned round in making it.
+// A part that a cut makes, its corners in the first places and the others blank, and the doubled area that was turned round in
+// making it.
 // Kept: an array with a count beside, in fixed memory.
 #[derive(Clone, Copy)]
 pub struct SubPolygon {
@@ -38,7 +39,7 @@ impl SubPolygon {
 // The first m of the corners, counted round from corner v. The last edge, the diagonal, is straight.
 fn segment(vs: &[Vertex], v: usize, m: usize) -> [Vertex; MOST_POINTS]
     requires { (length vs.now ≤ most_points) × (v < length vs.now) × (1 ≤ m) × (m ≤ length vs.now) }
-    ensures { take m result ≡ tab (closing vs.now (length vs.now) v m) m }
+    ensures { (take m result ≡ tab (closing vs.now (length vs.now) v m) m) × (drop m result ≡ replicate (most_points - m) blank) }
 {
     let mut out = [Vertex::BLANK; MOST_POINTS];
     let ahead = m.min(vs.len() - v);
@@ -51,7 +52,8 @@ fn segment(vs: &[Vertex], v: usize, m: usize) -> [Vertex; MOST_POINTS]
 // The corners the other way round. Each keeps the edge that now starts there; the last edge is straight.
 fn reversed(vs: &[Vertex]) -> [Vertex; MOST_POINTS]
     requires { (1 ≤ length vs.now) × (length vs.now ≤ most_points) }
-    ensures { take (length vs.now) result ≡ tab (backward vs.now (length vs.now)) (length vs.now) }
+    ensures { (take (length vs.now) result ≡ tab (backward vs.now (length vs.now)) (length vs.now))
+        × (drop (length vs.now) result ≡ replicate (most_points - length vs.now) blank) }
 {
     let mut out = [Vertex::BLANK; MOST_POINTS];
     let before = vs.iter().rev().skip(1);
@@ -72,18 +74,24 @@ fn reversed(vs: &[Vertex]) -> [Vertex; MOST_POINTS]
 
 // The part of m corners that end with the diagonal, turned round if their area is negative.
 // Kept: the corners go in by value, since they are moved into the part that is returned; lent, they would be copied.
+// The ring, the corners and m one by one: a RingPart would lend the corners, which are moved here.
 fn make_sub_polygon(
     ring: &[GridPoint; MOST_POINTS],
     vs: [Vertex; MOST_POINTS],
     m: usize,
 ) -> SubPolygon
-    requires { (3 ≤ m) × (m ≤ most_points) × AllOnSheet ring.now × ((vertex vs (m - 1)).edge ≡ straight_number) }
+    requires { (3 ≤ m) × (m ≤ most_points) × AllOnSheet ring.now × ((vertex vs (m - 1)).edge ≡ straight_number)
+        × (drop m vs ≡ replicate (most_points - m) blank) }
     ensures { ((es : List EdgeMark) → length es ≡ most_points → part_of ring.now es result.corners m ≡ Cut.make_sub_polygon (tab (corner_point ring.now vs) m)
         (tab (edge_at es vs) (m - 1)))
-        × (result.turned ≡ Cut.turned_area (tab (corner_point ring.now vs) m)) × (result.turned ≤ 2 ^ 53) × (result.count ≡ m) }
+        × (result.turned ≡ Cut.turned_area (tab (corner_point ring.now vs) m)) × (result.turned ≤ 2 ^ 53) × (result.count ≡ m)
+        × (drop m result.corners ≡ replicate (most_points - m) blank) }
 {
-    let part = &vs[..m];
-    let area = vector::polygon_area(parts::rotated_points(ring, part, 0).as_slice());
+    let part = RingPart {
+        ring,
+        corners: &vs[..m],
+    };
+    let area = vector::polygon_area(part.rotated_points(0).as_slice());
     if 0 <= area {
         return SubPolygon {
             corners: vs,
@@ -92,30 +100,36 @@ fn make_sub_polygon(
         };
     }
     SubPolygon {
-        corners: reversed(part),
+        corners: reversed(part.corners),
         count: m,
         turned: area.unsigned_abs(),
     }
 }
 
 // The part of the corners from corner v to the place k after it.
-pub fn first_part(ring: &[GridPoint; MOST_POINTS], vs: &[Vertex], v: usize, k: usize) -> SubPolygon
-    requires { (length vs.now ≤ most_points) × (v < length vs.now) × (2 ≤ k) × (k + 2 ≤ length vs.now) × AllOnSheet ring.now }
-    ensures { ((es : List EdgeMark) → length es ≡ most_points → part_of ring.now es result.corners (k + 1) ≡ Cut.first_part (part_of ring.now es vs.now (length vs.now)) v k)
-        × (result.turned ≡ Cut.turned_area (Cut.first_points (Cut.rotate v (tab (corner_point ring.now vs.now) (length vs.now))) k))
-        × (result.turned ≤ 2 ^ 53) × (result.count ≡ k + 1) }
+pub fn first_part(part: &RingPart<'_>, v: usize, k: usize) -> SubPolygon
+    requires { (v < length part.now.corners.now) × (2 ≤ k) × (k + 2 ≤ length part.now.corners.now) }
+    ensures { ((es : List EdgeMark) → length es ≡ most_points → part_of part.now.ring.now es result.corners (k + 1) ≡ Cut.first_part (part_with part.now es) v k)
+        × (result.turned ≡ Cut.turned_area (Cut.first_points (Cut.rotate v (corner_points part.now)) k))
+        × (result.turned ≤ 2 ^ 53) × (result.count ≡ k + 1)
+        × (drop (k + 1) result.corners ≡ replicate (most_points - (k + 1)) blank) }
 {
-    make_sub_polygon(ring, segment(vs, v, k + 1), k + 1)
+    make_sub_polygon(part.ring, segment(part.corners, v, k + 1), k + 1)
 }
 
 // The part from there on, back to corner v.
-pub fn second_part(ring: &[GridPoint; MOST_POINTS], vs: &[Vertex], v: usize, k: usize) -> SubPolygon
-    requires { (length vs.now ≤ most_points) × (v < length vs.now) × (2 ≤ k) × (k + 2 ≤ length vs.now) × AllOnSheet ring.now }
-    ensures { ((es : List EdgeMark) → length es ≡ most_points → part_of ring.now es result.corners (length vs.now - k + 1) ≡ Cut.second_part (part_of ring.now es vs.now (length vs.now)) v k)
-        × (result.turned ≡ Cut.turned_area (Cut.second_points (Cut.rotate v (tab (corner_point ring.now vs.now) (length vs.now))) k))
-        × (result.turned ≤ 2 ^ 53) × (result.count ≡ length vs.now - k + 1) }
+pub fn second_part(part: &RingPart<'_>, v: usize, k: usize) -> SubPolygon
+    requires { (v < length part.now.corners.now) × (2 ≤ k) × (k + 2 ≤ length part.now.corners.now) }
+    ensures { ((es : List EdgeMark) → length es ≡ most_points → part_of part.now.ring.now es result.corners (length part.now.corners.now - k + 1) ≡ Cut.second_part (part_with part.now es) v k)
+        × (result.turned ≡ Cut.turned_area (Cut.second_points (Cut.rotate v (corner_points part.now)) k))
+        × (result.turned ≤ 2 ^ 53) × (result.count ≡ length part.now.corners.now - k + 1)
+        × (drop (length part.now.corners.now - k + 1) result.corners ≡ replicate (most_points - (length part.now.corners.now - k + 1)) blank) }
 {
-    let n = vs.len();
+    let n = part.corners.len();
     let start = (v + k) % n;
-    make_sub_polygon(ring, segment(vs, start, n - k + 1), n - k + 1)
+    make_sub_polygon(
+        part.ring,
+        segment(part.corners, start, n - k + 1),
+        n - k + 1,
+    )
 }

@@ -6,20 +6,16 @@ use Prim.Native.Nat.{ℕ, suc, ◌+◌, ◌-◌, ◌*◌, ◌≤◌, ◌<◌}
 use native.Mathlib.Nat.{le_refl, min-le_left}
 use native.Mathlib.Numerals.{add-one}
 use native.Mathlib.Omega.{arith}
-use mathlib.Core.Bool.{Bool, true, false, not, ◌&&◌}
+use mathlib.Core.Bool.{Bool, true, false, not}
 use borrow.Author.Tests.{le-leb, lt-leb, leb-false}
-use lib.Dec.{T, leb}
+use lib.Dec.{leb}
 use lib.ListN.{length, get_or, take, drop, set, length-append, length-take, length-drop, length-map}
-use lib.Seq.{take_all, take_at, take-append-le, drop-cons, set_at}
+use lib.Seq.{get_or-take, get_or-drop, take_all, take_at, take-append-le, drop-cons, set_at}
 use lib.Ieee.{Float, nan}
-use Rattle.laws.specs.Bounded.{any}
-use Rattle.laws.proofs.Booleans.{is_false, and-false}
-use Rattle.laws.proofs.Search.{any_none}
 use Rattle.nodes.specs.Flat.{node_in_of}
-use Rattle.nodes.specs.declared.nearby.Span.{Span}
 use Rattle.nodes.specs.declared.nearby.Window.{Window}
 use Rattle.nodes.specs.declared.nearby.Nearby.{Nearby}
-use Rattle.nodes.specs.Nearby.{most_nearby, chosen, Framed, in_span, inside_at, inside, xs_of, CollectedOf, ValidNearby}
+use Rattle.nodes.specs.Nearby.{most_nearby, chosen, Framed, in_window, inside_at, inside, xs_of, CollectedOf, ValidNearby}
 use Rattle.nodes.proofs.Chosen.{beyond, pass, hit, skip}
 use Rattle.survey.specs.Survey.{counted, laid, nearby, Gathered}
 
@@ -204,19 +200,16 @@ module _ (l : List Float) (w : Window) (a : List ℕ) (b : List Float) where
             (record { count = refl; are = c; are_x = d });
       })
 
--- ---- d nodes before place n, of which none has its x in the window, or none its y
-module _ (l : List Float) (w : Window) (d m n : ℕ) (g : n ≤ m + d) (k : d ≤ n) where
-  clear : (t : Span) (at : ℕ) → any (λ j. in_span t (get_or l (at + j * 2) nan)) d ≡ false → (j h : ℕ) → j < d → at + j * 2 ≡ h → in_span t (get_or l h nan) ≡ false
-  clear t at e j h b z =
-      subst (λ (m : ℕ). in_span t (get_or l m nan) ≡ false) z
-      (is_false _ (any_none (λ j. in_span t (get_or l (at + j * 2) nan)) d (subst (λ (b : Bool). T (not b)) (sym e) tt) j b))
-
-  pub none-across : any (λ j. in_span w.x (get_or l ((n - d) * 2 + j * 2) nan)) d ≡ false → (i : ℕ) → m ≤ i → i < n → inside_at w l i ≡ false
-  unfolding inside_at
-  none-across e i p q = ap (λ (b : Bool). b && in_span w.y (node_in_of l i).y) (clear w.x ((n - d) * 2) e (i - (n - d)) (i * 2) (omega arith) (omega arith))
-
-  pub none-along : any (λ j. in_span w.y (get_or l ((n - d) * 2 + 1 + j * 2) nan)) d ≡ false → (i : ℕ) → m ≤ i → i < n → inside_at w l i ≡ false
-  unfolding inside_at
-  none-along e i p q =
-      ap (λ (b : Bool). in_span w.x (node_in_of l i).x && b) (clear w.y ((n - d) * 2 + 1) e (i - (n - d)) (i * 2 + 1) (omega arith) (omega arith))
-      ∙ and-false (in_span w.x (node_in_of l i).x)
+-- ---- the 8 nodes before place n, of which none is in the window
+pub none-seen : (l : List Float) (w : Window) (m n : ℕ) (x : List Float) → n ≤ m + 8 → 8 ≤ n → x ≡ take 16 (drop ((n - 8) * 2) l)
+    → ((j : ℕ) → j < 8 → in_window w (get_or x (j * 2) nan) (get_or x (j * 2 + 1) nan) ≡ false) → (i : ℕ) → m ≤ i → i < n → inside_at w l i ≡ false
+unfolding inside_at
+none-seen l w m n x g k e f i p q =
+    let j = i - (n - 8) in
+    let b : j < 8 = omega arith in
+    sym (λ t. in_window w (at (j * 2) (i * 2) (omega arith) (omega arith) t) (at (j * 2 + 1) (i * 2 + 1) (omega arith) (omega arith) t)) ∙ f j b
+  where
+    at : (h d : ℕ) → h < 16 → (n - 8) * 2 + h ≡ d → get_or x h nan ≡ get_or l d nan
+    at h d b z =
+        ap (λ (y : List Float). get_or y h nan) e ∙ get_or-take 16 (drop ((n - 8) * 2) l) h nan b ∙ get_or-drop ((n - 8) * 2) l h nan
+        ∙ ap (λ (k : ℕ). get_or l k nan) z

@@ -25,21 +25,19 @@ joined l d i t h k m b c e f = go b c e f (any (out l) t) refl
     go false true e f false z =
         absurd (true≢false (f ∙ any-fails (λ j. out l (t - d + j)) d (λ j q. any_at (out l) t z (t - d + j) (omega arith))))
 
--- the same of nodes, two numbers each: the 64 before place t after those before place i
-pub block : (l : List Float) (i t : ℕ) → 64 ≤ t → t ≤ i + 64 → i ≤ t → (b c : Bool) → b ≡ any (out l) (i * 2)
-    → c ≡ any (λ j. out l ((t - 64) * 2 + j)) 128 → (b || c) ≡ any (out l) (t * 2)
+-- the same of nodes, two numbers each: the 8 before place t after those before place i
+pub block : (l : List Float) (i t : ℕ) → 8 ≤ t → t ≤ i + 8 → i ≤ t → (b c : Bool) → b ≡ any (out l) (i * 2)
+    → c ≡ any (λ j. out l ((t - 8) * 2 + j)) 16 → (b || c) ≡ any (out l) (t * 2)
 block l i t h k m b c e f =
-    let a : (t - 64) * 2 ≡ t * 2 - 128 = omega arith in
-    joined l 128 (i * 2) (t * 2) (omega arith) (omega arith) (omega arith) b c e (f ∙ ap (λ (n : ℕ). any (λ j. out l (n + j)) 128) a)
+    let a : (t - 8) * 2 ≡ t * 2 - 16 = omega arith in
+    joined l 16 (i * 2) (t * 2) (omega arith) (omega arith) (omega arith) b c e (f ∙ ap (λ (n : ℕ). any (λ j. out l (n + j)) 16) a)
 
--- the 64 before place t, as a pass finds it out
-pub judged : (l : List Float) (t : ℕ) → 64 ≤ t → t * 2 ≤ length l
-    → fold (λ b x. b || not (held x)) false (take (t * 2 - (t - 64) * 2) (drop ((t - 64) * 2) l)) ≡ any (λ j. out l ((t - 64) * 2 + j)) 128
+-- the 8 before place t, as a pass finds it out
+pub judged : (l : List Float) (t : ℕ) → 8 ≤ t → t * 2 ≤ length l
+    → fold (λ b x. b || not (held x)) false (take 16 (drop ((t - 8) * 2) l)) ≡ any (λ j. out l ((t - 8) * 2 + j)) 16
 judged l t h k =
-    let e : t * 2 - (t - 64) * 2 ≡ 128 = omega arith in
-    any_fold (λ x. not (held x)) nan (take (t * 2 - (t - 64) * 2) (drop ((t - 64) * 2) l)) false
-    ∙ any_within (λ x. not (held x)) nan l ((t - 64) * 2) (t * 2 - (t - 64) * 2) (omega (arith, h, k))
-    ∙ ap (any (λ j. out l ((t - 64) * 2 + j))) e
+    any_fold (λ x. not (held x)) nan (take 16 (drop ((t - 8) * 2) l)) false
+    ∙ any_within (λ x. not (held x)) nan l ((t - 8) * 2) 16 (omega (arith, h, k))
 
 -- so all are held
 pub told : (l : List Float) (n : ℕ) (b : Bool) → b ≡ any (out l) n → not b ≡ all_held l n

@@ -1,11 +1,16 @@
 -- A pass over the used nodes: whether they are held, and what of them is collected. None of it is in 01 but that refusal 3
 -- asks the first. Definitions only.
-use Rattle.std.specs.Prelude.{ℕ, suc, ◌*◌, ◌≡◌, cond, List, ◌++◌, length, take, drop, leb, Float}
+use Rattle.std.specs.Prelude.{ℕ, zero, suc, ◌*◌, ◌≡◌, cond, List, [], ◌∷◌, ◌++◌, length, take, drop, leb, Float}
 use Rattle.nodes.specs.Flat.{all_held}
 use Rattle.nodes.specs.declared.nearby.Window.{Window}
 use Rattle.nodes.specs.declared.nearby.Nearby.{Nearby}
 use Rattle.nodes.specs.Nearby.{most_nearby, inside, xs_of}
 use Rattle.survey.specs.declared.NodeSurvey.{NodeSurvey}
+
+-- x and y in turn, n times
+abbrev pub turns : ℕ → Float → Float → List Float
+turns zero x y = []
+turns (suc n) x y = x ∷ y ∷ turns n x y
 
 -- so many are said to be collected where there are n: one above the most where there are more
 unfoldable pub counted : ℕ → ℕ

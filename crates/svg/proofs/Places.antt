@@ -7,28 +7,22 @@ use mathlib.Core.List.{List}
 use native.Mathlib.Omega.{arith}
 use lib.Dec.{T, ltb}
 use lib.ListN.{length, get_or, get_or-eq_default}
-use lib.Ieee.{Float, nan, inf, fin, up, down, le}
-use lib.Ieee.Fits.{down_pos}
+use lib.Ieee.{Float, nan, le}
 use borrow.Author.Tests.{ltb-true}
 use Rattle.nodes.proofs.Ranged.{held-is, held-within}
 use Rattle.laws.specs.Within.{Within}
 use Rattle.nodes.specs.Flat.{held}
 use Rattle.decimals.specs.Rounded.{ten_thousandths, negative, minus}
 use Rattle.decimals.specs.Shown.{decimals, shown}
-use Rattle.decimals.proofs.Rounding.{half_le}
 use Rattle.svg.specs.Place.{origin, place_of, rounded}
 use Rattle.svg.specs.Form.{exact}
 use Rattle.svg.proofs.Forms.{exact_below, exact_above}
+use Rattle.decimals.proofs.Value.{shown-le}
+use Rattle.decimals.proofs.Rounding.{half_le}
 
 -- ---- a listed coordinate
 pub within : (x : Float) → held x ≡ true → Within 1024 x
 within x e = held-within x (subst T (sym e) tt)
-
-pub few_thousandths : (x : Float) → Within 1024 x → ten_thousandths x ≤ 10240000
-unfolding ten_thousandths
-few_thousandths nan w = omega arith
-few_thousandths (inf s) w = omega arith
-few_thousandths (fin s m e) w = half_le (m * up e * 10000) (down e) 10240000 (down_pos e) (omega (arith, w.1))
 
 pub out-place : (x : Float) → held x ≡ false → origin ≡ place_of x
 unfolding place_of
@@ -50,8 +44,8 @@ no_place : origin ≡ place_of nan
 unfolding place_of
 no_place = rw nan_out
 
-pub past-node : (l : List Float) (k : ℕ) → length l ≤ k → origin ≡ place_of (get_or l k nan)
-past-node l k h = no_place ∙ ap place_of (sym (get_or-eq_default l nan h))
+pub past_node : (l : List Float) (k : ℕ) → length l ≤ k → origin ≡ place_of (get_or l k nan)
+past_node l k h = no_place ∙ ap place_of (sym (get_or-eq_default l nan h))
 
 -- ---- so many units
 pub few_rounded : (m : ℕ) → rounded m ≤ 10240000
@@ -73,7 +67,7 @@ unfolding shown
 sheet-decimals x e = go (minus x) refl
   where
     few : ten_thousandths x ≤ 10240000
-    few = few_thousandths x (within x e)
+    few = shown-le x (within x e)
 
     go : (m : Bool) → minus x ≡ m → exact (place_of x) ≡ decimals (minus x) (ten_thousandths x)
     go false d =

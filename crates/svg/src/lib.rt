@@ -13,6 +13,7 @@ ghost use Rattle.svg.specs.Place as Place;
 ghost use Rattle.svg.specs.Form as Form;
 
 use decimals::Decimal;
+use std::slice::Iter;
 use text::{Marks, Page};
 
 // The place of 0 mm.
@@ -34,13 +35,11 @@ pub fn place_of(x: f64) -> u64
 }
 
 // The place of number k of a node list, the origin where there is none.
+#[tactic(auto, using(crate::proofs::Places::past_node))]
 pub fn node_place(nodes: &[f64], k: usize) -> u64
     ensures { result ≡ Place.place_of (get_or nodes.now k nan) }
 {
-    match nodes.get(k) {
-        Some(x) => place_of(*x),
-        None => ORIGIN,
-    }
+    nodes.get(k).map_or(ORIGIN, |x| place_of(*x))
 }
 
 // So many units in ten-thousandths of a mm, those of 1,024 mm at most.
@@ -102,18 +101,11 @@ impl Marks for PlaceMarks {
     ghost takes = { Form.takes };
 
     #[tactic(auto, unfolding(crate::specs::Form::takes))]
-    fn taken(b: u8) -> usize {
+    fn put(page: &mut Page, b: u8, numbers: &mut Iter<'_, u64>) {
         match b {
-            b'#' | b'@' | b'~' => 1,
-            _ => 0,
-        }
-    }
-
-    fn put(page: &mut Page, b: u8, n: u64) {
-        match b {
-            b'#' => page.decimal(n),
-            b'@' => put_exact(page, n),
-            b'~' => put_plain(page, n),
+            b'#' => page.decimal(text::next_number(numbers)),
+            b'@' => put_exact(page, text::next_number(numbers)),
+            b'~' => put_plain(page, text::next_number(numbers)),
             _ => page.byte(b),
         }
     }

@@ -1,11 +1,13 @@
 // Telling: the text of what a step told, written to a writer. It stands above told and stream, and below run, whose loop
 // steps; it has nothing of the divider.
 //
-// The text that is handed over is the one that the run owes after the bytes written so far, by specs/Reached.
+// The text that is handed over is the one that the run owes after the bytes written so far, by specs/Reached, and is what the
+// writer gets.
 
 #![tactic(auto)]
 
 ghost use Rattle.std.specs.Prelude.{◌≡◌, ◌+◌, ◌≤◌, length, IfOk, OnOk};
+ghost use Rattle.std.specs.Io.KnownBytes.{Appends};
 ghost use Rattle.report.specs.Report.{most_text};
 ghost use Rattle.told.specs.Text.{tells_of, told_text, CanTell};
 ghost use Rattle.telling.specs.Reached.{Owed, Sends};
@@ -23,6 +25,7 @@ fn send<W: Write>(output: &mut W, text: &[u8], sent: &mut u64) -> Result<u64, Wr
     requires { Owed sent.old text.now × (length text.now ≤ most_text) }
     ensures all { IfOk result (λ n. n ≡ sent.new) }
     ensures counted { OnOk result (sent.new ≡ sent.old + length text.now) }
+    ensures written { OnOk result (Appends (W.contents output.old) (W.contents output.new) text.now) }
 {
     stream::write_counted(output, text, sent)?;
     Ok(*sent)
@@ -39,6 +42,7 @@ fn write_told<W: Write>(
     requires { Owed sent.old (told_text (tells_of told) cells.now) × CanTell (tells_of told) cells.now }
     ensures all { IfOk result (λ n. n ≡ sent.new) }
     ensures sends { OnOk result (Sends sent.old (told_text (tells_of told) cells.now) sent.new) }
+    ensures written { OnOk result (Appends (W.contents output.old) (W.contents output.new) (told_text (tells_of told) cells.now)) }
 {
     let mut text = [0u8; MOST_TEXT];
     let n = told::print(told, cells, &mut text);
@@ -57,6 +61,7 @@ pub fn tell<W: Write>(
     requires { Owed sent.old (told_text (tells_of told) cells.now) × CanTell (tells_of told) cells.now }
     ensures all { IfOk result (λ n. n ≡ sent.new) }
     ensures sends { OnOk result (Sends sent.old (told_text (tells_of told) cells.now) sent.new) }
+    ensures written { OnOk result (Appends (W.contents output.old) (W.contents output.new) (told_text (tells_of told) cells.now)) }
 {
     match told {
         Told::Nothing => Ok(*sent),

@@ -6,9 +6,12 @@
 
 #![tactic(auto)]
 
-ghost use Rattle.std.specs.Prelude.{◌≡◌, ℕ, List, [], ◌∷◌, ◌+◌, ◌<◌, ◌≤◌, get_or};
+ghost use Rattle.std.specs.Prelude.{◌≡◌, ℕ, List, [], ◌∷◌, ◌+◌, ◌<◌, drop, get_or};
+ghost use Rattle.std.specs.Slice.Iter.{iter_rest};
 ghost use Rattle.text.specs.Text.{decimal, part, takes, filled, filled_by};
 ghost use Rattle.text.specs.Page.{Room, Wrote};
+
+use std::slice::Iter;
 
 // A list that is lent to be written on, and how many of its bytes are written.
 // Kept: no `write!`, whose clauses speak of an `Ok` alone, so that no proof could say that a text with room is written.
@@ -18,18 +21,17 @@ pub struct Page<'a> {
     pub at: usize,
 }
 
-// The marks of a kind of form: what a byte of a form stands for, n the next of the form's numbers, and how many it takes.
+// The marks of a kind of form: what a byte of a form stands for where n is the next of the form's numbers, and how many it takes of
+// those that are left.
 pub trait Marks {
     ghost stands: { ℕ → ℕ → List ℕ };
 
     ghost takes: { ℕ → ℕ };
 
-    fn taken(b: u8) -> usize
-        ensures { (result ≡ takes b) × (result ≤ 1) };
-
-    fn put(page: &mut Page, b: u8, n: u64)
-        requires { Room page.old (stands b n) }
-        ensures { Wrote page.old (stands b n) page.new };
+    fn put(page: &mut Page, b: u8, numbers: &mut Iter<'_, u64>)
+        requires { Room page.old (stands b (get_or (iter_rest numbers.old) 0 0)) }
+        ensures written { Wrote page.old (stands b (get_or (iter_rest numbers.old) 0 0)) page.new }
+        ensures taken { iter_rest numbers.new ≡ drop (takes b) (iter_rest numbers.old) };
 }
 
 fn digit(n: u64) -> u8
@@ -65,10 +67,9 @@ impl Page<'_> {
         requires { Room self.old (filled_by M.stands M.takes form.now numbers.now) }
         ensures { Wrote self.old (filled_by M.stands M.takes form.now numbers.now) self.new }
     {
-        let mut k = 0;
+        let mut left = numbers.iter();
         for b in form {
-            M::put(self, *b, number(numbers, k));
-            k += M::taken(*b);
+            M::put(self, *b, &mut left);
         }
     }
 
@@ -81,11 +82,12 @@ impl Page<'_> {
     }
 }
 
-// Number k of a form's numbers, 0 past them.
-pub fn number(numbers: &[u64], k: usize) -> u64
-    ensures { result ≡ get_or numbers.now k 0 }
+// The next of a form's numbers, 0 past them.
+pub fn next_number(numbers: &mut Iter<'_, u64>) -> u64
+    ensures next { result ≡ get_or (iter_rest numbers.old) 0 0 }
+    ensures taken { iter_rest numbers.new ≡ drop 1 (iter_rest numbers.old) }
 {
-    numbers.get(k).copied().unwrap_or(0)
+    numbers.next().copied().unwrap_or(0)
 }
 
 // The forms with one mark.
@@ -96,15 +98,10 @@ impl Marks for Decimals {
 
     ghost takes = { takes };
 
-    #[tactic(auto, unfolding(crate::specs::Text::takes))]
-    fn taken(b: u8) -> usize {
-        usize::from(b == b'#')
-    }
-
-    #[tactic(auto, unfolding(crate::specs::Text::part))]
-    fn put(page: &mut Page, b: u8, n: u64) {
+    #[tactic(auto, unfolding(crate::specs::Text::part, crate::specs::Text::takes))]
+    fn put(page: &mut Page, b: u8, numbers: &mut Iter<'_, u64>) {
         if b == b'#' {
-            return page.decimal(n);
+            return page.decimal(next_number(numbers));
         }
         page.byte(b);
     }

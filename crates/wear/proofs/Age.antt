@@ -13,7 +13,8 @@ use borrow.Author.Tests.{lt-ltb, le-ltb}
 use Rattle.wear.specs.declared.Record.{Record}
 use Rattle.wear.specs.Wear.{total, highest, held_cuts, grown, stored}
 use Rattle.wear.specs.Answers.{last}
-use Rattle.wear.proofs.Laws.{total-append, highest-append, greater_comm}
+use Rattle.laws.proofs.Lists.{total-append}
+use Rattle.wear.proofs.Laws.{highest-append, greater_comm}
 use Rattle.wear.proofs.Tests.{Valid, next_low, next-same}
 
 -- ---- the last n of a list

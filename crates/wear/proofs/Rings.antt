@@ -273,7 +273,6 @@ accepted-low (a ∷ gs) = go (way a) (accepted-low gs)
     go (turned p) h = skip (not-turned a p) h
 
 total-low : (l : List ℕ) → All (λ x. x ≤ 32) l → total l ≤ 32 * length l
-unfolding total
 total-low [] h = omega arith
 total-low (x ∷ l) h = omega (arith, h.0, total-low l h.1)
 
@@ -314,7 +313,7 @@ module _ (gs : List RingAnswer) (a : RingAnswer) where
 
   nothing : accepted (gs ++ (a ∷ [])) ≡ [] → (a.code ≡ 0 → ⊥)
       → returned (after empty gs) a.code a.cuts ≡ record { code = 0; total = 0; highest = 0; rings = 0 }
-  unfolding total highest last
+  unfolding highest last
   nothing e p = turned-reports (after empty gs) (accepted gs) now a p ∙ ap (λ (h : List ℕ). values_for (last 32 h)) (sym (one_skipped (not-turned a p)) ∙ e)
 
   twenty : known ≡ false → returned (after empty gs) a.code a.cuts ≡ refusal

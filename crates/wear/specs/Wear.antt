@@ -1,20 +1,17 @@
 -- 02, Card 14: "A record keeps the cuts of the last 32 accepted rings and reports their total, the highest, and how many rings it holds." What one answer of a
 -- divider call does to it.
 use Rattle.std.specs.Prelude.{ℕ, ◌+◌, ◌%◌, Bool, ◌||◌, not, cond, List, [], ◌∷◌, get_or, set, take, ltb, eqb, Result, Ok, Err}
+pub use Rattle.laws.specs.Lists.{total}
 use Rattle.laws.specs.Bounded.{any}
 use Rattle.wear.specs.declared.Record.{Record}
 use Rattle.wear.specs.declared.Values.{Values}
 use Rattle.wear.specs.declared.Refused.{Refused}
 use Rattle.wear.specs.declared.Wear.{Wear}
 
--- the total and the highest of a list; 0 of none
-unfoldable pub total : List ℕ → ℕ
-total [] = 0
-total (x ∷ l) = x + total l
-
 abbrev pub greater : ℕ → ℕ → ℕ
 greater a b = cond (ltb a b) b a
 
+-- the highest of a list; 0 of none
 unfoldable pub highest : List ℕ → ℕ
 highest [] = 0
 highest (x ∷ l) = greater x (highest l)

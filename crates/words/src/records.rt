@@ -25,15 +25,20 @@ impl Tally {
         }
     }
 
-    pub fn print<W: Write>(self, output: &mut W, name: &str) {
-        let _ = write!(output, "{name}: {} run, {} differ\n", self.ran, self.differ);
+    // The name is that of what was run, and `how` what is said of how, if anything.
+    pub fn print<W: Write>(self, output: &mut W, name: &str, how: &str) {
+        let _ = write!(
+            output,
+            "{name}{how}: {} run, {} differ\n",
+            self.ran, self.differ
+        );
     }
 
     // Of a list whose rows are wrong on purpose: how many they are, and how many were told to differ.
-    pub fn print_told<W: Write>(self, output: &mut W, name: &str) {
+    pub fn print_told<W: Write>(self, output: &mut W, name: &str, how: &str) {
         let _ = write!(
             output,
-            "{name}: {} wrong on purpose, {} told\n",
+            "{name}{how}: {} wrong on purpose, {} told\n",
             self.ran, self.differ
         );
     }
@@ -62,6 +67,9 @@ pub trait Records: Drop {
 
     // The tally of a list that cannot be opened: it counts as one that differs.
     const UNOPENED: Tally;
+
+    // What is said behind a list's name of how it is run here; nothing, where a program runs its lists in one way.
+    const HOW: &'static str;
 
     // Before the first record of a list.
     fn new() -> Self;
@@ -122,13 +130,13 @@ impl<F: Files, W: Write, E: Write> Lists<'_, F, W, E> {
     // Runs a list, and prints its tally. No clause: it is counted over a file, which has no name to cite.
     pub fn run<P: Records>(&mut self, path: &str) -> Tally {
         let t = self.tally::<P>(path);
-        t.print(self.output, path);
+        t.print(self.output, path, P::HOW);
         t
     }
 
     // Runs a list whose rows are wrong on purpose. No clause, as for `run`.
     pub fn run_wrong<P: Records>(&mut self, path: &str) {
         let t = self.tally::<P>(path);
-        t.print_told(self.output, path);
+        t.print_told(self.output, path, P::HOW);
     }
 }

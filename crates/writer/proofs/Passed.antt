@@ -19,12 +19,13 @@ use Rattle.call.specs.Call.{beyond, outside, any_outside, counts_out, units_out}
 use Rattle.call.specs.Lent.{point_in, points_in, odd}
 use Rattle.lent_points.proofs.Reading.{outside_at, any-outside-is}
 use Rattle.blocks.specs.Writing.{block_bytes, Writable}
-use Rattle.block_writer.proofs.Words.{length-block, part-back}
+use Rattle.block_writer.proofs.Words.{length-block}
 use Rattle.std.specs.Prelude.{Ok, Err}
 use Rattle.std.specs.declared.result.Result.{Result}
 use Rattle.writer.specs.declared.Refusal.{Refusal}
 use Rattle.writer.specs.declared.Refusal.TheVariants.{Counts, Units, Destination}
 use Rattle.writer.specs.Write.{counts, units, destination_out, refusal, number_of, tested, answer_of, pair_bytes, written}
+use Rattle.laws.proofs.WrittenOut.{part-back}
 
 none_of : (p q r : Bool) → ◌≡◌ {A = ℕ} (cond p 1 (cond q 2 (cond r 12 0))) 0 → (p ≡ false) × (q ≡ false) × (r ≡ false)
 none_of true q r e = absurd (omega arith)

@@ -14,7 +14,7 @@ use Rattle.arclength.proofs.measure.Goals as goal
 
 pub loop-i-init : goal.loop-i-init
 unfolding tab Arclength.arc step_to of_bits of_int
-loop-i-init c = record { steps = refl; arcs = refl; step_is = refl; arc_is = refl; end_is = refl; last_is = refl }
+loop-i-init c = record { steps = refl; arcs = refl; step_is = refl; arc_is = refl; step_rest = refl; arc_rest = refl; end_is = refl; last_is = refl }
 
 pub grid_dist-d-requires : goal.grid_dist-d-requires
 grid_dist-d-requires c =
@@ -37,6 +37,8 @@ loop-i-preserved c =
       arcs = simp length-set o.arcs;
       step_is = more (step_to ps) l.step (l.i + 1) _ (omega (arith, c.requires.0.count)) o.step_is (walk.step-next ps l.i _ d);
       arc_is = more (Arclength.arc ps) l.arc (l.i + 1) _ (omega (arith, c.requires.0.count)) o.arc_is e;
+      step_rest = walk.zeros-next l.step (l.i + 1) _ o.step_rest;
+      arc_rest = walk.zeros-next l.arc (l.i + 1) _ o.arc_rest;
       end_is = e;
       last_is = p;
     }

@@ -38,7 +38,7 @@ mark_rims-requires c =
     let d = c.mean-p.ensures in
     let e = c.add_node-z.ensures in (
       one.used-up c.args.piece.now.edges.now f a refl b refl d e.0 e.1,
-      omega (arith, one.used_all c.args.piece.now.edges.now f a refl b refl d e.0 e.1, c.requires.3),
+      omega (arith, one.used-is c.args.piece.now.edges.now f a refl b refl d e.0 e.1, c.requires.3),
       one.middles-listed c.args.piece.now.edges.now f a refl b refl d e.0 e.1,
       one.corners-listed c.args.piece.now.edges.now f a refl b refl d e.0 e.1,
       omega (arith, one.as-many c.args.piece.now.edges.now f a refl b refl, c.args.piece.now.sided),

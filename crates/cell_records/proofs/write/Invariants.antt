@@ -7,4 +7,4 @@ use Rattle.cell_records.proofs.write.Given as goal
 
 abbrev pub invariant-loop-k : goal.invariant-loop-k
 invariant-loop-k l =
-    (l.k ≤ l.n) × (length l.cells ≡ length l.initial.cells) × (l.cells ≡ written l.initial.cells l.at l.numbers l.k)
+    (l.k ≤ l.laid.count) × (length l.cells ≡ length l.initial.cells) × (l.cells ≡ written l.initial.cells l.laid.at l.laid.numbers l.k)

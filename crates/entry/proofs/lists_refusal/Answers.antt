@@ -1,10 +1,8 @@
 -- `lists_refusal`: where the counts refuse, no node is looked at; else the nodes and the marks decide, and then the room.
-use Prim.Native.Nat.{◌/◌}
 use mathlib.Core.Path.{◌≡◌, sym, ap, ◌∙◌}
 use mathlib.Core.List.{List}
 use lib.ListN.{length}
 use borrow.Author.Rules.{rules}
-use Rattle.nodes.specs.Flat.{nodes_in}
 use Rattle.quads.specs.declared.Cell.{Cell}
 use Rattle.entry.specs.Refusal.{lists_refusal}
 use Rattle.survey.specs.declared.NodeSurvey.{NodeSurvey}
@@ -12,6 +10,7 @@ use Rattle.table.specs.Answers.{code_of}
 use Rattle.entry.proofs.Tests.{fit, looked_none, nothing}
 use Rattle.entry.proofs.lists_refusal.Goals as goal
 use Rattle.entry.proofs.lists_refusal.Goals.{After-used_refusal}
+use Rattle.call.specs.Lent.{lent_lists}
 
 pub returns-then-counts_over-clause-looked : goal.returns-then-counts_over-clause-looked
 returns-then-counts_over-clause-looked c =
@@ -20,13 +19,8 @@ returns-then-counts_over-clause-looked c =
 
 -- the number of what the used nodes, the marks and the room come to
 told : (c : After-used_refusal) (cells : List Cell) → length cells ≡ c.args.cell_places
-    → code_of c.used_refusal.result ≡ lists_refusal c.args.limits c.args.own (record {
-      nodes = nodes_in c.args.nodes.now (length c.args.nodes.now / 2);
-      node_count_of = c.args.node_count;
-      rims = c.args.rims.now;
-      cells = cells;
-      cell_count_of = c.args.cell_count;
-    })
+    → code_of c.used_refusal.result ≡ lists_refusal c.args.limits c.args.own
+    (lent_lists c.args.nodes.now c.args.node_count c.args.rims.now cells c.args.cell_count)
 told c cells o =
     let a = c.args in
     c.used_refusal.ensures

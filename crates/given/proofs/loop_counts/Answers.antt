@@ -3,7 +3,7 @@ use Rattle.std.proofs.Common.{length, ◌∙◌, rules, tests, arith}
 use lib.ListN.{get_or, take}
 use lib.Seq.{get_or-take, length-take-le}
 use Rattle.std.proofs.lemmas.List.{ext_get_or}
-use Rattle.lent_points.proofs.Made.{made_of}
+use Rattle.laws.proofs.Made.{made_of}
 use Rattle.given.proofs.loop_counts.Goals as goal
 
 pub returns : goal.returns

@@ -21,6 +21,6 @@ loop-j-preserved c =
     let kept = c.from-kept.ensures ∙ get_or-take n l c.next.result 0 (omega (arith, many, c.next.ensures.1)) ∙ ap (λ (i : ℕ). get_or l i 0) m in (
       omega (arith, b),
       laid_more _ j c.loop-j.edges _ c.loop-j.invariant.1 (omega (arith, b, c.requires.count))
-          (c.surviving_mark-mark.ensures
+          (c.surviving_mark.ensures
           ∙ mark-next a.ring.now a.clean.now a.marking.kinds.now a.marking.snaps.now (sought a.lead.now) j _ _ _ _ k kept c.next-after.ensures.0 c.point_at-p.ensures),
     )

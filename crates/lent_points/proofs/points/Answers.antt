@@ -1,29 +1,39 @@
--- `points`: each pair of numbers goes to its place, and the places after them get the origin.
-use Rattle.std.proofs.Common.{ℕ, ◌≡◌, ◌-◌, ◌/◌, ◌<◌, take, [], length, subst, sym, ap, ◌∙◌, rules, tests, arith}
-use lib.ListN.{get_or}
-use Rattle.laws.proofs.Table.{length_tab}
+-- `points`: each pair of numbers goes to its place, and the places after them keep the origin.
+use Rattle.std.proofs.Common.{◌≡◌, ◌++◌, ◌-◌, ◌/◌, ◌<◌, take, drop, length, replicate, length-set, subst, sym, ap, ◌∙◌, rules, arith}
+use lib.ListN.{get_or, length-append, length-replicate}
+use lib.Seq.{take-length}
+use Rattle.std.proofs.lemmas.List.{drop-replicate}
+use Rattle.laws.proofs.Table.{length_tab, more, tab_none}
 use Rattle.vector.specs.Grid.{origin}
 use Rattle.vector.specs.Size.{OnSheet}
 use Rattle.call.specs.Lent.{point_in, points_in}
-use Rattle.lent_points.proofs.Made.{made_of}
-use Rattle.lent_points.proofs.Reading.{pair_among, padded_at, padded}
+use Rattle.lent_points.proofs.Reading.{pair_among, padded_at}
 use Rattle.lent_points.proofs.points.Goals as goal
+
+pub loop-i-init : goal.loop-i-init
+loop-i-init c = (search rules, tab_none (point_in c.args.l.now))
+
+pub loop-i-preserved : goal.loop-i-preserved
+loop-i-preserved c =
+    let o = c.loop-i in
+    let l = c.args.l.now in
+    let n = c.args.n in
+    let h : o.i < n = omega (arith, c.loop-i-test.true, o.invariant.0) in
+    let e = c.point.ensures ∙ pair_among l (length l / 2) n o.i c.as_chunks.result.0.now c.as_chunks.ensures.front (omega arith) (omega (arith, c.requires.1)) h in
+    (length-set o.p-items o.i _ ∙ o.invariant.0, more (point_in l) o.p-items o.i _ (omega (arith, h, o.invariant.0)) o.invariant.1 e)
 
 pub returns : goal.returns
 returns c =
-    let l = c.from_fn-points.result in
+    let o = c.loop-i in
     let n = c.args.n in
-    let k = c.from_fn-points.ensures.items in
-    let qs = c.as_chunks.result.0.now in
     let ps = points_in c.args.l.now n in
-    let each : (i : ℕ) → i < 60 → get_or l i origin ≡ get_or ps i origin = λ i h.
-    made_of l (λ i. point_in (get_or (take n qs) i []) 0) (λ i y q k. search (rules, tests)) 60 k i origin h
-    ∙ pair_among c.args.l.now (length c.args.l.now / 2) n i qs c.as_chunks.ensures.front c.as_chunks.ensures.front_len (omega arith) (omega (arith, c.requires.1)) in
-    let p = padded l ps n origin (length_tab (point_in c.args.l.now) n) c.requires.0 k.long each in (
+    let k : o.i ≡ n = omega (arith, o.invariant.0, c.loop-i-test.false) in
+    let read : o.p-items ≡ ps = sym (take-length o.p-items) ∙ (λ j. take ((o.invariant.0 ∙ sym k) j) o.p-items) ∙ o.invariant.1 ∙ ap (points_in c.args.l.now) k in
+    let p : o.p-items ++ drop n (replicate 60 origin) ≡ ps ++ replicate (60 - n) origin = λ j. read j ++ drop-replicate n 60 origin j in (
       λ j. record { points = p j; count = n },
       record {
         count = c.requires.0;
-        places = k.long;
+        places = ap length p ∙ simp (length-append, length-replicate, length_tab) (omega (arith, c.requires.0));
         points = λ i. subst OnSheet (sym (ap (λ l. get_or l i origin) p ∙ padded_at ps (60 - n) origin i)) (c.requires.2 i);
       },
     )

@@ -1,6 +1,6 @@
 use mathlib.Core.Path.{◌≡◌, refl, sym, ap, ◌∙◌, subst}
 use Prim.Native.Nat.{ℕ, suc, ◌<◌}
-use lib.ListN.{length, get_or}
+use lib.ListN.{length, get_or, take}
 use Rattle.laws.specs.Bounded.{any}
 use Rattle.laws.proofs.Search.{any_next}
 use Rattle.vector.specs.declared.Point.{Point}
@@ -9,7 +9,6 @@ use Rattle.nodes.specs.Nodes.{node_at}
 use Rattle.nodes.specs.Growth.{InRange}
 use Rattle.nodes.specs.Flat.{nodes_in}
 use Rattle.quads.specs.declared.Middle.{Middle}
-use Rattle.marks.specs.Edges.{marks_in}
 use Rattle.piece_nodes.specs.Adding.{end_at}
 use Rattle.quads.specs.Flat.{middle_of}
 use Rattle.piece_nodes.proofs.Adding as adding
@@ -23,7 +22,7 @@ abbrev Mid : After-edge_middle-m → Type 0
 Mid c =
     let a = c.args in
     let i = c.loop-i.i in
-    c.edge_middle-m.result ≡ middle_of a.share (get_or (marks_in a.marks.now (length a.vs.now)) i Straight) (end_at a.nodes.now a.used a.vs.now (length a.vs.now) i)
+    c.edge_middle-m.result ≡ middle_of a.share (get_or (take (length a.vs.now) a.marks.now) i Straight) (end_at a.nodes.now a.used a.vs.now (length a.vs.now) i)
     (end_at a.nodes.now a.used a.vs.now (length a.vs.now) (suc i))
 
 mid : (c : After-edge_middle-m) → Mid c

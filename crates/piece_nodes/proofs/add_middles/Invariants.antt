@@ -7,5 +7,5 @@ use Rattle.piece_nodes.proofs.add_middles.Given as goal
 
 abbrev pub invariant-loop-i : goal.invariant-loop-i
 invariant-loop-i l =
-    Adds l.initial.nodes l.used (middle_at l.share l.initial.nodes l.used l.vs l.marks (length l.vs)) l.i l.nodes l.at l.list
+    Adds l.initial.nodes l.used (middle_at l.share l.initial.nodes l.used l.vs l.marks (length l.vs)) l.i l.initial.list l.nodes l.at l.list
     × (l.far ≡ any (far_at l.share l.initial.nodes l.used l.vs l.marks (length l.vs)) l.i)

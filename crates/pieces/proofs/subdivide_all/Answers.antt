@@ -4,9 +4,7 @@ use lib.ListN.{length, take, length-take, length-drop}
 use lib.Seq.{length-take-le, take_all}
 use Rattle.std.specs.Prelude.{Option, Some, None}
 use Rattle.vector.proofs.Rings as rings
-use Rattle.marks.specs.Edges.{marks_in}
 use Rattle.marks.specs.Part.{Part}
-use Rattle.parts.specs.Pieces.{marks_of}
 use Rattle.pieces.proofs.Course as course
 use Rattle.pieces.proofs.Course.{Read}
 use native.Mathlib.Omega.{arith}
@@ -18,7 +16,7 @@ abbrev piece : After-piece_sides-sides → Part
 piece c =
     let n = c.piece_points-corners.result.count in
     let ps = take n c.piece_points-corners.result.points in
-    record { points = ps; edges = marks_in (take n c.piece_marks-marks.result) (length ps) }
+    record { points = ps; edges = take (length ps) (take n c.piece_marks-marks.result) }
 
 read : (c : After-piece_sides-sides) →
     Read c.args.ring.now.ring.points c.args.ring.now.edges c.args.pieces.now c.loop-i.i c.piece_points-corners.result.count (piece c) c.piece_sides-sides.result
@@ -27,11 +25,11 @@ read c =
     let q = c.piece_points-corners in
     let n = q.result.count in
     let ms = c.piece_marks-marks.result in
-    let e = q.ensures.0 (marks_of a.ring.now.edges) in
+    let e = q.ensures.0 a.ring.now.edges in
     let h : length (take n q.result.points) ≡ n = length-take-le n q.result.points (rings.room q.result q.ensures.1) in
     let l : length (take n ms) ≤ n = simp length-take (omega arith) in
     let w =
-    ap (marks_in (take n ms)) h ∙ ap marks_of (take_all n (take n ms) l) ∙ ap (λ (k : ℕ). marks_of (take k ms)) q.ensures.2
+    ap (λ (k : ℕ). take k (take n ms)) h ∙ take_all n (take n ms) l ∙ ap (λ (k : ℕ). take k ms) q.ensures.2
     ∙ c.piece_marks-marks.ensures.0 a.ring.now.ring.points in
     record {
       count = c.loop-i-test.true;
@@ -70,7 +68,7 @@ subdivide-t-requires c =
 
 pub returns-in-Some : goal.returns-in-Some
 returns-in-Some c =
-    course.after-failure c.requires.0 _ c.loop-i.invariant (read (goal.at.returns-in-Some c).After-piece_sides-sides) c.subdivide-t.ensures c.clear.ensures c.in-Some.is
+    course.after-failure c.requires.0 _ c.loop-i.invariant (read (goal.at.returns-in-Some c).After-piece_sides-sides) c.subdivide-t.ensures (omega arith) (c.fill.ensures.after (λ y e. e)) c.in-Some.is
 
 pub overflow_add-at : goal.overflow_add-at
 overflow_add-at c =

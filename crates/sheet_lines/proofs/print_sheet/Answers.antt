@@ -1,6 +1,6 @@
 use mathlib.Core.Path.{sym, ◌∙◌}
 use Rattle.listing.proofs.Tests.{usable}
-use Rattle.sheet_lines.proofs.Lines.{whole-line, none_written, more-lines, few_bytes}
+use Rattle.sheet_lines.proofs.Lines.{whole-line, none_written, more-lines, none_held, more_held, few_bytes}
 use borrow.Author.Rules.{rules}
 use native.Mathlib.Omega.{arith}
 use Rattle.sheet_lines.proofs.print_sheet.Goals as goal
@@ -11,6 +11,7 @@ loop-i-init g c = (
   usable c.args.nodes.now c.args.used (sym c.nodes_out.ensures ∙ c.if-nodes_out.false),
   none_written c.args.nodes.now,
   c.requires,
+  none_held c.args.nodes.now _,
 )
 
 pub send-requires : goal.send-requires
@@ -43,6 +44,7 @@ loop-i-preserved g c =
     let t = whole-line a.nodes.now l.i (omega (arith, u.few, h)) _ _ _ p.ensures p.auto.out in (
       search rules,
       u,
-      more-lines a.nodes.now l.i l.sent _ _ l.invariant.2 t c.in_ok-send.ensures,
+      more-lines a.nodes.now l.i l.sent _ _ l.invariant.2 t c.in_ok-send.ensures.counted,
       l.invariant.3,
+      more_held a.nodes.now l.i _ _ _ _ t l.invariant.4 c.in_ok-send.ensures.written,
     )

@@ -14,8 +14,8 @@ returns-in_err-refusal c =
     e ∙ tested-fails a.ring.now a.chain.now a.size (values c.answer-own.result).code _ (sym c.in_err-refusal.ensures)
     ∙ ap (smallest_of a.ring.now a.chain.now a.size) c.answer-own.ensures
 
-pub invariant_of-all-clause-few : goal.invariant_of-all-clause-few
-invariant_of-all-clause-few c = (tested-passes _ _ _ (sym c.in_ok-refusal.ensures.0)).0
+pub invariant_of-all : goal.invariant_of-all
+invariant_of-all c = record { few = (tested-passes _ _ _ (sym c.in_ok-refusal.ensures.0)).0 }
 
 pub unreachable-requires : goal.unreachable-requires
 unreachable-requires c =

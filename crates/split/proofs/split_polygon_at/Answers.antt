@@ -13,9 +13,9 @@ returns-then-is_bad c =
     let a = c.args in
     let ps = c.as_slice.result.now in
     let e = c.as_slice.ensures.0 ∙ c.rotated_points.ensures.0 in
-    let n = ap (λ (l : List GridPoint). length l) e ∙ length_tab _ (length a.vs.now) in
-    Popped.sought a.limits a.ring.now a.vs.now (length a.vs.now) a.cuts a.worst.at c.requires.2 a.worst.measure
-    c.requires.4 (sym c.is_bad.ensures ∙ c.if-is_bad.true) (lt-ltb a.cuts a.limits.cuts c.if-cuts-limits.true) _ ps e
+    let n = ap (λ (l : List GridPoint). length l) e ∙ length_tab _ (length a.part.now.corners.now) in
+    Popped.sought a.limits a.part.now.ring.now a.part.now.corners.now (length a.part.now.corners.now) a.cuts a.worst.at c.requires.1 a.worst.measure
+    c.requires.2 (sym c.is_bad.ensures ∙ c.if-is_bad.true) (lt-ltb a.cuts a.limits.cuts c.if-cuts-limits.true) _ ps e
     (c.best_diagonal.ensures ∙ ap (λ (k : ℕ). best_to a.limits ps (k - 3)) n)
 
 pub returns : goal.returns
@@ -23,9 +23,9 @@ returns c =
     let a = c.args in
     elim c.else-cuts-limits.branch [
       | else-cuts-limits-via-then-cuts-limits+else-is_bad w ↦
-          Popped.not-bad a.limits a.ring.now a.vs.now (length a.vs.now) a.cuts a.worst.at c.requires.2 a.worst.measure
-          c.requires.4 (sym w.is_bad.ensures ∙ w.if-is_bad.false)
+          Popped.not-bad a.limits a.part.now.ring.now a.part.now.corners.now (length a.part.now.corners.now) a.cuts a.worst.at c.requires.1 a.worst.measure
+          c.requires.2 (sym w.is_bad.ensures ∙ w.if-is_bad.false)
       | else-cuts-limits-via-else-cuts-limits w ↦
-          Popped.spent a.limits a.ring.now a.vs.now (length a.vs.now) a.cuts a.worst.at c.requires.2 a.worst.measure
-          c.requires.4 (le-ltb a.cuts a.limits.cuts w.if-cuts-limits.false)
+          Popped.spent a.limits a.part.now.ring.now a.part.now.corners.now (length a.part.now.corners.now) a.cuts a.worst.at c.requires.1 a.worst.measure
+          c.requires.2 (le-ltb a.cuts a.limits.cuts w.if-cuts-limits.false)
     ]

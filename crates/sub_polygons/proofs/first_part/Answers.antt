@@ -11,8 +11,9 @@ pub make_sub_polygon-requires : goal.make_sub_polygon-requires
 make_sub_polygon-requires c = (
   omega arith,
   omega arith,
-  c.requires.4,
-  Segments.seg_straight c.args.vs.now c.segment.result (length c.args.vs.now) c.args.v (c.args.k + 1) (omega arith) c.segment.ensures,
+  c.args.part.now.sheet,
+  Segments.seg_straight c.args.part.now.corners.now c.segment.result (length c.args.part.now.corners.now) c.args.v (c.args.k + 1) (omega arith) c.segment.ensures.0,
+  c.segment.ensures.1,
 )
 
 pub returns : goal.returns
@@ -20,10 +21,11 @@ returns c =
     let g = c.segment in
     let m = c.make_sub_polygon.ensures in (
       λ es len. m.0 es len
-          ∙ Segments.first-is c.args.ring.now c.args.vs.now (length c.args.vs.now) c.args.v c.args.k (omega arith) g.result es (omega arith) g.ensures,
+          ∙ Segments.first-is c.args.part.now.ring.now c.args.part.now.corners.now (length c.args.part.now.corners.now) c.args.v c.args.k (omega arith) g.result es (omega arith) g.ensures.0,
       m.1
           ∙ ap turned_area
-          (Segments.first-points c.args.ring.now c.args.vs.now (length c.args.vs.now) c.args.v c.args.k (omega arith) g.result (omega arith) g.ensures),
+          (Segments.first-points c.args.part.now.ring.now c.args.part.now.corners.now (length c.args.part.now.corners.now) c.args.v c.args.k (omega arith) g.result (omega arith) g.ensures.0),
       m.2,
       m.3,
+      m.4,
     )

@@ -14,6 +14,7 @@ use Rattle.parts.specs.declared.list.Vertex.{Vertex}
 use Rattle.parts.specs.Vertices.{no_vertex, vertex, backward}
 use Rattle.parts.proofs.Segments as Segments
 use Rattle.parts.proofs.Stored.{reverse-at}
+use Rattle.sub_polygons.proofs.Blanks.{blanks, blanks-next, blanks-last}
 use Rattle.sub_polygons.proofs.reversed.Goals as goal
 use Rattle.sub_polygons.proofs.reversed.Goals.{In-Some}
 
@@ -50,7 +51,7 @@ turn c =
     )
 
 pub loop-i-init : goal.loop-i-init
-loop-i-init c = (refl, tab_none _)
+loop-i-init c = (refl, tab_none _, blanks 60 _ refl refl)
 
 pub loop-i-preserved : goal.loop-i-preserved
 loop-i-preserved c =
@@ -64,6 +65,7 @@ loop-i-preserved c =
       length-set l.out (length l.yielded) _ ∙ l.invariant.0,
       more (backward vs m) l.out (length l.yielded) _ (omega (arith, l.invariant.0, t.0)) l.invariant.1
           (Segments.backward_in vs m (length l.yielded) _ (omega (arith, t.0)) (ap (λ (c : Vertex). c.at) t.2) (ap (λ (c : Vertex). c.edge) t.3)),
+      blanks-next l.out (length l.yielded) _ l.invariant.2,
     )
 
 pub returns : goal.returns
@@ -76,7 +78,9 @@ returns c =
     (YieldsList-from_zip (YieldsList-from_rev_slice vs (cc)) (YieldsList-from_skip 1 (YieldsList-from_rev_slice vs (cc)) (cc))) (cc) in
     let t = YieldsList-end road l.yielded l.i-iterator l.yielded_by c.next.result c.next.new.self c.in-None.is c.next.ensures.steps in
     let e : length l.yielded ≡ m - 1 = omega (arith, t.1, length-enumerate_from 0 (pairs vs), length-pairs vs) in
-    let z : 0 ≡ m - 1 - length l.yielded = omega (arith, e) in
-    more-last (backward vs m) l.out (length l.yielded) m _ e (omega arith) (omega (arith, e)) l.invariant.1
-    (Segments.same_vertex _ _ (ap (λ (c : Vertex). c.at) (get_or_default vs 0 c.index-vs-0.result no_vertex c.requires.0)) refl
-    ∙ Segments.backward-last vs m (length l.yielded) (vertex vs 0) e (ap (vertex vs) z))
+    let z : 0 ≡ m - 1 - length l.yielded = omega (arith, e) in (
+      more-last (backward vs m) l.out (length l.yielded) m _ e (omega arith) (omega (arith, e)) l.invariant.1
+          (Segments.same_vertex _ _ (ap (λ (c : Vertex). c.at) (get_or_default vs 0 c.index-vs-0.result no_vertex c.requires.0)) refl
+          ∙ Segments.backward-last vs m (length l.yielded) (vertex vs 0) e (ap (vertex vs) z)),
+      blanks-last l.out (length l.yielded) m _ e (omega arith) l.invariant.2,
+    )

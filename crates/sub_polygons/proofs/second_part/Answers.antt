@@ -11,9 +11,10 @@ pub make_sub_polygon-requires : goal.make_sub_polygon-requires
 make_sub_polygon-requires c = (
   omega arith,
   omega arith,
-  c.requires.4,
-  Segments.seg_straight c.args.vs.now c.segment.result (length c.args.vs.now) ((c.args.v + c.args.k) % (length c.args.vs.now)) (length c.args.vs.now - c.args.k + 1)
-      (omega arith) c.segment.ensures,
+  c.args.part.now.sheet,
+  Segments.seg_straight c.args.part.now.corners.now c.segment.result (length c.args.part.now.corners.now) ((c.args.v + c.args.k) % (length c.args.part.now.corners.now)) (length c.args.part.now.corners.now - c.args.k + 1)
+      (omega arith) c.segment.ensures.0,
+  c.segment.ensures.1,
 )
 
 pub returns : goal.returns
@@ -21,12 +22,13 @@ returns c =
     let g = c.segment in
     let m = c.make_sub_polygon.ensures in (
       λ es len. m.0 es len
-          ∙ Segments.second_is c.args.ring.now c.args.vs.now (length c.args.vs.now) c.args.v c.args.k (omega arith) g.result es (omega arith) (omega arith)
-          g.ensures,
+          ∙ Segments.second_is c.args.part.now.ring.now c.args.part.now.corners.now (length c.args.part.now.corners.now) c.args.v c.args.k (omega arith) g.result es (omega arith) (omega arith)
+          g.ensures.0,
       m.1
           ∙ ap turned_area
-          (Segments.second-points c.args.ring.now c.args.vs.now (length c.args.vs.now) c.args.v c.args.k (omega arith) g.result (omega arith) (omega arith)
-          g.ensures),
+          (Segments.second-points c.args.part.now.ring.now c.args.part.now.corners.now (length c.args.part.now.corners.now) c.args.v c.args.k (omega arith) g.result (omega arith) (omega arith)
+          g.ensures.0),
       m.2,
       m.3,
+      m.4,
     )

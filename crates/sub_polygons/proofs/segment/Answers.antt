@@ -1,16 +1,17 @@
--- `segment`: the corners up to the list's end, then those from its first on, and the last edge made straight.
+-- `segment`: the corners up to the list's end, then those from its first on, and the last edge made straight; the other places are blank.
 use Rattle.std.proofs.Common.{◌≡◌, ℕ, ◌+◌, ◌-◌, ◌%◌, ◌≤◌, ◌<◌, List, ◌++◌, length, get_or, take, drop, set, refl, sym, ap, ◌∙◌, arith}
 use native.Mathlib.Nat.{mod-eq_of_lt, add-mod_right}
 use native.Mathlib.Decide.{dec_lt}
 use lib.ListN.{replicate, get_or-append, length-append, length-drop}
-use lib.Seq.{get_or-take, get_or-drop, get_or-append-add, length-take-le, take_at}
+use lib.Seq.{get_or-take, get_or-drop, get_or-append-add, length-take-le, take_at, drop_at, drop-append-add, drop-drop, drop-set-lt}
 use borrow.Rule.Slice.PartMut.{put_mid, post_of}
-use Rattle.std.proofs.lemmas.List.{get_or_default}
+use Rattle.std.proofs.lemmas.List.{get_or_default, drop-replicate}
 use Rattle.laws.specs.Table.{tab}
 use Rattle.laws.proofs.Table.{is_tab}
 use Rattle.parts.specs.declared.list.Vertex.{Vertex}
-use Rattle.parts.specs.Vertices.{no_vertex, vertex, straight, closing}
+use Rattle.parts.specs.Vertices.{no_vertex, blank, vertex, straight, closing}
 use Rattle.parts.proofs.Segments.{closed, same_vertex}
+use Rattle.sub_polygons.proofs.Blanks.{blanks}
 use Rattle.sub_polygons.proofs.segment.Goals as goal
 
 -- a corners from v on, and the others of m from the first on, put over the first m places
@@ -69,9 +70,24 @@ module _ (vs : List Vertex) (b : Vertex) (qs rs : List Vertex) (v m a : ℕ) (n 
       (same_vertex _ (straight (vertex laid (m - 1))) (ap (λ (k : Vertex). k.at) (get_or_default laid (m - 1) d no_vertex (omega (arith, long, h)))) refl)
       ∙ closed vs (length vs) v m laid h long round
 
+  -- the places after them are as they were
+  pub rest : 1 ≤ m → (x : Vertex) → b.at ≡ 0 → b.edge ≡ 60 → drop m (set laid (m - 1) x) ≡ replicate (60 - m) blank
+  rest h x p s =
+      let e : a + (m - a) ≡ m = omega arith in
+      let f : m ≡ length qs + (m - a) = omega (arith, ahead) in
+      drop-set-lt m laid (m - 1) x (omega arith) ∙ ap (drop m) one-after
+      ∙ ap (λ (k : ℕ). drop k (qs ++ (rs ++ post_of a (m - a) (qs ++ drop a out)))) f
+      ∙ drop-append-add qs (rs ++ post_of a (m - a) (qs ++ drop a out)) (m - a) ∙ drop_at rs (post_of a (m - a) (qs ++ drop a out)) (m - a) behind
+      ∙ ap (drop (m - a)) (drop_at qs (drop a out) a ahead) ∙ drop-drop (m - a) a out ∙ ap (λ (k : ℕ). drop k out) e ∙ drop-replicate m 60 b
+      ∙ blanks (60 - m) b p s
+
 pub returns : goal.returns
 returns c =
-    let e = c.min-ahead.ensures in
-    done c.args.vs.now _ c.copy_from_slice.new.self c.copy_from_slice-2.new.self c.args.v c.args.m c.min-ahead.result c.requires.3
-    (omega (arith, c.requires.0, c.requires.3)) (omega (arith, e)) (omega (arith, e, c.requires.1)) (λ h. omega (arith, e, h))
-    c.copy_from_slice.ensures.after c.copy_from_slice-2.ensures.after c.requires.2 c.index-out-m.result _
+    let e = c.min-ahead.ensures in (
+      done c.args.vs.now _ c.copy_from_slice.new.self c.copy_from_slice-2.new.self c.args.v c.args.m c.min-ahead.result c.requires.3
+          (omega (arith, c.requires.0, c.requires.3)) (omega (arith, e)) (omega (arith, e, c.requires.1)) (λ h. omega (arith, e, h))
+          c.copy_from_slice.ensures.after c.copy_from_slice-2.ensures.after c.requires.2 c.index-out-m.result _,
+      rest c.args.vs.now _ c.copy_from_slice.new.self c.copy_from_slice-2.new.self c.args.v c.args.m c.min-ahead.result c.requires.3
+          (omega (arith, c.requires.0, c.requires.3)) (omega (arith, e)) (omega (arith, e, c.requires.1)) (λ h. omega (arith, e, h))
+          c.copy_from_slice.ensures.after c.copy_from_slice-2.ensures.after c.requires.2 _ refl refl,
+    )

@@ -3,9 +3,10 @@ use borrow.Author.Tests.{not-true, not-false}
 use mathlib.Core.Path.{sym, ap, ◌∙◌}
 use Prim.Native.Nat.{ℕ, ◌+◌, ◌-◌}
 use native.Mathlib.Omega.{arith}
-use Rattle.svg.proofs.Places.{within, few_thousandths, out-place, low-place, high-place}
+use Rattle.svg.proofs.Places.{within, out-place, low-place, high-place}
 use Rattle.svg.specs.Place.{origin}
 use Rattle.svg.proofs.place_of.Goals as goal
+use Rattle.decimals.proofs.Value.{shown-le}
 
 pub returns-then-not-is_held : goal.returns-then-not-is_held
 returns-then-not-is_held c = out-place c.args.x (sym c.is_held.ensures ∙ not-true c.is_held.result c.if-not-is_held.true-raw)
@@ -16,7 +17,7 @@ of-d-requires c = within c.args.x (sym c.is_held.ensures ∙ not-false c.is_held
 pub overflow_sub-result : goal.overflow_sub-result
 overflow_sub-result c =
     let h = c.is_held in
-    omega (arith, c.of-d.ensures.1, few_thousandths c.args.x (within c.args.x (sym h.ensures ∙ not-false h.result c.if-not-is_held.false-raw)))
+    omega (arith, c.of-d.ensures.1, shown-le c.args.x (within c.args.x (sym h.ensures ∙ not-false h.result c.if-not-is_held.false-raw)))
 
 pub returns-then-d : goal.returns-then-d
 returns-then-d c =
@@ -27,7 +28,7 @@ returns-then-d c =
 pub overflow_add-result : goal.overflow_add-result
 overflow_add-result c =
     let h = c.is_held in
-    omega (arith, c.of-d.ensures.1, few_thousandths c.args.x (within c.args.x (sym h.ensures ∙ not-false h.result c.if-not-is_held.false-raw)))
+    omega (arith, c.of-d.ensures.1, shown-le c.args.x (within c.args.x (sym h.ensures ∙ not-false h.result c.if-not-is_held.false-raw)))
 
 pub returns-else-d : goal.returns-else-d
 returns-else-d c =

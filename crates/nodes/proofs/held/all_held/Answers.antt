@@ -1,11 +1,11 @@
-use Rattle.std.proofs.Common.{◌∙◌, ap, false, not, take}
+use Rattle.std.proofs.Common.{◌∙◌, ap, false, not}
 use Rattle.std.specs.Float.{nan}
 use Rattle.nodes.specs.Flat.{held, all_held}
-use Rattle.nodes.proofs.Ranged.{any_fold, any_before}
+use Rattle.nodes.proofs.Ranged.{any_fold}
 use Rattle.nodes.proofs.held.all_held.Goals as goal
 
 pub returns : goal.returns
 unfolding all_held
 returns c =
     let l = c.args.l.now in
-    ap not (c.any_out.ensures ∙ any_fold (λ x. not (held x)) nan (take c.args.n l) false ∙ any_before (λ x. not (held x)) nan l c.args.n c.requires)
+    ap not (c.any_out.ensures ∙ any_fold (λ x. not (held x)) nan l false)

@@ -5,11 +5,8 @@ use Rattle.keys.specs.Keys.{key_of}
 use Rattle.nodes.specs.Nodes.{has_key}
 use Rattle.numbering.proofs.search.find_from.Given as goal
 
-abbrev pub invariant-loop-i : goal.invariant-loop-i
-invariant-loop-i g l =
+abbrev pub invariant-loop-start : goal.invariant-loop-start
+invariant-loop-start g l =
     let k = l.fn.key in
     let p : ℕ → Bool = λ i. has_key (key_of k.x) (key_of k.y) (g.P.Places.at l.places i) in
-    (l.i ≤ l.count) × (first p (l.count - l.i) l.i ≡ first p (l.count - l.from) l.from)
-
-abbrev pub decreases-loop-i : goal.decreases-loop-i
-decreases-loop-i g l = l.count - l.i
+    (l.start ≤ l.count) × (first p (l.count - l.start) l.start ≡ first p (l.count - l.from) l.from)

@@ -67,9 +67,7 @@ split_polygon_at-requires c =
     let n = ap (λ (l : List GridPoint). length l) e ∙ length_tab _ (length v.result.now) in
     let f = e ∙ from_first c.args.ring.now v.result.now (length v.result.now) in (
       v.ensures.size.1,
-      v.ensures.size.2,
       omega (arith, n, c.worst-worst.ensures.2),
-      c.requires.2,
       c.worst-worst.ensures.1 ∙ ap (λ (l : List GridPoint). measure_at l c.worst-worst.result.at) f,
     )
 
@@ -92,15 +90,13 @@ pub first_part-first-requires : goal.first_part-first-requires
 first_part-first-requires c =
     let g = (goal.at.first_part-first-requires c).After-split_polygon_at in
     let r = range g c.in-Some.k c.in-Some.is in
-    let v = c.part-vs.ensures in
-    (v.size.2, worst-low g, r.0, r.1, c.requires.2)
+    (worst-low g, r.0, r.1)
 
 pub second_part-second-requires : goal.second_part-second-requires
 second_part-second-requires c =
     let g = (goal.at.second_part-second-requires c).After-split_polygon_at in
     let r = range g c.in-Some.k c.in-Some.is in
-    let v = c.part-vs.ensures in
-    (v.size.2, worst-low g, r.0, r.1, c.requires.2)
+    (worst-low g, r.0, r.1)
 
 -- the two parts, pushed
 pub as_slice-requires-2 : goal.as_slice-requires-2

@@ -1,33 +1,50 @@
--- `put`: each mark in its way, any other byte as itself.
-use mathlib.Core.Path.{sym}
+-- `put`: each mark in its way, of the next number; any other byte as itself.
+use mathlib.Core.Path.{sym, ap, ◌∙◌}
 use native.Mathlib.Omega.{arith}
+use lib.ListN.{get_or}
+use Rattle.std.specs.Slice.Iter.{iter_rest}
+use Rattle.text.specs.Text.{decimal}
 use Rattle.text.proofs.Pages.{room_on, wrote_as}
+use Rattle.svg.specs.Form.{exact, plain}
 use Rattle.svg.proofs.Forms.{part-number, part-exact, part-plain, part-byte}
 use Rattle.svg.proofs.PlaceMarksMarks.put.Goals as goal
 
 pub decimal-requires : goal.decimal-requires
-decimal-requires c = room_on (sym (part-number c.args.b c.args.n c.in-35.is)) c.requires
+decimal-requires c =
+    let n = get_or (iter_rest c.args.numbers.now) 0 0 in
+    room_on (ap decimal c.next_number.ensures.next ∙ sym (part-number c.args.b n c.in-35.is)) c.requires
 
-pub returns-in-35 : goal.returns-in-35
-returns-in-35 c = wrote_as (sym (part-number c.args.b c.args.n c.in-35.is)) c.decimal.ensures
+pub returns-in-35-clause-written : goal.returns-in-35-clause-written
+returns-in-35-clause-written c =
+    let n = get_or (iter_rest c.args.numbers.now) 0 0 in
+    wrote_as (ap decimal c.next_number.ensures.next ∙ sym (part-number c.args.b n c.in-35.is)) c.decimal.ensures
 
 pub put_exact-requires : goal.put_exact-requires
-put_exact-requires c = room_on (sym (part-exact c.args.b c.args.n (λ h. omega (arith, h, c.in-64.is)) c.in-64.is)) c.requires
+put_exact-requires c =
+    let n = get_or (iter_rest c.args.numbers.now) 0 0 in
+    room_on (ap exact c.next_number-in-64.ensures.next ∙ sym (part-exact c.args.b n (λ h. omega (arith, h, c.in-64.is)) c.in-64.is)) c.requires
 
-pub returns-in-64 : goal.returns-in-64
-returns-in-64 c = wrote_as (sym (part-exact c.args.b c.args.n (λ h. omega (arith, h, c.in-64.is)) c.in-64.is)) c.put_exact.ensures
+pub returns-in-64-clause-written : goal.returns-in-64-clause-written
+returns-in-64-clause-written c =
+    let n = get_or (iter_rest c.args.numbers.now) 0 0 in
+    wrote_as (ap exact c.next_number-in-64.ensures.next ∙ sym (part-exact c.args.b n (λ h. omega (arith, h, c.in-64.is)) c.in-64.is)) c.put_exact.ensures
 
 pub put_plain-requires : goal.put_plain-requires
 put_plain-requires c =
-    room_on (sym (part-plain c.args.b c.args.n (λ h. omega (arith, h, c.in-126.is)) (λ h. omega (arith, h, c.in-126.is)) c.in-126.is)) c.requires
+    let n = get_or (iter_rest c.args.numbers.now) 0 0 in
+    room_on (ap plain c.next_number-in-126.ensures.next ∙ sym (part-plain c.args.b n (λ h. omega (arith, h, c.in-126.is)) (λ h. omega (arith, h, c.in-126.is)) c.in-126.is)) c.requires
 
-pub returns-in-126 : goal.returns-in-126
-returns-in-126 c =
-    wrote_as (sym (part-plain c.args.b c.args.n (λ h. omega (arith, h, c.in-126.is)) (λ h. omega (arith, h, c.in-126.is)) c.in-126.is))
-    c.put_plain.ensures
+pub returns-in-126-clause-written : goal.returns-in-126-clause-written
+returns-in-126-clause-written c =
+    let n = get_or (iter_rest c.args.numbers.now) 0 0 in
+    wrote_as (ap plain c.next_number-in-126.ensures.next ∙ sym (part-plain c.args.b n (λ h. omega (arith, h, c.in-126.is)) (λ h. omega (arith, h, c.in-126.is)) c.in-126.is)) c.put_plain.ensures
 
 pub byte-requires : goal.byte-requires
-byte-requires c = room_on (sym (part-byte c.args.b c.args.n (λ h. omega (arith, h)) (λ h. omega (arith, h)) (λ h. omega (arith, h)))) c.requires
+byte-requires c =
+    let n = get_or (iter_rest c.args.numbers.now) 0 0 in
+    room_on (sym (part-byte c.args.b n (λ h. omega (arith, h)) (λ h. omega (arith, h)) (λ h. omega (arith, h)))) c.requires
 
-pub returns-in_default : goal.returns-in_default
-returns-in_default c = wrote_as (sym (part-byte c.args.b c.args.n (λ h. omega (arith, h)) (λ h. omega (arith, h)) (λ h. omega (arith, h)))) c.byte.ensures
+pub returns-in_default-clause-written : goal.returns-in_default-clause-written
+returns-in_default-clause-written c =
+    let n = get_or (iter_rest c.args.numbers.now) 0 0 in
+    wrote_as (sym (part-byte c.args.b n (λ h. omega (arith, h)) (λ h. omega (arith, h)) (λ h. omega (arith, h)))) c.byte.ensures

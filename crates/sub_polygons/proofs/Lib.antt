@@ -1,0 +1,2 @@
+-- The places of a part after its corners.
+pub mod Blanks
