@@ -3,7 +3,7 @@
 //! A clock holds the call and nothing else: lists are copied and answers are freed outside it. The Rust's pool of listed nodes
 //! stands ready, as it does in the Rust.
 
-use crate::call::{divide, tested, NodeList, UNTOUCHED};
+use crate::call::{divide, tested, Asked, NodeList, UNTOUCHED};
 use crate::forms::CELL_PLACES;
 use crate::job::{Entry, Job};
 use std::hint::black_box;
@@ -30,7 +30,7 @@ pub fn rust(job: &Job, list: &mut NodeList) -> u64 {
 /// The Rust alone: a ring that would pass the tests, with none of them made.
 pub fn untested(job: &Job, list: &mut NodeList) -> u64 {
     let mut cells = [UNTOUCHED; CELL_PLACES];
-    timed(|| tested(&Entry::Examination, job, None, list, &mut cells, 0))
+    timed(|| tested(Asked::of(Entry::Examination, job), list, &mut cells, 0))
 }
 
 pub fn median(times: &mut [u64]) -> u64 {

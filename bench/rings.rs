@@ -1,6 +1,6 @@
 //! Rings on lists in use: an empty list, nodes far from the ring, and nodes of rings around it.
 
-use crate::call::{divide, NodeList, FARTHEST, UNTOUCHED};
+use crate::call::{divide, Asked, NodeList, FARTHEST, UNTOUCHED};
 use crate::clock::{both, count, mean, median, percent, rust, timed, untested, REPEATS};
 use crate::differs;
 use crate::forms::{CELL_PLACES, NODE_PLACES};
@@ -58,7 +58,8 @@ fn ours(job: &Job, list: &NodeList) -> u64 {
 
 fn agreed(job: &Job, list: &NodeList) {
     let (mut list, mut image) = (list.clone(), node_image(list, 0));
-    if let Err(text) = compared(&Entry::Examination, job, None, &mut list, &mut image, CELL_PLACES, 0, 0) {
+    let asked = Asked::of(Entry::Examination, job);
+    if let Err(text) = compared(asked, &mut list, &mut image, CELL_PLACES, 0, 0) {
         differs(job, &text)
     }
 }

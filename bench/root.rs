@@ -1,12 +1,11 @@
 // Runs the proved square root beside the processor's own: every answer compared, bit for bit, on patterns of each kind,
 // then both timed on the same numbers. Arguments: patterns in millions (default 24), seed.
+#[path = "../embed/ring_divide.rs"]
+mod ring_divide;
+
+use ring_divide::ring_root_bits;
 use std::hint::black_box;
 use std::time::Instant;
-
-#[link(name = "exports", kind = "static")]
-extern "C" {
-    fn ring_root_bits(b: u64) -> u64;
-}
 
 const NAN: u64 = 0x7ff8_0000_0000_0000;
 const INF: u64 = 0x7ff0_0000_0000_0000;
@@ -43,7 +42,7 @@ impl Tally {
         let own = black_box(f64::from_bits(b).sqrt().to_bits());
         let is_nan = own & !SIGN > INF;
         let expected = if is_nan { NAN } else { own };
-        let got = unsafe { ring_root_bits(b) };
+        let got = ring_root_bits(b);
         self.run += 1;
         self.nan += is_nan as u64;
         if got != expected {
@@ -118,7 +117,7 @@ fn time(name: &str, xs: &[f64]) {
         let start = Instant::now();
         for _ in 0..rounds {
             for &b in black_box(&bits[..]) {
-                black_box(unsafe { ring_root_bits(b) });
+                black_box(ring_root_bits(b));
             }
         }
         best[0] = best[0].min(start.elapsed().as_nanos() as f64 / calls);

@@ -5,29 +5,18 @@
 #[path = "../oracle/random.rs"]
 #[allow(dead_code)]
 mod random;
+#[path = "../embed/ring_divide.rs"]
+mod ring_divide;
 
 use random::Random;
+use ring_divide::{smallest_refused, Smallest};
 use std::collections::BTreeMap;
 use std::hint::black_box;
-
-#[repr(C)]
-#[allow(dead_code)]
-struct Smallest {
-    code: u64,
-    refusal: u64,
-    choice: u64,
-    points: u64,
-}
 
 #[repr(C)]
 struct Time {
     seconds: i64,
     nanoseconds: i64,
-}
-
-#[link(name = "exports", kind = "static")]
-extern "C" {
-    fn smallest_refused(ring: *const i32, ring_len: usize, chain: *const i32, chain_len: usize, size: u32) -> Smallest;
 }
 
 extern "C" {
@@ -49,8 +38,7 @@ fn now() -> i64 {
 }
 
 fn call(ring: &[[i32; 2]]) -> Smallest {
-    let (numbers, none) = (ring.concat(), [0; 1]);
-    unsafe { smallest_refused(numbers.as_ptr(), numbers.len(), none.as_ptr(), 0, 1) }
+    smallest_refused(&ring.concat(), &[], 1)
 }
 
 /// The least of five runs, in ns.
@@ -87,7 +75,9 @@ fn main() {
     for k in 0..rings {
         let ring = ring(&mut random);
         let s = call(&ring);
-        let time = timed(|| drop(black_box(call(&ring))));
+        let time = timed(|| {
+            black_box(call(&ring));
+        });
         times.entry((s.refusal, s.points)).or_default().push(time);
         if k % 100 == 0 {
             worst = every(&ring).max(worst);
@@ -107,6 +97,10 @@ fn every(ring: &[[i32; 2]]) -> i64 {
     let chosen = |choice: u32| -> Vec<[i32; 2]> { (0..POINTS).filter(|i| choice >> i & 1 == 1).map(|i| ring[i]).collect() };
     let choices: Vec<Vec<[i32; 2]>> = (0..1 << POINTS).filter(|c: &u32| c.count_ones() >= 3).map(chosen).collect();
     let divided: Vec<&Vec<[i32; 2]>> = choices.iter().filter(|c| call(c).code == 19).collect();
-    let time = timed(|| divided.iter().for_each(|c| drop(black_box(call(c)))));
+    let time = timed(|| {
+        for choice in &divided {
+            black_box(call(choice));
+        }
+    });
     time * choices.len() as i64 / divided.len().max(1) as i64
 }

@@ -8,42 +8,11 @@
 //! the clock. Ours comes as flat lists, as a caller lends them: the points and
 //! marks are made of them inside the clock.
 
-// Shared with the oracle, which uses all of these.
-#[allow(dead_code)]
-#[path = "../oracle/blocks.rs"]
-mod blocks;
-#[allow(dead_code)]
-#[path = "../oracle/call.rs"]
-mod call;
-#[allow(dead_code)]
-#[path = "../oracle/calls.rs"]
-mod calls;
+include!("../oracle/shared.rs");
+
 #[allow(dead_code)]
 mod clock;
-#[allow(dead_code)]
-#[path = "../oracle/forms.rs"]
-mod forms;
-#[allow(dead_code)]
-#[path = "../oracle/job.rs"]
-mod job;
-#[allow(dead_code)]
-#[path = "notes.rs"]
 mod notes;
-#[allow(dead_code)]
-#[path = "../target/oracle/outline.rs"]
-mod outline;
-#[allow(dead_code)]
-#[path = "../oracle/paper.rs"]
-mod paper;
-#[allow(dead_code)]
-#[path = "../target/oracle/stage.rs"]
-mod stage;
-#[allow(dead_code)]
-#[path = "../oracle/standin.rs"]
-mod standin;
-#[allow(dead_code)]
-#[path = "../oracle/traced.rs"]
-mod traced;
 
 use blocks::Jobs;
 use call::{in_mm, in_units, NodeList};
@@ -133,8 +102,8 @@ fn sides(ring: &Poly) -> Times {
     }
 }
 
-/// Cuts times 65,536, and the places of the corners that are not left of the
-/// middle, and of those whose snap points are not, added up.
+/// Cuts times 65,536, and the places of the corners whose x is not below 0,
+/// and of those whose snap points' x is not, added up.
 fn seen(pieces: &[Poly]) -> u64 {
     let mut sum = (pieces.len() as u64 - 1) * 65_536;
     let corners = pieces.iter().flat_map(|p| p.points.iter().zip(&p.snap));

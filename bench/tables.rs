@@ -7,51 +7,24 @@
 //! Each answer is compared with the Rust's, outside the clock: every value, node bit, rim mark and cell place. A difference
 //! ends the program with 1.
 
-// Shared with the oracle, which uses all of these.
-#[allow(dead_code)]
-#[path = "../oracle/blocks.rs"]
-mod blocks;
-#[allow(dead_code)]
-#[path = "../oracle/call.rs"]
-mod call;
-#[allow(dead_code)]
-#[path = "../oracle/calls.rs"]
-mod calls;
+include!("../oracle/shared.rs");
+
 mod clock;
-#[allow(dead_code)]
 #[path = "../oracle/desk.rs"]
+#[allow(dead_code)]
 mod desk;
-#[allow(dead_code)]
 #[path = "../oracle/emit.rs"]
+#[allow(dead_code)]
 mod emit;
-#[allow(dead_code)]
-#[path = "../oracle/forms.rs"]
-mod forms;
-#[allow(dead_code)]
-#[path = "../oracle/job.rs"]
-mod job;
-#[allow(dead_code)]
 #[path = "../oracle/library.rs"]
+#[allow(dead_code)]
 mod library;
 mod notes;
-#[allow(dead_code)]
-#[path = "../target/oracle/outline.rs"]
-mod outline;
 mod panes;
-#[allow(dead_code)]
-#[path = "../oracle/paper.rs"]
-mod paper;
 mod refused;
+#[path = "../embed/ring_divide.rs"]
+mod ring_divide;
 mod rings;
-#[allow(dead_code)]
-#[path = "../target/oracle/stage.rs"]
-mod stage;
-#[allow(dead_code)]
-#[path = "../oracle/standin.rs"]
-mod standin;
-#[allow(dead_code)]
-#[path = "../oracle/traced.rs"]
-mod traced;
 mod windows;
 
 use job::Job;

@@ -5,8 +5,9 @@ use crate::clock::{count, grouped, median, micro, percent, timed, untested};
 use crate::differs;
 use crate::forms::{CELL_PLACES, NODE_PLACES};
 use crate::job::Job;
-use crate::library::{call, cell_image, node_image, Image, Returned};
+use crate::library::{call, cell_image, node_image};
 use crate::panes::{Between, Window};
+use crate::ring_divide::Row;
 use std::hint::black_box;
 use std::time::Instant;
 
@@ -17,16 +18,17 @@ const PARTS: usize = 6;
 struct Ring {
     job: Job,
     used: usize,
-    answer: Returned,
+    answer: Row,
     cells: Vec<Cell>,
 }
 
-/// What the calls of a ring took, run after run; the last on an empty list.
+/// What the calls of a ring took, run after run, and one pass over the used nodes right after it; the last on an empty list.
 #[derive(Clone, Default)]
 struct Times {
     rust: Vec<u64>,
     untested: Vec<u64>,
     ours: Vec<u64>,
+    pass: Vec<u64>,
     empty: Vec<u64>,
 }
 
@@ -36,16 +38,16 @@ struct Cost {
     rust: u64,
     untested: u64,
     ours: u64,
+    pass: u64,
     empty: u64,
 }
 
-/// A window that was divided, with one pass over the used nodes as they grew.
+/// A window that was divided.
 struct Divided {
     places: usize,
     points: String,
     used: usize,
     costs: Vec<Cost>,
-    passes: Vec<(usize, u64)>,
 }
 
 pub fn tables(places: &[usize]) {
@@ -87,20 +89,21 @@ fn milli(ns: u64) -> String {
 }
 
 fn growth(job: &Divided) {
-    for (part, (used, pass)) in job.passes.iter().enumerate() {
+    for part in 0..PARTS {
         let some = share(&job.costs, part);
+        let used = some.get(some.len() / 2).map_or(0, |c| c.used);
         let of = |f: fn(&Cost) -> u64| median(&mut some.iter().map(f).collect::<Vec<u64>>());
-        let empty = of(|c| c.empty);
+        let (pass, empty) = (of(|c| c.pass), of(|c| c.empty));
         println!(
             "| {} | {} | {} | {} | {} | {} | {} | {} | {} |",
             count(job.places),
             job.points,
-            count(*used),
+            count(used),
             micro(of(|c| c.rust)),
             micro(of(|c| c.untested)),
             micro(of(|c| c.ours)),
             micro(empty),
-            micro(*pass),
+            micro(pass),
             micro(empty + 2 * pass)
         );
     }
@@ -118,24 +121,16 @@ fn window(places: usize, between: Between) -> Divided {
         _ => 1,
     };
     let mut times = vec![Times::default(); rings.len()];
-    let mut image = node_image(&list, 0);
     for _ in 0..runs {
         timed_rust(&rings, places, &mut times);
-        image = timed_ours(&rings, &list, &mut times);
+        timed_ours(&rings, &list, &mut times);
         on_empty_lists(&rings, &mut times);
     }
-    let costs: Vec<Cost> = rings.iter().zip(&mut times).map(cost).collect();
-    let passes = (0..PARTS).map(|part| {
-        let some = share(&costs, part);
-        let used = some.get(some.len() / 2).map_or(0, |c| c.used);
-        (used, pass(&image.nodes.list()[..2 * used]))
-    });
     Divided {
         places,
         points: between.points(),
         used: list.used,
-        passes: passes.collect(),
-        costs,
+        costs: rings.iter().zip(&mut times).map(cost).collect(),
     }
 }
 
@@ -145,6 +140,7 @@ fn cost((ring, t): (&Ring, &mut Times)) -> Cost {
         rust: median(&mut t.rust),
         untested: median(&mut t.untested),
         ours: median(&mut t.ours),
+        pass: median(&mut t.pass),
         empty: median(&mut t.empty),
     }
 }
@@ -187,7 +183,9 @@ fn timed_rust(rings: &[Ring], places: usize, times: &mut [Times]) {
 }
 
 /// The whole job anew by the library: each row, new node and cell place compared, and at the end the whole list with its marks.
-fn timed_ours(rings: &[Ring], list: &NodeList, times: &mut [Times]) -> Image {
+/// After each call one pass over the nodes that it found in use is timed, so that both find the list as the other has left it,
+/// and the processor at the same pace.
+fn timed_ours(rings: &[Ring], list: &NodeList, times: &mut [Times]) {
     let mut image = node_image(&NodeList::empty(list.places), 0);
     for (ring, times) in rings.iter().zip(times) {
         let mut cells = cell_image(CELL_PLACES, 0);
@@ -195,6 +193,7 @@ fn timed_ours(rings: &[Ring], list: &NodeList, times: &mut [Times]) -> Image {
         let start = Instant::now();
         let returned = black_box(call(&ring.job, image.lent(ring.used, &mut cells, 0)));
         times.ours.push(start.elapsed().as_nanos() as u64);
+        times.pass.push(pass(&image.nodes.list()[..2 * ring.used]));
         expected.list()[..4 * ring.cells.len()].copy_from_slice(&ring.cells.concat());
         if returned != ring.answer {
             differs(
@@ -218,7 +217,6 @@ fn timed_ours(rings: &[Ring], list: &NodeList, times: &mut [Times]) -> Image {
             differs(&last.job, "a mark")
         }
     }
-    image
 }
 
 /// Each ring by the library on a list of its own.
@@ -242,11 +240,7 @@ fn same_nodes(ring: &Ring, list: &NodeList, ours: &[f64], places: std::ops::Rang
 
 /// One pass over the used nodes: how many are in a box.
 fn pass(nodes: &[f64]) -> u64 {
-    let one = || {
-        let (lo, hi) = (black_box(-3.0), black_box(3.0));
-        let inside =
-            |p: &[f64]| u64::from((lo <= p[0]) & (p[0] <= hi) & (lo <= p[1]) & (p[1] <= hi));
-        timed(|| black_box(nodes).chunks_exact(2).map(inside).sum::<u64>())
-    };
-    median(&mut (0..31).map(|_| one()).collect::<Vec<u64>>())
+    let (lo, hi) = (black_box(-3.0), black_box(3.0));
+    let inside = |p: &[f64]| u64::from((lo <= p[0]) & (p[0] <= hi) & (lo <= p[1]) & (p[1] <= hi));
+    timed(|| black_box(nodes).chunks_exact(2).map(inside).sum::<u64>())
 }

@@ -4,98 +4,9 @@
 //! record of wheel wear has of all these rings. At the end it finds the fault of a ring in which two points stand in the
 //! wrong order.
 
-/// A row of the table, as in ring_divide.h.
-#[repr(C)]
-#[allow(dead_code)]
-struct Row {
-    code: u64,
-    corners: u64,
-    k: u64,
-    marked: u64,
-    cuts: u64,
-    pieces: u64,
-    turned: u64,
-    area: u64,
-    nodes: u64,
-    cells: u64,
-}
+mod ring_divide;
 
-/// The record of wear's answer.
-#[repr(C)]
-#[allow(dead_code)]
-struct Wear {
-    code: u64,
-    total: u64,
-    highest: u64,
-    rings: u64,
-}
-
-/// The smallest choice of a ring's points that is still refused.
-#[repr(C)]
-struct Smallest {
-    code: u64,
-    refusal: u64,
-    choice: u64,
-    points: u64,
-}
-
-extern "C" {
-    fn ring_divide(
-        ring: *const i32,
-        ring_len: usize,
-        chain: *const i32,
-        chain_len: usize,
-        size: u32,
-        nodes: *mut f64,
-        nodes_len: usize,
-        node_count: usize,
-        rims: *mut u8,
-        rims_len: usize,
-        cells: *mut u32,
-        cells_len: usize,
-        cell_count: usize,
-    ) -> Row;
-
-    fn ring_divide_marked(
-        ring: *const i32,
-        ring_len: usize,
-        kinds: *const u8,
-        kinds_len: usize,
-        snaps: *const f64,
-        snaps_len: usize,
-        outline: *const i32,
-        outline_len: usize,
-        loops: *const u32,
-        loops_len: usize,
-        size: u32,
-        nodes: *mut f64,
-        nodes_len: usize,
-        node_count: usize,
-        rims: *mut u8,
-        rims_len: usize,
-        cells: *mut u32,
-        cells_len: usize,
-        cell_count: usize,
-    ) -> Row;
-
-    fn node_sheet(
-        nodes: *const f64,
-        nodes_len: usize,
-        node_count: usize,
-        out: *mut u8,
-        out_len: usize,
-    ) -> u64;
-
-    fn smallest_refused(
-        ring: *const i32,
-        ring_len: usize,
-        chain: *const i32,
-        chain_len: usize,
-        size: u32,
-    ) -> Smallest;
-
-    fn wear_add(record: *mut u8, record_len: usize, code: u64, cuts: u64) -> Wear;
-}
+use ring_divide::{node_sheet, ring_divide, ring_divide_marked, smallest_refused, wear_add, Row, Wear};
 
 /// The marks of a ring's edges: straight, snapped to the point beside it, or to the outline.
 struct Marking<'a> {
@@ -124,30 +35,13 @@ impl Lists {
     }
 
     fn add(&mut self, code: u64, cuts: u64) -> Wear {
-        unsafe { wear_add(self.wear.as_mut_ptr(), self.wear.len(), code, cuts) }
+        wear_add(&mut self.wear, code, cuts)
     }
 }
 
-/// A safe call: the library tests all that it is handed.
 fn divide(ring: &[i32], chain: &[i32], size: u32, lists: &mut Lists) -> Row {
     let (nodes, rims, cells) = (&mut lists.nodes, &mut lists.rims, &mut lists.cells);
-    let row = unsafe {
-        ring_divide(
-            ring.as_ptr(),
-            ring.len(),
-            chain.as_ptr(),
-            chain.len(),
-            size,
-            nodes.as_mut_ptr(),
-            nodes.len(),
-            lists.node_count,
-            rims.as_mut_ptr(),
-            rims.len(),
-            cells.as_mut_ptr(),
-            cells.len(),
-            lists.cell_count,
-        )
-    };
+    let row = ring_divide(ring, chain, size, nodes, lists.node_count, rims, cells, lists.cell_count);
     lists.carry(&row);
     row
 }
@@ -155,29 +49,9 @@ fn divide(ring: &[i32], chain: &[i32], size: u32, lists: &mut Lists) -> Row {
 /// The same with given marks.
 fn divide_marked(ring: &[i32], marks: &Marking, size: u32, lists: &mut Lists) -> Row {
     let (nodes, rims, cells) = (&mut lists.nodes, &mut lists.rims, &mut lists.cells);
-    let row = unsafe {
-        ring_divide_marked(
-            ring.as_ptr(),
-            ring.len(),
-            marks.kinds.as_ptr(),
-            marks.kinds.len(),
-            marks.snaps.as_ptr(),
-            marks.snaps.len(),
-            marks.outline.as_ptr(),
-            marks.outline.len(),
-            marks.loops.as_ptr(),
-            marks.loops.len(),
-            size,
-            nodes.as_mut_ptr(),
-            nodes.len(),
-            lists.node_count,
-            rims.as_mut_ptr(),
-            rims.len(),
-            cells.as_mut_ptr(),
-            cells.len(),
-            lists.cell_count,
-        )
-    };
+    let (used, laid) = (lists.node_count, lists.cell_count);
+    let Marking { kinds, snaps, outline, loops } = marks;
+    let row = ring_divide_marked(ring, kinds, snaps, outline, loops, size, nodes, used, rims, cells, laid);
     lists.carry(&row);
     row
 }
@@ -193,25 +67,10 @@ fn print(row: &Row, lists: &Lists, first: usize) {
     }
 }
 
-/// The same, safe: a slice comes with its own length.
-fn smallest(ring: &[i32], chain: &[i32], size: u32) -> Smallest {
-    unsafe { smallest_refused(ring.as_ptr(), ring.len(), chain.as_ptr(), chain.len(), size) }
-}
-
 /// The cell sheet, 65 bytes a node; none where it is refused.
 fn sheet(lists: &Lists) -> String {
     let mut out = vec![0; 65 * lists.node_count];
-    let (nodes, bytes) = (&lists.nodes, out.as_mut_ptr());
-    let code = unsafe {
-        node_sheet(
-            nodes.as_ptr(),
-            nodes.len(),
-            lists.node_count,
-            bytes,
-            out.len(),
-        )
-    };
-    if code == 0 {
+    if node_sheet(&lists.nodes, lists.node_count, &mut out) == 0 {
         String::from_utf8(out).expect("a sheet is text")
     } else {
         String::new()
@@ -258,7 +117,7 @@ fn main() {
     println!("wear total {} highest {} rings {}", w.total, w.highest, w.rings);
 
     let rosette = [4, 0, 8, 0, 11, 2, 12, 5, 8, 12, 11, 9, 4, 12, 1, 9, 0, 5, 1, 2].map(|x| x * MM);
-    let s = smallest(&rosette, &[], 1);
+    let s = smallest_refused(&rosette, &[], 1);
     println!(
         "smallest code {} refusal {} choice {} points {}",
         s.code, s.refusal, s.choice, s.points

@@ -1,4 +1,5 @@
-/* The ring divider as a static library: libexports.a, made by `embed/library exports`.
+/* The ring divider as a static library: libexports.a, made by `embed/library exports`. ring_divide.rs beside this has its functions
+ * for Rust.
  *
  * Every call is answered, whatever it is handed. Nothing is allocated, and nothing is written but the lists that a call is
  * lent. Lengths count numbers; the lists of a call may not overlap, and one of length 0 may be any aligned pointer that is not
@@ -46,7 +47,7 @@
  * before 3, all as found. With the set on delivery (RING_SET_ and the name) they answer as ring_divide and ring_divide_marked do.
  *
  * ring_divide_practice divides for the practice paper: rings and chains of at most 24 points, else 16, which comes directly
- * after 1; at most 12 cuts, and the reserve of 12. All else is as with ring_divide.
+ * after 1; at most 12 cuts, and the reserve for 12. All else is as with ring_divide.
  *
  * smallest_refused takes a ring of at most 12 points that ring_divide refuses on an empty node list with 5, 6, 7 or 8, and finds
  * the smallest choice of its points, in ring order and at least 3, that gets the same number there with the same chain and sheet

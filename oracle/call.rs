@@ -1,6 +1,6 @@
 //! A divider call: the tests that the scope adds, around the extracted Rust.
 
-use crate::job::{Entry, Given, Job, Marking, Set, POINTS};
+use crate::job::{Call, Entry, Given, Job, Marking, Set, POINTS};
 use crate::notes;
 use crate::stage::{self, Builder, Poly};
 use crate::standin;
@@ -31,6 +31,32 @@ pub struct NodeList {
     pub places: usize,
     pub used: usize,
     pub rims: Vec<u8>,
+}
+
+/// What is divided, and by which entry: with given marks, in place of the job's
+/// chain, where there are some.
+#[derive(Clone, Copy)]
+pub struct Asked<'a> {
+    pub entry: Entry,
+    pub job: &'a Job,
+    pub marking: Option<&'a Marking>,
+}
+
+impl<'a> Asked<'a> {
+    /// A job by its chain.
+    pub fn of(entry: Entry, job: &'a Job) -> Self {
+        let marking = None;
+        Asked { entry, job, marking }
+    }
+
+    /// A call of a list of calls.
+    pub fn by(call: &'a Call) -> Self {
+        Asked {
+            entry: call.entry,
+            job: &call.job,
+            marking: call.marking.as_ref(),
+        }
+    }
 }
 
 /// All that a call returns. `n` is zero unless the ring is accepted; `corners`
@@ -117,26 +143,23 @@ pub fn divide(
     cells: &mut [Cell],
     cell_count: usize,
 ) -> (Answer, Vec<Poly>) {
-    divide_with(&Entry::Examination, job, None, list, cells, cell_count)
+    divide_with(Asked::of(Entry::Examination, job), list, cells, cell_count)
 }
 
-/// The same of any entry, with given marks, in place of the job's chain, where
-/// there are some.
+/// The same of any entry.
 pub fn divide_with(
-    entry: &Entry,
-    job: &Job,
-    marking: Option<&Marking>,
+    asked: Asked,
     list: &mut NodeList,
     cells: &mut [Cell],
     cell_count: usize,
 ) -> (Answer, Vec<Poly>) {
-    let code = first_tests(entry, job, marking, list, cells.len(), cell_count);
+    let code = first_tests(asked, list, cells.len(), cell_count);
     if code != 0 {
         notes::take();
         let kept = kept(list, cell_count);
         return (Answer { code, ..kept }, Vec::new());
     }
-    tested(entry, job, marking, list, cells, cell_count)
+    tested(asked, list, cells, cell_count)
 }
 
 /// The answer of a call that leaves all as found.
@@ -150,15 +173,14 @@ fn kept(list: &NodeList, cell_count: usize) -> Answer {
 
 /// The same of a call that passed the tests of its entry.
 pub fn tested(
-    entry: &Entry,
-    job: &Job,
-    marking: Option<&Marking>,
+    asked: Asked,
     list: &mut NodeList,
     cells: &mut [Cell],
     cell_count: usize,
 ) -> (Answer, Vec<Poly>) {
+    let job = asked.job;
     notes::take();
-    let set = entry.set();
+    let set = asked.entry.set();
     standin::limited(set);
     let kept = kept(list, cell_count);
     let refused = |code| (Answer { code, ..kept }, Vec::new());
@@ -171,7 +193,7 @@ pub fn tested(
     if area <= 0 {
         return refused(7);
     }
-    let ring = match marking {
+    let ring = match asked.marking {
         Some(marking) => traced::marked(&job.ring, job.size, points, marking),
         None => {
             let (simplified, run_mids) = stage::simplify_chain(&in_mm(&job.chain));
@@ -277,19 +299,13 @@ fn set_out(set: &Set) -> bool {
 
 /// Refusals 1 to 4, for practice also 16 after 1, with given marks 13 and 14
 /// after 2, and then 15, or 0.
-fn first_tests(
-    entry: &Entry,
-    job: &Job,
-    marking: Option<&Marking>,
-    list: &NodeList,
-    cell_places: usize,
-    cell_count: usize,
-) -> u8 {
+fn first_tests(asked: Asked, list: &NodeList, cell_places: usize, cell_count: usize) -> u8 {
+    let Asked { entry, job, marking } = asked;
     let r = job.ring.len();
     if !(3..=POINTS).contains(&r) || job.chain.len() > POINTS {
         return 1;
     }
-    if *entry == Entry::Practice && r.max(job.chain.len()) > PRACTICE_POINTS {
+    if entry == Entry::Practice && r.max(job.chain.len()) > PRACTICE_POINTS {
         return 16;
     }
     let mut coordinates = job.ring.iter().chain(&job.chain).flatten();

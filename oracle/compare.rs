@@ -17,19 +17,12 @@
 //!
 //! compare before COMMAND    the same before Card 11, whose test the Rust leaves out
 
-// Shared with the oracle, which uses all of these.
-#[allow(dead_code)]
-mod blocks;
-#[allow(dead_code)]
-mod call;
-mod calls;
+include!("shared.rs");
+
 #[allow(dead_code)]
 mod desk;
 #[allow(dead_code)]
 mod emit;
-#[allow(dead_code)]
-mod forms;
-mod job;
 mod least;
 mod library;
 #[allow(dead_code)]
@@ -37,30 +30,20 @@ mod meeting;
 mod memory;
 #[allow(dead_code)]
 mod notes;
-#[path = "../target/oracle/outline.rs"]
-#[allow(dead_code)]
-mod outline;
-#[allow(dead_code)]
-mod paper;
 #[allow(dead_code)]
 mod random;
+#[path = "../embed/ring_divide.rs"]
+mod ring_divide;
 mod sides;
 mod smallest;
-#[path = "../target/oracle/stage.rs"]
-#[allow(dead_code)]
-mod stage;
-#[allow(dead_code)]
-mod standin;
 #[allow(dead_code)]
 mod supplied;
-#[allow(dead_code)]
-mod traced;
 #[allow(dead_code)]
 mod wear;
 mod worn;
 
 use blocks::Jobs;
-use call::NodeList;
+use call::{Asked, NodeList};
 use forms::{CELL_PLACES, NODE_PLACES};
 use job::{Entry, Job, Set};
 use library::{compared, listed, node_image, refused, written};
@@ -142,20 +125,20 @@ fn over_blocks(bytes: &[u8]) -> ! {
     let mut list = NodeList::empty(NODE_PLACES);
     let mut image = node_image(&list, 0);
     for (number, job) in Jobs::new(bytes).flatten().enumerate() {
-        let (mut fresh, odd) = (NodeList::empty(NODE_PLACES), number % 4);
-        let mut fresh_image = node_image(&fresh, odd % 2);
-        let own = Entry::Examination;
-        let alone = compared(&own, &job, None, &mut fresh, &mut fresh_image, CELL_PLACES, 0, odd);
-        tally.add(&format!("ring {number} alone"), &job, alone);
-        let (mut fresh, set) = (NodeList::empty(NODE_PLACES), Entry::Limited(Set::DELIVERED));
-        let mut fresh_image = node_image(&fresh, 0);
-        let handed = compared(&set, &job, None, &mut fresh, &mut fresh_image, CELL_PLACES, 0, odd);
-        tally.add(&format!("ring {number} with the set"), &job, handed);
-        let (mut fresh, paper) = (NodeList::empty(NODE_PLACES), Entry::Practice);
-        let mut fresh_image = node_image(&fresh, 0);
-        let practised = compared(&paper, &job, None, &mut fresh, &mut fresh_image, CELL_PLACES, 0, odd);
-        tally.add(&format!("ring {number} for practice"), &job, practised);
-        let shared = compared(&own, &job, None, &mut list, &mut image, CELL_PLACES, 0, 0);
+        let odd = number % 4;
+        for (entry, how) in [
+            (Entry::Examination, "alone"),
+            (Entry::Limited(Set::DELIVERED), "with the set"),
+            (Entry::Practice, "for practice"),
+        ] {
+            let mut fresh = NodeList::empty(NODE_PLACES);
+            let mut fresh_image = node_image(&fresh, odd % 2);
+            let asked = Asked::of(entry, &job);
+            let result = compared(asked, &mut fresh, &mut fresh_image, CELL_PLACES, 0, odd);
+            tally.add(&format!("ring {number} {how}"), &job, result);
+        }
+        let own = Asked::of(Entry::Examination, &job);
+        let shared = compared(own, &mut list, &mut image, CELL_PLACES, 0, 0);
         tally.add(&format!("ring {number} on one list"), &job, shared);
         if number % 64 == 0 {
             wrong_lengths(&mut tally, number, &job);
@@ -197,9 +180,9 @@ fn over_calls(text: &str) -> ! {
         let mut image = node_image(&list, list_number % 2);
         for call in &given.calls {
             let (places, count, odd) = (call.cell_places, call.cell_count, list_number % 4);
-            let marking = call.marking.as_ref();
-            let (entry, job) = (&call.entry, &call.job);
-            let result = compared(entry, job, marking, &mut list, &mut image, places, count, odd);
+            let asked = Asked::by(call);
+            let Asked { entry, job, marking } = asked;
+            let result = compared(asked, &mut list, &mut image, places, count, odd);
             if let (Some(marking), Ok(0 | 8)) = (marking, result.as_ref().map(|r| r.code)) {
                 met.add(&job.ring, marking);
             }

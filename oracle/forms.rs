@@ -2,8 +2,8 @@
 //! and of calls over prefilled lists.
 
 use crate::blocks::Jobs;
-use crate::call::{divide_with, doubled, Answer, Cell, NodeList, UNTOUCHED};
-use crate::job::{Entry, Job, Marking};
+use crate::call::{divide_with, doubled, Answer, Asked, Cell, NodeList, UNTOUCHED};
+use crate::job::{Entry, Job};
 use crate::paper;
 use crate::stage::{polygon_area, Poly};
 use crate::standin;
@@ -26,22 +26,14 @@ pub struct Run {
 
 /// Runs a call over the node list and an untouched cell list.
 pub fn run(job: &Job, list: &mut NodeList, cell_places: usize, cell_count: usize) -> Run {
-    run_with(&Entry::Examination, job, None, list, cell_places, cell_count)
+    run_with(Asked::of(Entry::Examination, job), list, cell_places, cell_count)
 }
 
-/// The same of any entry, with given marks, in place of the job's chain, where
-/// there are some.
-pub fn run_with(
-    entry: &Entry,
-    job: &Job,
-    marking: Option<&Marking>,
-    list: &mut NodeList,
-    cell_places: usize,
-    cell_count: usize,
-) -> Run {
+/// The same of any entry.
+pub fn run_with(asked: Asked, list: &mut NodeList, cell_places: usize, cell_count: usize) -> Run {
     let mut cells = vec![UNTOUCHED; cell_places];
     let nodes_before = list.used;
-    let (answer, pieces) = divide_with(entry, job, marking, list, &mut cells, cell_count);
+    let (answer, pieces) = divide_with(asked, list, &mut cells, cell_count);
     Run {
         answer,
         pieces,
@@ -202,9 +194,7 @@ pub fn called(text: &str) -> String {
         out.push_str("list\n");
         let mut list = NodeList::given(&given);
         for call in &given.calls {
-            let marking = call.marking.as_ref();
-            let (cells, count) = (call.cell_places, call.cell_count);
-            let run = run_with(&call.entry, &call.job, marking, &mut list, cells, count);
+            let run = run_with(Asked::by(call), &mut list, call.cell_places, call.cell_count);
             detail(&mut out, number, &run, &list);
             if matches!(run.answer.code, 0 | 8) {
                 line(&mut out, format_args!("places {}", places(&run.cells)));

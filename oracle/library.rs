@@ -2,154 +2,16 @@
 //! a call of the exported writer, compared with our own writing of blocks; and
 //! one of the exported sheet, compared with an exact decimal printer.
 
-use crate::call::{Answer, Cell, NodeList, NodeNumber, UNTOUCHED};
+use crate::call::{Answer, Asked, Cell, NodeList, NodeNumber, UNTOUCHED};
 use crate::desk::answer;
 use crate::forms::run_with;
 use crate::job::{Entry, Job, Marking};
 use crate::paper;
+use crate::ring_divide::{self as exported, Row};
 
-/// What `ring_divide` answers; `corners` is n, or with 8 the piece's.
-#[repr(C)]
-#[derive(Clone, Copy, PartialEq, Debug)]
-pub struct Returned {
-    pub code: u64,
-    pub corners: u64,
-    pub k: u64,
-    pub marked: u64,
-    pub cuts: u64,
-    pub pieces: u64,
-    pub turned: u64,
-    pub area: u64,
-    pub nodes: u64,
-    pub cells: u64,
-}
-
-extern "C" {
-    fn ring_divide(
-        ring: *const i32,
-        ring_len: usize,
-        chain: *const i32,
-        chain_len: usize,
-        size: u32,
-        nodes: *mut f64,
-        nodes_len: usize,
-        node_count: usize,
-        rims: *mut u8,
-        rims_len: usize,
-        cells: *mut NodeNumber,
-        cells_len: usize,
-        cell_count: usize,
-    ) -> Returned;
-
-    fn ring_divide_marked(
-        ring: *const i32,
-        ring_len: usize,
-        kinds: *const u8,
-        kinds_len: usize,
-        snaps: *const f64,
-        snaps_len: usize,
-        outline: *const i32,
-        outline_len: usize,
-        loops: *const u32,
-        loops_len: usize,
-        size: u32,
-        nodes: *mut f64,
-        nodes_len: usize,
-        node_count: usize,
-        rims: *mut u8,
-        rims_len: usize,
-        cells: *mut NodeNumber,
-        cells_len: usize,
-        cell_count: usize,
-    ) -> Returned;
-
-    fn ring_divide_set(
-        corner: f64,
-        least: f64,
-        greatest: f64,
-        cuts: u32,
-        share: f64,
-        ring: *const i32,
-        ring_len: usize,
-        chain: *const i32,
-        chain_len: usize,
-        size: u32,
-        nodes: *mut f64,
-        nodes_len: usize,
-        node_count: usize,
-        rims: *mut u8,
-        rims_len: usize,
-        cells: *mut NodeNumber,
-        cells_len: usize,
-        cell_count: usize,
-    ) -> Returned;
-
-    fn ring_divide_practice(
-        ring: *const i32,
-        ring_len: usize,
-        chain: *const i32,
-        chain_len: usize,
-        size: u32,
-        nodes: *mut f64,
-        nodes_len: usize,
-        node_count: usize,
-        rims: *mut u8,
-        rims_len: usize,
-        cells: *mut NodeNumber,
-        cells_len: usize,
-        cell_count: usize,
-    ) -> Returned;
-
-    fn ring_divide_marked_set(
-        corner: f64,
-        least: f64,
-        greatest: f64,
-        cuts: u32,
-        share: f64,
-        ring: *const i32,
-        ring_len: usize,
-        kinds: *const u8,
-        kinds_len: usize,
-        snaps: *const f64,
-        snaps_len: usize,
-        outline: *const i32,
-        outline_len: usize,
-        loops: *const u32,
-        loops_len: usize,
-        size: u32,
-        nodes: *mut f64,
-        nodes_len: usize,
-        node_count: usize,
-        rims: *mut u8,
-        rims_len: usize,
-        cells: *mut NodeNumber,
-        cells_len: usize,
-        cell_count: usize,
-    ) -> Returned;
-
-    fn blocks_write(
-        ring: *const i32,
-        ring_len: usize,
-        chain: *const i32,
-        chain_len: usize,
-        size: u32,
-        number: u32,
-        out: *mut u8,
-        out_len: usize,
-    ) -> u64;
-
-    fn node_sheet(
-        nodes: *const f64,
-        nodes_len: usize,
-        node_count: u64,
-        out: *mut u8,
-        out_len: usize,
-    ) -> u64;
-}
-
-impl From<&Answer> for Returned {
+impl From<&Answer> for Row {
     fn from(a: &Answer) -> Self {
-        Returned {
+        Row {
             code: u64::from(a.code),
             corners: a.n.max(a.corners) as u64,
             k: a.k as u64,
@@ -258,31 +120,25 @@ pub struct Lists<'a> {
 }
 
 impl<'a> Handed<'a> {
-    pub fn new(entry: &Entry, job: &'a Job, marking: Option<&'a Marking>) -> Self {
+    pub fn new(asked: Asked<'a>) -> Self {
+        let job = asked.job;
         Handed {
-            entry: *entry,
+            entry: asked.entry,
             ring: job.ring.as_flattened(),
             chain: job.chain.as_flattened(),
-            marking,
+            marking: asked.marking,
             size: job.size,
         }
     }
 }
 
 /// Calls the library's examination entry.
-pub fn call(job: &Job, lists: Lists) -> Returned {
-    called(&Handed::new(&Entry::Examination, job, None), lists)
+pub fn call(job: &Job, lists: Lists) -> Row {
+    called(&Handed::new(Asked::of(Entry::Examination, job)), lists)
 }
 
 /// Calls the library's entry.
-pub fn called(handed: &Handed, lists: Lists) -> Returned {
-    match handed.marking {
-        Some(marking) => with_marks(handed, marking, lists),
-        None => with_chain(handed, lists),
-    }
-}
-
-fn with_chain(handed: &Handed, lists: Lists) -> Returned {
+pub fn called(handed: &Handed, lists: Lists) -> Row {
     let (ring, chain, size) = (handed.ring, handed.chain, handed.size);
     let Lists {
         nodes,
@@ -291,124 +147,26 @@ fn with_chain(handed: &Handed, lists: Lists) -> Returned {
         cells,
         cell_count,
     } = lists;
-    // Each pointer comes with the length of its own list, which outlives the call.
-    unsafe {
-        match handed.entry {
-            Entry::Practice => ring_divide_practice(
-                ring.as_ptr(),
-                ring.len(),
-                chain.as_ptr(),
-                chain.len(),
-                size,
-                nodes.as_mut_ptr(),
-                nodes.len(),
-                node_count,
-                rims.as_mut_ptr(),
-                rims.len(),
-                cells.as_mut_ptr(),
-                cells.len(),
-                cell_count,
-            ),
-            Entry::Examination => ring_divide(
-                ring.as_ptr(),
-                ring.len(),
-                chain.as_ptr(),
-                chain.len(),
-                size,
-                nodes.as_mut_ptr(),
-                nodes.len(),
-                node_count,
-                rims.as_mut_ptr(),
-                rims.len(),
-                cells.as_mut_ptr(),
-                cells.len(),
-                cell_count,
-            ),
-            Entry::Limited(set) => ring_divide_set(
-                set.corner,
-                set.least,
-                set.greatest,
-                set.cuts,
-                set.share,
-                ring.as_ptr(),
-                ring.len(),
-                chain.as_ptr(),
-                chain.len(),
-                size,
-                nodes.as_mut_ptr(),
-                nodes.len(),
-                node_count,
-                rims.as_mut_ptr(),
-                rims.len(),
-                cells.as_mut_ptr(),
-                cells.len(),
-                cell_count,
-            ),
+    match (handed.entry, handed.marking) {
+        (Entry::Practice, Some(_)) => unreachable!("the practice paper has a chain"),
+        (Entry::Practice, None) => exported::ring_divide_practice(
+            ring, chain, size, nodes, node_count, rims, cells, cell_count,
+        ),
+        (Entry::Examination, None) => {
+            exported::ring_divide(ring, chain, size, nodes, node_count, rims, cells, cell_count)
         }
-    }
-}
-
-fn with_marks(handed: &Handed, m: &Marking, lists: Lists) -> Returned {
-    let (ring, size) = (handed.ring, handed.size);
-    let Lists {
-        nodes,
-        node_count,
-        rims,
-        cells,
-        cell_count,
-    } = lists;
-    // Each pointer comes with the length of its own list, which outlives the call.
-    unsafe {
-        match handed.entry {
-            Entry::Practice => unreachable!("the practice paper has a chain"),
-            Entry::Examination => ring_divide_marked(
-                ring.as_ptr(),
-                ring.len(),
-                m.kinds.as_ptr(),
-                m.kinds.len(),
-                m.snaps.as_ptr(),
-                m.snaps.len(),
-                m.outline.as_ptr(),
-                m.outline.len(),
-                m.loops.as_ptr(),
-                m.loops.len(),
-                size,
-                nodes.as_mut_ptr(),
-                nodes.len(),
-                node_count,
-                rims.as_mut_ptr(),
-                rims.len(),
-                cells.as_mut_ptr(),
-                cells.len(),
-                cell_count,
-            ),
-            Entry::Limited(set) => ring_divide_marked_set(
-                set.corner,
-                set.least,
-                set.greatest,
-                set.cuts,
-                set.share,
-                ring.as_ptr(),
-                ring.len(),
-                m.kinds.as_ptr(),
-                m.kinds.len(),
-                m.snaps.as_ptr(),
-                m.snaps.len(),
-                m.outline.as_ptr(),
-                m.outline.len(),
-                m.loops.as_ptr(),
-                m.loops.len(),
-                size,
-                nodes.as_mut_ptr(),
-                nodes.len(),
-                node_count,
-                rims.as_mut_ptr(),
-                rims.len(),
-                cells.as_mut_ptr(),
-                cells.len(),
-                cell_count,
-            ),
-        }
+        (Entry::Examination, Some(m)) => exported::ring_divide_marked(
+            ring, &m.kinds, &m.snaps, &m.outline, &m.loops, size, nodes, node_count, rims, cells,
+            cell_count,
+        ),
+        (Entry::Limited(s), None) => exported::ring_divide_set(
+            s.corner, s.least, s.greatest, s.cuts, s.share, ring, chain, size, nodes, node_count,
+            rims, cells, cell_count,
+        ),
+        (Entry::Limited(s), Some(m)) => exported::ring_divide_marked_set(
+            s.corner, s.least, s.greatest, s.cuts, s.share, ring, &m.kinds, &m.snaps, &m.outline,
+            &m.loops, size, nodes, node_count, rims, cells, cell_count,
+        ),
     }
 }
 
@@ -416,25 +174,23 @@ fn with_marks(handed: &Handed, m: &Marking, lists: Lists) -> Returned {
 /// place and guard. `odd` numbers more than its places stand at the end of the
 /// cell list.
 pub fn compared(
-    entry: &Entry,
-    job: &Job,
-    marking: Option<&Marking>,
+    asked: Asked,
     list: &mut NodeList,
     image: &mut Image,
     cell_places: usize,
     cell_count: usize,
     odd: usize,
-) -> Result<Returned, String> {
+) -> Result<Row, String> {
     let mut cells = cell_image(cell_places, odd);
     let mut expected_cells = cells.clone();
     let mut expected = image.clone();
-    let handed = Handed::new(entry, job, marking);
+    let handed = Handed::new(asked);
     let returned = called(&handed, image.lent(list.used, &mut cells, cell_count));
 
-    let run = run_with(entry, job, marking, list, cell_places, cell_count);
+    let run = run_with(asked, list, cell_places, cell_count);
     expected.holds(list);
     overlay(expected_cells.list(), &run.cells);
-    let answer = Returned::from(&run.answer);
+    let answer = Row::from(&run.answer);
     if returned != answer {
         return Err(format!("returned\n  {returned:?}, the Rust\n  {answer:?}"));
     }
@@ -497,7 +253,7 @@ pub fn refused(
     list.rims.truncate(marks);
     let (mut image, mut cells) = (node_image(&list, 1), cell_image(124, 3));
     let before = (image.clone(), cells.clone());
-    let whole = Handed::new(&Entry::Examination, job, None);
+    let whole = Handed::new(Asked::of(Entry::Examination, job));
     let handed = Handed {
         ring: &whole.ring[..lengths.0],
         chain: &whole.chain[..lengths.1],
@@ -509,9 +265,9 @@ pub fn refused(
         cells: counts.1,
         ..Answer::default()
     };
-    let answer = Returned {
+    let answer = Row {
         code,
-        ..Returned::from(&kept)
+        ..Row::from(&kept)
     };
     if returned != answer {
         return Err(format!("returned\n  {returned:?}, wanted\n  {answer:?}"));
@@ -519,9 +275,7 @@ pub fn refused(
     same_lists((&image, &cells), (&before.0, &before.1))
 }
 
-/// A call of the writer, twice, over a destination of `room` bytes and over one
-/// with every bit turned: its answer, each byte, and the guards. Answers the
-/// pair, or nothing where it is refused.
+/// A call of the writer: its answer, each byte, and the guards. Answers the pair, or nothing where it is refused.
 pub fn written(
     ring: &[i32],
     chain: &[i32],
@@ -530,51 +284,24 @@ pub fn written(
     room: usize,
 ) -> Result<Vec<u8>, String> {
     let (code, pair) = answer(ring, chain, size, number, room);
-    for turned in [0, 255] {
-        let filler = |place: usize| (place as u8).wrapping_mul(37).wrapping_add(91) ^ turned;
-        let mut out = Guarded::new(room, filler);
-        let mut expected = out.clone();
-        expected.list()[..pair.len()].copy_from_slice(&pair);
-        // Each pointer comes with the length of its own list, which outlives the call.
-        let returned = unsafe {
-            blocks_write(
-                ring.as_ptr(),
-                ring.len(),
-                chain.as_ptr(),
-                chain.len(),
-                size,
-                number,
-                out.list().as_mut_ptr(),
-                room,
-            )
-        };
-        if returned != u64::from(code) {
-            return Err(format!("answered {returned}, wanted {code}"));
-        }
-        same("byte", &out.numbers, &expected.numbers, u64::from)?;
-    }
+    filled(code, &pair, room, |out| exported::blocks_write(ring, chain, size, number, out))?;
     Ok(pair)
 }
 
-/// A call of the sheet, twice, over a destination of `room` bytes and over one
-/// with every bit turned: its answer, each byte, and the guards.
+/// A call of the sheet: its answer, each byte, and the guards.
 pub fn listed(nodes: &[f64], used: u64, room: usize) -> Result<(), String> {
     let (code, sheet) = paper::answer(nodes, used, room);
+    filled(code, &sheet, room, |out| exported::node_sheet(nodes, used as usize, out))
+}
+
+/// A call that fills a destination of `room` bytes, twice, the second time over one with every bit turned.
+fn filled(code: u32, bytes: &[u8], room: usize, call: impl Fn(&mut [u8]) -> u64) -> Result<(), String> {
     for turned in [0, 255] {
         let filler = |place: usize| (place as u8).wrapping_mul(37).wrapping_add(91) ^ turned;
         let mut out = Guarded::new(room, filler);
         let mut expected = out.clone();
-        expected.list()[..sheet.len()].copy_from_slice(&sheet);
-        // Each pointer comes with the length of its own list, which outlives the call.
-        let returned = unsafe {
-            node_sheet(
-                nodes.as_ptr(),
-                nodes.len(),
-                used,
-                out.list().as_mut_ptr(),
-                room,
-            )
-        };
+        expected.list()[..bytes.len()].copy_from_slice(bytes);
+        let returned = call(out.list());
         if returned != u64::from(code) {
             return Err(format!("answered {returned}, wanted {code}"));
         }

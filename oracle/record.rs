@@ -34,42 +34,23 @@
 //! 7 SIZE RING_NUMBERS CHAIN_NUMBERS, the coordinates, code refusal choice points
 //! 9, the eight coordinates of two segments, and 0 apart, 1 touching, 2 crossing
 
-#[allow(dead_code)]
-mod blocks;
-#[allow(dead_code)]
-mod call;
-mod calls;
+include!("shared.rs");
+
 mod desk;
 #[allow(dead_code)]
 mod emit;
-#[allow(dead_code)]
-mod forms;
-#[allow(dead_code)]
-mod job;
 mod meeting;
 #[allow(dead_code)]
 mod notes;
-#[path = "../target/oracle/outline.rs"]
-#[allow(dead_code)]
-mod outline;
-#[allow(dead_code)]
-mod paper;
 #[allow(dead_code)]
 mod random;
 #[allow(dead_code)]
 mod smallest;
-#[path = "../target/oracle/stage.rs"]
-#[allow(dead_code)]
-mod stage;
-#[allow(dead_code)]
-mod standin;
-#[allow(dead_code)]
-mod traced;
 #[allow(dead_code)]
 mod wear;
 
 use blocks::Jobs;
-use call::{Cell, NodeList, UNTOUCHED};
+use call::{Asked, Cell, NodeList, UNTOUCHED};
 use forms::{run, run_with, Run, CELL_PLACES, NODE_PLACES};
 use job::{Entry, Job, Marking, BLOCK};
 use std::io::{Read, Write};
@@ -305,11 +286,9 @@ fn lists(text: &str) -> Words {
         let mut list = NodeList::given(&given);
         words.list(&list);
         for call in &given.calls {
-            let marking = call.marking.as_ref();
-            let (places, count) = (call.cell_places, call.cell_count);
-            let ran = run_with(&call.entry, &call.job, marking, &mut list, places, count);
+            let ran = run_with(Asked::by(call), &mut list, call.cell_places, call.cell_count);
             words.entry(&call.entry);
-            match marking {
+            match &call.marking {
                 Some(marking) => words.marked(&call.job, marking, &ran, &list),
                 None => words.call(&call.job, &ran, &list),
             }

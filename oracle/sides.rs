@@ -5,7 +5,8 @@ use crate::calls;
 use crate::forms::{self, line, Run};
 use crate::job::Given;
 use crate::least;
-use crate::library::{called, Handed, Lists, Returned};
+use crate::library::{called, Handed, Lists};
+use crate::ring_divide::Row;
 use crate::supplied::{self, Called, Lent};
 use std::path::Path;
 
@@ -132,7 +133,7 @@ fn lent(given: &Given) -> Lent {
 }
 
 /// The answer with its corners where the detailed form has them.
-fn answer(a: &Returned) -> Answer {
+fn answer(a: &Row) -> Answer {
     let fails = a.code == 8;
     Answer {
         code: a.code as u8,

@@ -12,7 +12,7 @@
 //! A slice is written flat and may have any length. `#` begins a comment.
 
 use crate::blocks::Jobs;
-use crate::call::{Answer, Cell, NodeList, NO_MARK, UNTOUCHED};
+use crate::call::{Answer, Asked, Cell, NodeList, NO_MARK, UNTOUCHED};
 use crate::calls::{double, number, set};
 use crate::forms::{self, answer_line, line, run_with, Run, CELL_PLACES, NODE_PLACES};
 use crate::job::{Entry, Job, Marking};
@@ -176,15 +176,13 @@ impl Lent {
         let Some(job) = call.job() else {
             return refused(1, self.used, places, call.cell_count);
         };
-        let (mut list, marking) = (self.list(), call.marking.as_ref());
-        let run = run_with(
-            &call.entry,
-            &job,
-            marking,
-            &mut list,
-            places,
-            call.cell_count,
-        );
+        let mut list = self.list();
+        let asked = Asked {
+            entry: call.entry,
+            job: &job,
+            marking: call.marking.as_ref(),
+        };
+        let run = run_with(asked, &mut list, places, call.cell_count);
         for (place, node) in list.nodes.points.iter().enumerate() {
             self.node(place, *node);
         }

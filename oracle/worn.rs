@@ -3,30 +3,17 @@
 //! empty record, compared with the last 32 of a plain list.
 
 use crate::random::Random;
+use crate::ring_divide::wear_add;
 use crate::wear;
 
 const GUARD: usize = 64;
-
-/// What `wear_add` answers.
-#[repr(C)]
-struct Wear {
-    code: u64,
-    total: u64,
-    highest: u64,
-    rings: u64,
-}
-
-extern "C" {
-    fn wear_add(record: *mut u8, record_len: usize, code: u64, cuts: u64) -> Wear;
-}
 
 /// The answer and the record afterwards; an error where a byte around it changed.
 fn added(record: &[u8], code: u64, cuts: u64) -> Result<([u64; 4], Vec<u8>), String> {
     let guard: Vec<u8> = (0..GUARD).map(|k| k as u8 ^ 165).collect();
     let mut bytes = [guard.as_slice(), record, guard.as_slice()].concat();
     let end = GUARD + record.len();
-    // The pointer comes with the length of its own list, which outlives the call.
-    let w = unsafe { wear_add(bytes[GUARD..end].as_mut_ptr(), record.len(), code, cuts) };
+    let w = wear_add(&mut bytes[GUARD..end], code, cuts);
     if bytes[..GUARD] != guard || bytes[end..] != guard {
         return Err("a byte beside the record changed".into());
     }

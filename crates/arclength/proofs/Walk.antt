@@ -1,11 +1,11 @@
 -- A chain as the code reads it: one length more, the search for a length.
-use Prim.Native.Nat.{ℕ, zero, suc, ◌+◌, ◌-◌, ◌%◌, ◌≤◌, ◌<◌}
+use Prim.Native.Nat.{ℕ, suc, ◌+◌, ◌-◌, ◌%◌, ◌≤◌, ◌<◌}
 use native.Mathlib.Nat.{mod-eq_of_lt}
 use native.Mathlib.Numerals.{add-one}
 use native.Mathlib.Omega.{arith}
 use mathlib.Core.Path.{◌≡◌, refl, sym, ap, ◌∙◌}
 use mathlib.Core.Bool.{Bool, true, false, not, cond}
-use mathlib.Core.List.{List, ◌∷◌}
+use mathlib.Core.List.{List}
 use lib.ListN.{length, get_or, set, take, drop, replicate, length-drop}
 use lib.Seq.{length-take-le, get_or-take, get_or-drop, drop-set-lt}
 use Rattle.std.specs.List.{position, position_or_len}
@@ -14,7 +14,6 @@ use Rattle.std.proofs.Common.{Some, None}
 use Rattle.std.proofs.lemmas.Grind.{drop_more_same}
 use Rattle.std.proofs.lemmas.List.{drop-replicate}
 use Rattle.std.proofs.lemmas.List.Sums.{prefix_len-le-length}
-use Rattle.std.proofs.lemmas.List.Recursion.{is_position_or_len}
 use lib.Dec.{eqb, ltb}
 use lib.Ieee.{Float, nan}
 use borrow.Author.Tests.{eqb-false, ltb-false}
@@ -103,7 +102,8 @@ module _ (s : Float) (arc : List Float) (h : 2 ≤ length arc) where
       f ∙ sym (first_place (λ x. s ≤f x) nan ends) ∙ ap (λ (n : ℕ). first (λ k. s ≤f get_or ends k nan) n 0) many in
       let q = prefix_len-le-length (λ x. not (s ≤f x)) ends in (
         g ∙ first_ext (λ k. s ≤f get_or ends k nan) (λ k. s ≤f get_or arc (suc k) nan) (length arc - 2) 0
-            (λ k x y. ap (λ (z : Float). s ≤f z) (get_or-take (length arc - 1 - 1) (drop 1 arc) k nan (omega arith) ∙ get_or-drop 1 arc k nan ∙ ap (λ (m : ℕ). get_or arc m nan) (omega arith))),
+            (λ k x y. ap (λ (z : Float). s ≤f z)
+            (get_or-take (length arc - 1 - 1) (drop 1 arc) k nan (omega arith) ∙ get_or-drop 1 arc k nan ∙ ap (λ (m : ℕ). get_or arc m nan) (omega arith))),
         omega (arith, q, many, f),
       )
 
@@ -131,4 +131,5 @@ module _ (c : List GridPoint) (arc : List Float) (m : 2 ≤ length c) (e : arc �
       ei ∙ first_ext (λ i. s ≤f get_or arc (suc i) nan) (λ i. s ≤f Arclength.arc c (suc i)) (n - 2) 0
       (λ k x y. ap (λ (z : Float). s ≤f z) (read (suc k) (omega arith)))
       ∙ ap (λ (k : ℕ). first (λ i. s ≤f Arclength.arc c (suc i)) (k - 2) 0) en in
-      er ∙ (λ j. on_step (point_at c i) (u j) (b j) (v j) s) ∙ ap (λ (k : ℕ). on_step (point_at c k) (Arclength.arc c k) (point_at c (suc k)) (Arclength.arc c (suc k)) s) g
+      er ∙ (λ j. on_step (point_at c i) (u j) (b j) (v j) s)
+      ∙ ap (λ (k : ℕ). on_step (point_at c k) (Arclength.arc c k) (point_at c (suc k)) (Arclength.arc c (suc k)) s) g

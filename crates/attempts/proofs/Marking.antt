@@ -69,10 +69,12 @@ module _ (rs ks : List ℕ) (bs : List Bool) where
       go : (b : Bool) → Dec (get_or ks n 0 ≡ k) → (a : Bool) → get_or ts k 0 ≡ cond a 1 x
           → get_or (cond b (set ts (get_or ks n 0) 1) ts) k 0 ≡ cond (a || (b && eqb (get_or ks n 0) k)) 1 x
       go true (yes f) a e =
-          ap (λ (i : ℕ). get_or (set ts i 1) k 0) f ∙ get_or-set_same ts k 1 0 (omega (arith, h, set-length rs ks bs n)) ∙ ap (λ (c : Bool). cond c 1 x) (sym (or-true a))
+          ap (λ (i : ℕ). get_or (set ts i 1) k 0) f ∙ get_or-set_same ts k 1 0 (omega (arith, h, set-length rs ks bs n))
+          ∙ ap (λ (c : Bool). cond c 1 x) (sym (or-true a))
           ∙ ap (λ (c : Bool). cond (a || c) 1 x) (sym (eq-eqb (get_or ks n 0) k f))
       go true (no f) a e =
-          get_or-set_other ts (get_or ks n 0) k 1 0 (λ g. f (sym g)) ∙ e ∙ ap (λ (c : Bool). cond c 1 x) (sym (or-false a)) ∙ ap (λ (c : Bool). cond (a || c) 1 x) (sym (ne_eqb (get_or ks n 0) k f))
+          get_or-set_other ts (get_or ks n 0) k 1 0 (λ g. f (sym g)) ∙ e ∙ ap (λ (c : Bool). cond c 1 x) (sym (or-false a))
+          ∙ ap (λ (c : Bool). cond (a || c) 1 x) (sym (ne_eqb (get_or ks n 0) k f))
       go false f a e = e ∙ ap (λ (c : Bool). cond c 1 x) (sym (or-false a))
 
 -- ---- an attempt
@@ -126,7 +128,8 @@ marked rs ys u v n vs ms bs c h few g = is-rims u v (asks_for (take n vs) (take 
         (λ i l. λ j. get_or-replicate 60 i true false (omega (arith, l, few)) j && eqb (sym (get_or-take n vs i 0 l) j) k)
 
     middles : (k : ℕ) → any (hits xs ms bs k) n ≡ any (λ i. side_at bs i && eqb (get_or (take n ms) i 0) k) n
-    middles k = any_ext (hits xs ms bs k) (λ i. side_at bs i && eqb (get_or (take n ms) i 0) k) n (λ i l. λ j. side_at bs i && eqb (sym (get_or-take n ms i 0 l) j) k)
+    middles k =
+        any_ext (hits xs ms bs k) (λ i. side_at bs i && eqb (get_or (take n ms) i 0) k) n (λ i l. λ j. side_at bs i && eqb (sym (get_or-take n ms i 0 l) j) k)
 
     both : (a b : Bool) (x : ℕ) → cond b 1 (cond a 1 x) ≡ cond (a || b) 1 x
     both true true x = refl
@@ -143,7 +146,8 @@ marked rs ys u v n vs ms bs c h few g = is-rims u v (asks_for (take n vs) (take 
         (cond (corners k j) 1 (clear_at rs u (v - u) k l j)))
         ∙ ap
         (λ (w : ℕ).
-        cond (any (λ i. side_at bs i && eqb (get_or (take n ms) i 0) k) n) 1 (cond (any (λ i. eqb (get_or (take n vs) i 0) k) n) 1 (kept u w k (get_or rs k 0))))
+        cond (any (λ i. side_at bs i && eqb (get_or (take n ms) i 0) k) n) 1
+        (cond (any (λ i. eqb (get_or (take n vs) i 0) k) n) 1 (kept u w k (get_or rs k 0))))
         w
         ∙ both (any (λ i. eqb (get_or (take n vs) i 0) k) n) (any (λ i. side_at bs i && eqb (get_or (take n ms) i 0) k) n) (kept u v k (get_or rs k 0))
         ∙ ap (λ (b : Bool). cond b 1 (kept u v k (get_or rs k 0))) (sym (asked-at (take n vs) (take n ms) c (side_at bs) n k))

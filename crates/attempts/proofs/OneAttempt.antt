@@ -15,18 +15,17 @@ use Rattle.laws.specs.Double.{nat, ◌+f◌, ◌/f◌}
 use Rattle.vector.specs.declared.GridPoint.{GridPoint}
 use Rattle.vector.specs.declared.Point.{Point}
 use Rattle.vector.specs.Grid.{origin}
-use Rattle.vector.specs.Plane.{in_mm}
 use Rattle.marks.specs.Part.{Part}
 use Rattle.marks.specs.declared.EdgeMark.{EdgeMark}
 use Rattle.marks.specs.declared.EdgeMark.TheVariants.{Straight}
 use Rattle.nodes.specs.declared.Placed.{Placed}
-use Rattle.nodes.specs.Nodes.{most_places, node_at, add_node, Added, add_nodes}
+use Rattle.nodes.specs.Nodes.{node_at, add_node, Added, add_nodes}
 use Rattle.nodes.specs.Growth.{Anything, InRange}
 use Rattle.nodes.specs.Flat.{node_in_of, nodes_in, over, Usable, placed}
 use Rattle.nodes.proofs.Growth.{add_node-grown, add_node-number, add_nodes-grown}
 use Rattle.nodes.proofs.Flat.{length_in, node_in, in_over, length_over, over-over}
 use Rattle.cells.specs.declared.Tried.{Tried}
-use Rattle.quads.specs.Quads.{too_far, edge_middle, total, mean, holds, cells_to, no_cell}
+use Rattle.quads.specs.Quads.{middle, too_far, edge_middle, total, mean, holds, cells_to, no_cell}
 use Rattle.cells.specs.Cells.{Attempt, attempt}
 use Rattle.cells.specs.Stages as Stages
 use Rattle.cells.specs.Stages.{corners, middles, mark_at}
@@ -36,10 +35,10 @@ use Rattle.cells.specs.Flat.{side_at, attempt_in, attempt_asks_in, tried_of, Can
 use Rattle.piece_nodes.specs.Adding.{corner_at, CanAdd, Adds, end_at, middle_at, far_at}
 use Rattle.quads.specs.Flat.{ListedTo, over_cells}
 use Rattle.quads.proofs.CellList.{cells-length}
-use Rattle.cells.proofs.Ranges.{middle-ranged, mean-ranged, edge_by}
+use Rattle.cells.proofs.Ranges.{mean-ranged, edge_by}
 use Rattle.piece_nodes.proofs.Adding as adding
 use Rattle.quads.proofs.Turns as turns
-use Rattle.vector.proofs.Sheet.{point_in_lem}
+use Rattle.vector.proofs.Sheet.{point_in_lem, middle_in_lem}
 
 -- ---- a mean goes by its points
 total_ext : (f g : ℕ → Float) (n : ℕ) → ((i : ℕ) → i < n → f i ≡ g i) → total f n ≡ total g n
@@ -89,9 +88,9 @@ module _ {share : Float} {l : List Float} {u : ℕ} {ps : List GridPoint} (es : 
       let b = ms-all share l u ps es in
       record {
         usable = f.usable;
-        some = f.fair.some;
-        few = f.fair.few;
-        ranged = λ j h. point_in_lem (get_or ps j origin) (f.fair.corner j h);
+        some = f.valid.some;
+        few = f.valid.few;
+        ranged = λ j h. point_in_lem (get_or ps j origin) (f.valid.corner j h);
         fits = omega (arith, f.fits, a, b);
         room = omega (arith, f.room, a, b);
       }
@@ -102,7 +101,7 @@ module _ {share : Float} {l : List Float} {u : ℕ} {ps : List GridPoint} (es : 
     after-corners = adding.usable add-corners s (le_refl (length ps))
 
     pub many : length ks ≡ length ps
-    many = ap length k ∙ length-take-le (length ps) vs (omega (arith, s.long, f.fair.few))
+    many = ap length k ∙ length-take-le (length ps) vs (omega (arith, s.long, f.valid.few))
 
     pub ends : length ps ≡ length ks
     ends = sym many
@@ -117,7 +116,7 @@ module _ {share : Float} {l : List Float} {u : ℕ} {ps : List GridPoint} (es : 
 
     end-ranged : (i : ℕ) → InRange (end_at m v ks (length ks) i)
     end-ranged i =
-        let h : i % length ks < length ks = mod-lt i (omega (arith, many, f.fair.some)) in
+        let h : i % length ks < length ks = mod-lt i (omega (arith, many, f.valid.some)) in
         let k : get_or (take (length ks) ks) (i % length ks) 0 < v =
         subst (λ (k : ℕ). k < v) (sym (get_or-take (length ks) ks (i % length ks) 0 h)) (listed (i % length ks) h) in
         subst InRange (sym (node_in m v (get_or (take (length ks) ks) (i % length ks) 0) k))
@@ -140,25 +139,26 @@ module _ {share : Float} {l : List Float} {u : ℕ} {ps : List GridPoint} (es : 
         let b = ms-all share l u ps es in
         record {
           usable = after-corners;
-          some = omega (arith, many, f.fair.some);
-          few = omega (arith, many, f.fair.few);
+          some = omega (arith, many, f.valid.some);
+          few = omega (arith, many, f.valid.few);
           ranged = λ j h.
               edge_by share InRange (get_or (take (length ks) es) j Straight) (end_at m v ks (length ks) j)
               (end_at m v ks (length ks) (suc j))
-              (middle-ranged (end_at m v ks (length ks) j) (end_at m v ks (length ks) (suc j)) (end-ranged j) (end-ranged (suc j)))
-              (λ q e. f.fair.snap j q (omega (arith, h, many)) (ap (λ (n : ℕ). get_or (take n es) j Straight) (sym many) ∙ e));
+              (unfold middle in middle_in_lem (end_at m v ks (length ks) j) (end_at m v ks (length ks) (suc j)) (end-ranged j) (end-ranged (suc j)))
+              (λ q e. f.valid.snap j q (omega (arith, h, many)) (ap (λ (n : ℕ). get_or (take n es) j Straight) (sym many) ∙ e));
           fits = omega (arith, a, f.fits, b);
           room = omega (arith, a, adding.same_size add-corners s (le_refl (length ps)), f.room, b);
         }
 
     -- the middles are added: m' with w nodes, their numbers in the list ws, of which ls is the front
-    module _ {os' : List ℕ} {m' : List Float} {w : ℕ} {ws ls : List ℕ} (t : Adds m v (middle_at share m v ks es (length ks)) (length ks) os' m' w ws) (g : ls ≡ take (length ps) ws)
+    module _ {os' : List ℕ} {m' : List Float} {w : ℕ} {ws ls : List ℕ}
+        (t : Adds m v (middle_at share m v ks es (length ks)) (length ks) os' m' w ws) (g : ls ≡ take (length ps) ws)
       where
         pub after-middles : Usable m' w
         after-middles = adding.usable add-middles t (le_refl (length ks))
 
         pub as-many : length ls ≡ length ps
-        as-many = ap length g ∙ length-take-le (length ps) ws (omega (arith, t.long, f.fair.few))
+        as-many = ap length g ∙ length-take-le (length ps) ws (omega (arith, t.long, f.valid.few))
 
         ls-is : ls ≡ (Ms share l u ps es).numbers
         ls-is = g ∙ ap (λ (n : ℕ). take n ws) (sym many) ∙ t.numbers ∙ ap (λ (e : Added). e.numbers) ms-is
@@ -181,7 +181,7 @@ module _ {share : Float} {l : List Float} {u : ℕ} {ps : List GridPoint} (es : 
           pub centre-ranged : InRange p
           centre-ranged =
               subst InRange (sym (c ∙ centre-is))
-              (mean-ranged (end_at m v ks (length ks)) (length ks) (omega (arith, many, f.fair.some)) (omega (arith, many, f.fair.few)) (λ i h. end-ranged i))
+              (mean-ranged (end_at m v ks (length ks)) (length ks) (omega (arith, many, f.valid.some)) (omega (arith, many, f.valid.few)) (λ i h. end-ranged i))
 
           p-is : p ≡ mean (end share l u ps es) (length ps)
           p-is = c ∙ centre-is ∙ (λ j. mean (λ i. end_is i j) (many j))
@@ -285,7 +285,8 @@ module _ {share : Float} {l : List Float} {u : ℕ} {ps : List GridPoint} (es : 
                 ∙ (λ j.
                 any (λ i. too_far share (get_or (take (many j) es) i Straight) (end_is i j) (end_is (suc i) j)) (many j)) in
                 let size : length ls ≡ length (A share l u ps es).cells = sym (cells-length r.number ls ks (length ls)) ∙ ap length cells_is in
-                let first-is : first (λ k. not (holds (nodes_in m'' r.used) (get_or (cells_to r.number ls ks (length ls)) k no_cell))) (length ls) 0 ≡ (A share l u ps es).fails =
+                let first-is : first (λ k. not (holds (nodes_in m'' r.used) (get_or (cells_to r.number ls ks (length ls)) k no_cell))) (length ls) 0
+                ≡ (A share l u ps es).fails =
                 λ j. first (λ k. not (holds (all-now j) (get_or (cells_is j) k no_cell))) (as-many j) 0 in
                 let ek' : k ≡ below (length (A share l u ps es).cells) (A share l u ps es).fails =
                 ek ∙ (λ j. below (size j) (first-is j)) in (

@@ -227,7 +227,8 @@ unfolding divide_lent
 demand3_lent L l z = demand3_of no_test all_cells L l z
 
 -- of the practice call, with 12 cuts
-pub demand3_practice : (l : Lent) → (divide_practice l).row.code ≡ 0 → AcceptedCall practice_set (start_of (call_of l)) (lists_of (call_of l)) (divide_practice l)
+pub demand3_practice : (l : Lent) → (divide_practice l).row.code ≡ 0
+    → AcceptedCall practice_set (start_of (call_of l)) (lists_of (call_of l)) (divide_practice l)
 unfolding divide_practice
 demand3_practice l z = demand3_of over24 all_cells practice_set l z
 

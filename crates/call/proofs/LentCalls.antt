@@ -34,7 +34,7 @@ use Rattle.nodes.proofs.Growth.{grown_refl, grown_trans, grown_distinct}
 use Rattle.nodes.proofs.Flat.{length_in, node_in, in_over, length_over}
 use Rattle.quads.specs.declared.Cell.{Cell}
 use Rattle.cells.specs.Asks.{Ask}
-use Rattle.cells.specs.Rims.{rims_by, AskedFor, Told}
+use Rattle.cells.specs.Rims.{rims_by, AskedFor, RimMark}
 use Rattle.cells.proofs.Rims.{rims-none, rims_then, rims_length, rims-told, rims-stay, rims-past}
 use Rattle.limits.specs.Sets.{practice_set}
 use Rattle.call.specs.Call.{Lists, Call, lists_of, over24, no_test}
@@ -305,7 +305,7 @@ lent-calls l rs gs =
       fits = omega (arith, (all (empty l rs) none gs).holds, (all (empty l rs) none gs).same_length);
       adds = adds (empty l rs) none gs;
       told =
-          λ k h. subst (λ (ms : List ℕ). Told (asks_over (empty l rs) gs) k (get_or ms k 0)) (sym m.rims)
+          λ k h. subst (λ (ms : List ℕ). RimMark (asks_over (empty l rs) gs) k (get_or ms k 0)) (sym m.rims)
           (rims-told t.count (asks_over (empty l rs) gs) rs k h many);
       asked_for = λ k h. m.cover k zero-le h;
       set_stays = λ i k h e.

@@ -27,19 +27,20 @@ use Rattle.clean.proofs.Kept.{clean_length, clean_each}
 use Rattle.clean.proofs.Places.{pick-length, kept_image, kept-rising}
 use Rattle.survivors.specs.Survivors.{survives, surviving}
 use Rattle.survivors.proofs.Survivors.{surviving-many, surviving-at}
-use Rattle.outline.proofs.Near.{point_in_lem, middle_in_lem, outline_in_range}
+use Rattle.vector.proofs.Sheet.{point_in_lem, middle_in_lem}
+use Rattle.outline.proofs.Near.{outline_in_range}
 use Rattle.marks.specs.declared.EdgeMark.{EdgeMark}
 use Rattle.marks.specs.declared.EdgeMark.TheVariants.{Straight, Snap}
 use Rattle.marks.proofs.SnapRange.{InSheetEdge, straight_in, snap_in}
 use Rattle.nodes.specs.Flat.{node_in_of}
 use Rattle.nodes.specs.Growth.{InRange}
-use Rattle.nodes.proofs.Ranged.{held-within}
+use Rattle.nodes.proofs.Ranged.{on_sheet-within}
 use Rattle.quads.specs.Quads.{middle}
 use Rattle.table.specs.Refusals.{Passes}
-use Rattle.table.proofs.Refusals.{clear}
+use Rattle.table.proofs.Refusals.{passes_all}
 use Rattle.limits.proofs.Taken.{most-cuts}
 use Rattle.limits.specs.declared.Limits.{Limits}
-use Rattle.call.specs.Call.{held, any_outside, counts_out}
+use Rattle.call.specs.Call.{on_sheet, any_outside, counts_out}
 use Rattle.call.specs.Demand.{Ready, Prepared, AcceptedCall}
 use Rattle.call.specs.Lent.{odd}
 use Rattle.call.specs.Marked.{Marking, all_points, mark_of, lead_point, lead_line, given_mark, marked_by, mark_out, marks_out, called_for, loops_out}
@@ -66,7 +67,8 @@ pub record Outlined (outline : List ℤ) (loops : List ℕ) : Type 0 where
   pub sheet : AllOnSheet (all_points outline)
   pub whole : loops_out loops (length outline / 2) ≡ false
 
-pub outline_in : (kinds : List ℕ) (outline : List ℤ) (loops : List ℕ) → outline_out kinds outline loops ≡ false → called_for kinds ≡ true → Outlined outline loops
+pub outline_in : (kinds : List ℕ) (outline : List ℤ) (loops : List ℕ) → outline_out kinds outline loops ≡ false
+    → called_for kinds ≡ true → Outlined outline loops
 unfolding outline_out
 outline_in kinds outline loops e h =
     let n = length outline / 2 in
@@ -84,14 +86,14 @@ unfolding mark_of mark_out
 mark_in kind p near e h = go (eqb kind 1) refl (eqb kind 2) refl
   where
     ok : Bool
-    ok = held p.x && held p.y
+    ok = on_sheet p.x && on_sheet p.y
 
     given : eqb kind 1 ≡ true → InRange p
     given d =
         let a = neither (ltb 2 kind) (eqb kind 1 && not ok) e in
         let b : not ok ≡ false = subst (λ (b : Bool). (b && not ok) ≡ false) d a.1 in
-        let c = and_both (held p.x) (held p.y) (not-false ok b) in
-        (held-within p.x c.0, held-within p.y c.1)
+        let c = and_both (on_sheet p.x) (on_sheet p.y) (not-false ok b) in
+        (on_sheet-within p.x c.0, on_sheet-within p.y c.1)
 
     go : (a : Bool) → eqb kind 1 ≡ a → (b : Bool) → eqb kind 2 ≡ b → InSheetEdge (cond a (Snap p) (cond b (Snap near) Straight))
     go true d b f = snap_in p (given d)
@@ -169,7 +171,7 @@ pub record MarkedPassed (L : Limits) (l : LentMarked) : Type 0 where
 pub marked_passed : (L : Limits) (l : LentMarked) → Passes (marked_tests L l) → MarkedPassed L l
 marked_passed L l h =
     let n = length (all_points l.ring) in
-    let t = clear (marked_made L l) h in
+    let t = passes_all (marked_made L l) h in
     let c = counts_in n 0 (neither (odd l.ring) (counts_out n 0) t.counts).1 in
     record {
       cuts = most-cuts L t.limits;

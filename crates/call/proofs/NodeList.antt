@@ -50,8 +50,8 @@ module _ (L : Limits) (r : ℕ) (p : Part) (x : Lists) (s : Divisible L r p x) w
   pub sound : Sound p
   sound = record { three = s.whole.three; edged = h.edged }
 
-  pub fair : (i : ℕ) → i < length (pieces_of L p) → ValidPiece (get_or (pieces_of L p) i no_part)
-  fair i l =
+  pub valid : (i : ℕ) → i < length (pieces_of L p) → ValidPiece (get_or (pieces_of L p) i no_part)
+  valid i l =
       record {
         some = f.some;
         few = omega (arith, piece-corners L p sound i l, h.fewer, h.few);
@@ -137,7 +137,7 @@ module _ (L : Limits) (r : ℕ) (p : Part) (x : Lists) where
         places = ap length e.1 ∙ keeps;
         fits = λ h. omega (arith, e.0, ap length e.1, keeps, k);
         adds = omega (arith, e.0, added L r p x s, length-take x.node_count_of x.nodes);
-        ranged = λ h. rw used (pieces_in_range L.share (pieces_of L p) (used_in x) (length (pieces_of L p)) (fair L r p x s) h);
+        ranged = λ h. rw used (pieces_in_range L.share (pieces_of L p) (used_in x) (length (pieces_of L p)) (valid L r p x s) h);
       }
 
   -- of any entry

@@ -24,7 +24,7 @@ use Rattle.cuts.proofs.Counts.{counted, three-each}
 use Rattle.cuts.proofs.Sides.{diagonal-straight, side-count, side-at}
 use Rattle.cuts.proofs.Provenance.{traced}
 use Rattle.cells.specs.Stages.{mark_at}
-use Rattle.cells.specs.Cover.{Ends, CutLine, no_cut_line, EdgeFrom, side, across, CutFrom}
+use Rattle.cells.specs.Cover.{SameEnds, CutLine, no_cut_line, EdgeFrom, side, across, CutFrom}
 
 -- ---- the diagonals, each once
 abbrev pub ends : Cut → CutLine
@@ -65,7 +65,7 @@ source (c ∷ l) m s (Memᴰ.tail (Memᴰ.tail h)) = more (source l m s h)
     more (inr b) = inr b
 
 -- ---- an edge
-alike-ends : (s t : Side) (c d : GridPoint) → SameSide s t → t.a ≡ c → t.b ≡ d → Ends s.a s.b c d × (s.mark ≡ t.mark)
+alike-ends : (s t : Side) (c d : GridPoint) → SameSide s t → t.a ≡ c → t.b ≡ d → SameEnds s.a s.b c d × (s.mark ≡ t.mark)
 alike-ends s t c d same e f = (inl (e, f), refl)
 alike-ends s t c d turned e f = (inr (f, e), refl)
 

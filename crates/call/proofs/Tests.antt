@@ -22,11 +22,11 @@ use Rattle.limits.specs.declared.Limits.{Limits}
 use Rattle.chain.specs.Range.{ChainOnSheet}
 use Rattle.nodes.specs.Nodes.{node_at}
 use Rattle.nodes.specs.Growth.{InRange, EachNode}
-use Rattle.nodes.proofs.Ranged.{held-within}
+use Rattle.nodes.proofs.Ranged.{on_sheet-within}
 use Rattle.table.specs.Refusals.{Passes, in_order}
-use Rattle.table.proofs.Refusals.{clear}
+use Rattle.table.proofs.Refusals.{passes_all}
 use Rattle.limits.proofs.Taken.{most-cuts}
-use Rattle.call.specs.Call.{Lists, used_in, Call, lists_of, counts_out, beyond, outside, any_outside, units_out, held, usable, rims_out, lists_over}
+use Rattle.call.specs.Call.{Lists, used_in, Call, lists_of, counts_out, beyond, outside, any_outside, units_out, on_sheet, usable, rims_out, lists_over}
 use Rattle.call.specs.Call.{lists_out, node_reserve, cell_reserve, most_places, room_out_of, made_by, no_test, tests}
 use Rattle.call.specs.Demand.{Ready}
 
@@ -39,9 +39,9 @@ within-limits (pos n) h = go (ltb 8388608 n) refl h
     go false e h = ltb-false 8388608 n e
 within-limits (negsuc n) h = omega (arith, nltb→le 8388607 n h)
 
-on_sheet : (p : GridPoint) → T (not (outside p)) → OnSheet p
+point_on_sheet : (p : GridPoint) → T (not (outside p)) → OnSheet p
 unfolding outside
-on_sheet p h = go (beyond p.x) refl (beyond p.y) refl h
+point_on_sheet p h = go (beyond p.x) refl (beyond p.y) refl h
   where
     go : (a : Bool) → beyond p.x ≡ a → (b : Bool) → beyond p.y ≡ b → T (not (a || b)) → OnSheet p
     go true d b e h = absurd h
@@ -54,18 +54,18 @@ unfolding any_outside
 points_on_sheet r h i = go (dec_lt i (length r))
   where
     go : Dec (i < length r) → OnSheet (get_or r i origin)
-    go (yes l) = on_sheet (get_or r i origin) (any_none (λ i. outside (get_or r i origin)) (length r) (not-of (any_outside r) h) i l)
+    go (yes l) = point_on_sheet (get_or r i origin) (any_none (λ i. outside (get_or r i origin)) (length r) (not-of (any_outside r) h) i l)
     go (no l) = subst OnSheet (sym (get_or-eq_default r origin {n = i} (omega arith))) (record { x = zero-le; y = zero-le })
 
 -- ---- the used nodes
 usable_in_range : (ns : List Point) → T (usable ns) → EachNode InRange ns
 unfolding usable
 usable_in_range ns h i l =
-    let b = held (node_at ns i).x && held (node_at ns i).y in
+    let b = on_sheet (node_at ns i).x && on_sheet (node_at ns i).y in
     let k =
-    and_both (held (node_at ns i).x) (held (node_at ns i).y)
-    (not-not b (any_none (λ i. not (held (node_at ns i).x && held (node_at ns i).y)) (length ns) h i l)) in
-    (held-within (node_at ns i).x k.0, held-within (node_at ns i).y k.1)
+    and_both (on_sheet (node_at ns i).x) (on_sheet (node_at ns i).y)
+    (not-not b (any_none (λ i. not (on_sheet (node_at ns i).x && on_sheet (node_at ns i).y)) (length ns) h i l)) in
+    (on_sheet-within (node_at ns i).x k.0, on_sheet-within (node_at ns i).y k.1)
 
 -- ---- each test by itself
 -- 1: the counts r and k
@@ -107,7 +107,8 @@ counts_fit x e =
     )
 
 -- 3 and 4, of a ring of r points
-pub ready : (L : Limits) (r : ℕ) (x : Lists) → lists_out x ≡ false → room_out_of L r (length x.nodes - x.node_count_of) (length x.cells - x.cell_count_of) ≡ false
+pub ready : (L : Limits) (r : ℕ) (x : Lists) → lists_out x ≡ false
+    → room_out_of L r (length x.nodes - x.node_count_of) (length x.cells - x.cell_count_of) ≡ false
     → Ready L r x
 unfolding room_out_of
 ready L r x e f =
@@ -136,7 +137,7 @@ pub record Passed (L : Limits) (c : Call) : Type 0 where
 
 pub passed_by : (own : ℕ → ℕ → Bool) (L : Limits) (c : Call) → Passes (in_order (made_by own L c)) → Passed L c
 passed_by own L c h =
-    let k = clear (made_by own L c) h in
+    let k = passes_all (made_by own L c) h in
     let n = counts_in (length c.ring) (length c.chain) k.counts in
     let p = points_in_lem c.ring c.chain c.size k.units in
     record {

@@ -11,7 +11,7 @@ use Rattle.nodes.specs.Flat.{node_in_of, nodes_in, over}
 use Rattle.nodes.specs.Growth.{◌≈◌, InRange}
 use Rattle.quads.specs.declared.Cell.{Cell}
 use Rattle.cells.specs.Asks.{Ask}
-use Rattle.cells.specs.Rims.{AskedFor, Told}
+use Rattle.cells.specs.Rims.{AskedFor, RimMark}
 use Rattle.call.specs.Divide.{CallAnswer, asked, start_of}
 use Rattle.limits.specs.Sets.{practice_set}
 use Rattle.call.specs.Lent.{LentOf, call_of, divide_lent, divide_practice, call_of_records, divide_records, lent}
@@ -123,7 +123,7 @@ pub record LentCalls (l : List Float) (rs : List ℕ) (gs : List LentCall) : Typ
       → (run (empty l rs) (take (suc i) gs)).count ≤ (run (empty l rs) (take i gs)).count + allowance (limits_of (get_or gs i g)) (start_in (get_or gs i g))
   -- 02, Card 12: "it is set (1) exactly if the node was ever a corner or the middle of a ring edge, clear (0) if only a centre or the middle of a cut": by
   -- what the calls asked for
-  pub told : (k : ℕ) → k < (run (empty l rs) gs).count → Told (asks_over (empty l rs) gs) k (get_or (run (empty l rs) gs).rims k 0)
+  pub told : (k : ℕ) → k < (run (empty l rs) gs).count → RimMark (asks_over (empty l rs) gs) k (get_or (run (empty l rs) gs).rims k 0)
   pub asked_for : (k : ℕ) → k < (run (empty l rs) gs).count → AskedFor (asks_over (empty l rs) gs) k
   -- "a set mark stays set": one that was set after the first i calls
   pub set_stays : (i k : ℕ) → k < (run (empty l rs) (take i gs)).count → get_or (run (empty l rs) (take i gs)).rims k 0 ≡ 1

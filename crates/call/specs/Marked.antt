@@ -19,7 +19,7 @@ use Rattle.nodes.specs.Flat.{node_in_of}
 use Rattle.quads.specs.Quads.{middle}
 use Rattle.table.specs.Refusals.{Refusal, Tests, in_order}
 use Rattle.limits.specs.Sets.{limits_out}
-use Rattle.call.specs.Call.{Lists, held, any_outside, counts_out, units_out, lists_out, room_out_of}
+use Rattle.call.specs.Call.{Lists, on_sheet, any_outside, counts_out, units_out, lists_out, room_out_of}
 use Rattle.call.specs.Divide.{CallAnswer, refused_or, core}
 use Rattle.call.specs.Lent.{points_in, all_cells, odd, lent_lists}
 
@@ -58,7 +58,7 @@ marked_by size g r = record { points = clean_polygon size r; edges = surviving S
 -- ---- 13, "if the marks are not as many as the ring's points or a given snap is out of limits": "A given snap point is finite and within 1,024 mm either way."
 -- Nor is a kind above 2 a mark, and the snaps are two numbers a mark, looked at where its kind is 1
 unfoldable pub mark_out : ℕ → Point → Bool
-mark_out kind p = ltb 2 kind || eqb kind 1 && not (held p.x && held p.y)
+mark_out kind p = ltb 2 kind || eqb kind 1 && not (on_sheet p.x && on_sheet p.y)
 
 unfoldable pub marks_out : List ℕ → List Float → ℕ → Bool
 marks_out kinds snaps n = not (eqb (length kinds) n) || not (eqb (length snaps) (n * 2)) || any (λ i. mark_out (get_or kinds i 0) (node_in_of snaps i)) n
@@ -90,7 +90,16 @@ pub record LentMarked : Type 0 where
 -- the same of its parts, in the order in which every entry takes them
 abbrev pub lent_marked : List ℤ → Marking → ℕ → List Float → ℕ → List ℕ → List ℕ → ℕ → LentMarked
 lent_marked ring marking size nodes node_count_of rims cells cell_count_of =
-    record { ring = ring; marking = marking; size = size; nodes = nodes; node_count_of = node_count_of; rims = rims; cells = cells; cell_count_of = cell_count_of }
+    record {
+      ring = ring;
+      marking = marking;
+      size = size;
+      nodes = nodes;
+      node_count_of = node_count_of;
+      rims = rims;
+      cells = cells;
+      cell_count_of = cell_count_of;
+    }
 
 abbrev pub marked_lists : LentMarked → Lists
 marked_lists l = lent_lists l.nodes l.node_count_of l.rims (all_cells l.cells) l.cell_count_of

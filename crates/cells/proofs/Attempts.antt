@@ -95,7 +95,8 @@ module _ (share : Float) where
   onward-grown {P} (failed ns n k) p h = unfold onward in grown_refl ns
 
   pub pieces-grown : {P : Point → Type 0} (ps : List Part) (ns : List Point) (n : ℕ)
-      → ((i : ℕ) → i < n → (ms : List Point) (cs : List Cell) → pieces_to share ps ns i ≡ done ms cs → Grown P ms (subdivide share ms (get_or ps i no_part)).nodes)
+      → ((i : ℕ) → i < n → (ms : List Point) (cs : List Cell) → pieces_to share ps ns i ≡ done ms cs
+      → Grown P ms (subdivide share ms (get_or ps i no_part)).nodes)
       → Grown P ns (nodes_of (pieces_to share ps ns n))
   unfolding pieces_to
   pieces-grown ps ns zero h = grown_refl ns
@@ -110,7 +111,8 @@ module _ (share : Float) where
   pieces-next ps ns i = onward-grown (pieces_to share ps ns i) (get_or ps i no_part) (λ ms cs e. subdivide-any ms (get_or ps i no_part))
 
   -- from one piece to a later one
-  pub pieces-later : (ps : List Part) (ns : List Point) (i d : ℕ) → Grown Anything (nodes_of (pieces_to share ps ns i)) (nodes_of (pieces_to share ps ns (d + i)))
+  pub pieces-later : (ps : List Part) (ns : List Point) (i d : ℕ)
+      → Grown Anything (nodes_of (pieces_to share ps ns i)) (nodes_of (pieces_to share ps ns (d + i)))
   pieces-later ps ns i zero =
       subst (λ (k : ℕ). Grown Anything (nodes_of (pieces_to share ps ns i)) (nodes_of (pieces_to share ps ns k))) (same i)
       (grown_refl (nodes_of (pieces_to share ps ns i)))
@@ -138,7 +140,8 @@ ends-later {P} ns ms ps h g i = sym (g.same k n.low) ∙ numbered-node (numbered
 -- ---- the cell that fails is one of the piece's, or their number stands for it
 pub attempt-fails : (share : Float) (ns : List Point) (ps : List GridPoint) (e : ℕ → EdgeMark) → (attempt share ns ps e).fails ≤ length ps
 unfolding attempt
-attempt-fails share ns ps e = let z : 0 + length ps ≡ length ps = omega arith in subst (λ (n : ℕ). (attempt share ns ps e).fails ≤ n) z (first-le _ (length ps) 0)
+attempt-fails share ns ps e = let z : 0 + length ps ≡ length ps = omega arith in
+    subst (λ (n : ℕ). (attempt share ns ps e).fails ≤ n) z (first-le _ (length ps) 0)
 
 pub subdivide-fails : (share : Float) (ns : List Point) (p : Part) → (subdivide share ns p).fails ≤ length p.points
 unfolding subdivide

@@ -32,7 +32,7 @@ use Rattle.quads.specs.Quads.{middle, mean}
 use Rattle.cells.specs.Cells.{attempt, subdivide}
 use Rattle.cells.specs.Pieces.{Outcome, done, onward, pieces_to}
 use Rattle.cells.specs.Stages.{corners, end, mark_at, straight, first_nodes, second_nodes, nodes_of}
-use Rattle.cells.specs.Cover.{Ends, CutLine, no_cut_line, EdgeFrom, side, across, PieceFrom, CutFrom}
+use Rattle.cells.specs.Cover.{SameEnds, CutLine, no_cut_line, EdgeFrom, side, across, PieceFrom, CutFrom}
 use Rattle.cells.proofs.Attempts.{Adds, middles-grown, attempt-grown, attempt-any, subdivide_by, onward-done, pieces-grown, pieces-later, ends-later}
 use Rattle.cells.proofs.Middles.{middle_comm}
 use Rattle.cells.proofs.Ranges.{edge_by, straight≢snap}
@@ -59,7 +59,7 @@ has-snap (Snap p ∷ es) (suc j) q e = has_right (p ∷ []) (snaps es) q (has-sn
 abbrev pub middle_in : List Point → GridPoint → GridPoint → Point
 middle_in ms a b = middle (node_for ms (in_mm a)) (node_for ms (in_mm b))
 
-middle-ends : (ms : List Point) (a b c d : GridPoint) → Ends a b c d → middle_in ms a b ≡ middle_in ms c d
+middle-ends : (ms : List Point) (a b c d : GridPoint) → SameEnds a b c d → middle_in ms a b ≡ middle_in ms c d
 middle-ends ms a b c d (inl e) = ap₂ (middle_in ms) e.0 e.1
 middle-ends ms a b c d (inr e) = ap₂ (middle_in ms) e.0 e.1 ∙ middle_comm (node_for ms (in_mm d)) (node_for ms (in_mm c))
 
@@ -132,7 +132,8 @@ module _ (share : Float) (ring : Part) (ds : List CutLine) (ps : List Part) (ms 
   -- an edge's straight middle, and the point that it snaps to
   edge-middle : (a b : GridPoint) (e : EdgeMark) → EdgeFrom ring ds a b e → HasKeyOf cover (middle_in ms a b)
   edge-middle a b e (side j h u m) = subst (HasKeyOf cover) (sym (middle-ends ms a b (at ring.points j) (at ring.points (suc j)) u)) (has-side j h)
-  edge-middle a b e (across j h u m) = subst (HasKeyOf cover) (sym (middle-ends ms a b (get_or ds j no_cut_line).a (get_or ds j no_cut_line).b u)) (has-across j h)
+  edge-middle a b e (across j h u m) =
+      subst (HasKeyOf cover) (sym (middle-ends ms a b (get_or ds j no_cut_line).a (get_or ds j no_cut_line).b u)) (has-across j h)
 
   edge-snap : (a b : GridPoint) (e : EdgeMark) (q : Point) → EdgeFrom ring ds a b e → e ≡ Snap q → HasKeyOf cover q
   edge-snap a b e q (side j h u m) k = has-mark j q (sym m ∙ k)

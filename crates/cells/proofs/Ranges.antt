@@ -10,19 +10,14 @@ use mathlib.Core.Bool.{Bool, true, false, cond}
 use mathlib.Core.List.{List}
 use lib.ListN.{length, get_or}
 use lib.Ieee.{Float, binary64, of_int, round}
-use Rattle.laws.specs.Double.{nat, lit, ◌+f◌, ◌*f◌, ◌/f◌}
+use Rattle.laws.specs.Double.{nat, ◌+f◌, ◌/f◌}
 use Rattle.laws.specs.Sums.{sum_to}
-use Rattle.laws.specs.Units as Units
 use Rattle.laws.specs.Within.{Within}
-use Rattle.laws.proofs.Constants.{lit-half}
-use Rattle.laws.proofs.Mean.{middle_1024, mean_1024}
-use Rattle.laws.proofs.Units.{mm-within}
+use Rattle.laws.proofs.Mean.{mean_1024}
 use Rattle.vector.specs.declared.GridPoint.{GridPoint}
 use Rattle.vector.specs.declared.Point.{Point}
 use Rattle.vector.specs.Grid.{origin}
-use Rattle.laws.specs.Units.{mm}
 use Rattle.vector.specs.Plane.{in_mm}
-use Rattle.vector.specs.Size.{OnSheet}
 use Rattle.marks.specs.declared.EdgeMark.{EdgeMark}
 use Rattle.marks.specs.declared.EdgeMark.TheVariants.{Straight, Snap}
 use Rattle.marks.specs.Part.{Part, no_part}
@@ -34,16 +29,9 @@ use Rattle.cells.specs.Pieces.{Outcome, onward, pieces_to}
 use Rattle.cells.specs.Stages.{corners, end, mark_at, straight, first_nodes, nodes_of}
 use Rattle.cells.specs.Claims.{ValidPiece}
 use Rattle.cells.proofs.Attempts.{attempt-grown, subdivide-grown, onward-grown}
-use Rattle.vector.proofs.Sheet.{point_in_lem}
+use Rattle.vector.proofs.Sheet.{point_in_lem, middle_in_lem}
 
--- ---- a middle, a mean
-pub middle-ranged : (a b : Point) → InRange a → InRange b → InRange (middle a b)
-unfolding middle
-middle-ranged a b h k = (coordinate a.x b.x h.0 k.0, coordinate a.y b.y h.1 k.1)
-  where
-    coordinate : (x y : Float) → Within 1024 x → Within 1024 y → Within 1024 (lit 5 1 *f (x +f y))
-    coordinate x y h k = subst (λ (z : Float). Within 1024 (z *f (x +f y))) (sym lit-half) (middle_1024 x y h k)
-
+-- ---- a mean
 total-is : (c : ℕ → Float) (n : ℕ) → total c n ≡ sum_to binary64 c n
 unfolding total sum_to of_int round
 total-is c zero = refl
@@ -57,7 +45,8 @@ mean-ranged a n h k f = (coordinate (λ i. (a i).x) (λ i l. (f i l).0), coordin
     coordinate c f = subst (λ (z : Float). Within 1024 (z /f nat n)) (sym (total-is c n)) (mean_1024 c n h k f)
 
 -- ---- an edge's point is its straight middle or the point that it snaps to
-pub edge_by : (share : Float) (X : Point → Type 0) (e : EdgeMark) (a b : Point) → X (middle a b) → ((q : Point) → e ≡ Snap q → X q) → X (edge_middle share e a b)
+pub edge_by : (share : Float) (X : Point → Type 0) (e : EdgeMark) (a b : Point)
+    → X (middle a b) → ((q : Point) → e ≡ Snap q → X q) → X (edge_middle share e a b)
 unfolding edge_middle
 edge_by share X Straight a b h k = h
 edge_by share X (Snap q) a b h k = go (too_far share (Snap q) a b)
@@ -79,7 +68,9 @@ module _ (share : Float) where
       (record {
         corner = new;
         middle =
-            λ i l. edge_by share InRange (e i) (end ns ps i) (end ns ps (suc i)) (middle-ranged (end ns ps i) (end ns ps (suc i)) (ends i) (ends (suc i)))
+            λ i l.
+            edge_by share InRange (e i) (end ns ps i) (end ns ps (suc i))
+            (unfold middle in middle_in_lem (end ns ps i) (end ns ps (suc i)) (ends i) (ends (suc i)))
             (λ q u. g i q l u);
         centre = mean-ranged (end ns ps) (length ps) f.some f.few (λ i l. ends i);
       })

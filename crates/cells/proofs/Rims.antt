@@ -19,7 +19,7 @@ use Rattle.laws.specs.Table.{tab}
 use Rattle.laws.proofs.Booleans.{or-true}
 use Rattle.laws.proofs.Table.{length_tab, get_d_tab}
 use Rattle.cells.specs.Asks.{Ask, on_rim_of}
-use Rattle.cells.specs.Rims.{on_rim_at, rim_at, rims_by, AskedOnRim, Told, rim, inside}
+use Rattle.cells.specs.Rims.{on_rim_at, rim_at, rims_by, AskedOnRim, RimMark, rim, inside}
 use Rattle.std.proofs.Math.Bool.{or-false, or_assoc}
 
 -- ---- who asked, of asks and then of more
@@ -27,7 +27,8 @@ pub on_append : (a b : List Ask) (k : ℕ) → on_rim_at (a ++ b) k ≡ (on_rim_
 unfolding on_rim_at
 on_append [] b k = refl
 on_append (q ∷ a) b k =
-    ap (λ (x : Bool). (on_rim_of q.role && eqb q.node k) || x) (on_append a b k) ∙ sym (or_assoc (on_rim_of q.role && eqb q.node k) (on_rim_at a k) (on_rim_at b k))
+    ap (λ (x : Bool). (on_rim_of q.role && eqb q.node k) || x) (on_append a b k)
+    ∙ sym (or_assoc (on_rim_of q.role && eqb q.node k) (on_rim_at a k) (on_rim_at b k))
 
 pub on_one : (q : Ask) (k : ℕ) → on_rim_at (q ∷ []) k ≡ (on_rim_of q.role && eqb q.node k)
 unfolding on_rim_at
@@ -97,7 +98,8 @@ pub rims-none : (u : ℕ) (rs : List ℕ) → rims_by u u [] rs ≡ rs
 rims-none u rs = sym (is-rims u u [] rs rs refl (λ k h. rim-none u rs k))
 
 module _ (u v w : ℕ) (qs bs : List Ask) (rs : List ℕ) (h : u ≤ v) (l : v ≤ w) (low : All (λ (q : Ask). q.node < v) qs) where
-  value : (k : ℕ) → (a b : Bool) → on_rim_at qs k ≡ a → cond b 1 (kept v w k (cond a 1 (kept u v k (get_or rs k 0)))) ≡ cond (a || b) 1 (kept u w k (get_or rs k 0))
+  value : (k : ℕ) → (a b : Bool) → on_rim_at qs k ≡ a
+      → cond b 1 (kept v w k (cond a 1 (kept u v k (get_or rs k 0)))) ≡ cond (a || b) 1 (kept u w k (get_or rs k 0))
   value k a b e = go (dec_lt k u) (dec_lt k v) (dec_lt k w) a b e
     where
       x : ℕ
@@ -190,12 +192,12 @@ not-asked (q ∷ qs) k e w = go (Memᴰ.cases_cons w.one) (on_rim_of q.role && e
         absurd (omega arith)
     go (inr m) false f e r = r e (record { ask = w.ask; one = m; on_rim = w.on_rim; for = w.for })
 
-pub rims-told : (v : ℕ) (qs : List Ask) (rs : List ℕ) (k : ℕ) → k < v → v ≤ length rs → Told qs k (get_or (rims_by 0 v qs rs) k 0)
+pub rims-told : (v : ℕ) (qs : List Ask) (rs : List ℕ) (k : ℕ) → k < v → v ≤ length rs → RimMark qs k (get_or (rims_by 0 v qs rs) k 0)
 unfolding rim_at
 rims-told v qs rs k h l =
-    subst (Told qs k) (sym (rims-at 0 v qs rs k (omega (arith, h, l)) ∙ ap (cond (on_rim_at qs k) 1) (new 0 v k (get_or rs k 0) (omega arith) h)))
+    subst (RimMark qs k) (sym (rims-at 0 v qs rs k (omega (arith, h, l)) ∙ ap (cond (on_rim_at qs k) 1) (new 0 v k (get_or rs k 0) (omega arith) h)))
     (go (on_rim_at qs k) refl)
   where
-    go : (b : Bool) → on_rim_at qs k ≡ b → Told qs k (cond b 1 0)
+    go : (b : Bool) → on_rim_at qs k ≡ b → RimMark qs k (cond b 1 0)
     go true e = rim (asked qs k e)
     go false e = inside (not-asked qs k e)

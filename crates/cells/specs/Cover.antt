@@ -9,8 +9,8 @@ use Rattle.marks.specs.Part.{Part, no_part}
 use Rattle.cells.specs.Stages.{mark_at}
 
 -- a to b is c to d, in either sense
-abbrev pub Ends : GridPoint → GridPoint → GridPoint → GridPoint → Type 0
-Ends a b c d = ((a ≡ c) × (b ≡ d)) ⊎ ((a ≡ d) × (b ≡ c))
+abbrev pub SameEnds : GridPoint → GridPoint → GridPoint → GridPoint → Type 0
+SameEnds a b c d = ((a ≡ c) × (b ≡ d)) ⊎ ((a ≡ d) × (b ≡ c))
 
 pub record CutLine : Type 0 where
   pub a : GridPoint
@@ -21,8 +21,8 @@ no_cut_line = record { a = origin; b = origin }
 
 -- the edge from a to b, marked e, is an edge of the ring with its mark, or a diagonal and straight
 pub data EdgeFrom (ring : Part) (ds : List CutLine) (a b : GridPoint) (e : EdgeMark) : Type 0 where
-  side : (j : ℕ) → j < length ring.points → Ends a b (at ring.points j) (at ring.points (suc j)) → e ≡ mark_at ring j → EdgeFrom ring ds a b e
-  across : (j : ℕ) → j < length ds → Ends a b (get_or ds j no_cut_line).a (get_or ds j no_cut_line).b → e ≡ Straight → EdgeFrom ring ds a b e
+  side : (j : ℕ) → j < length ring.points → SameEnds a b (at ring.points j) (at ring.points (suc j)) → e ≡ mark_at ring j → EdgeFrom ring ds a b e
+  across : (j : ℕ) → j < length ds → SameEnds a b (get_or ds j no_cut_line).a (get_or ds j no_cut_line).b → e ≡ Straight → EdgeFrom ring ds a b e
 
 -- the corners of a piece are corners of the ring, and its edges such edges
 pub record PieceFrom (ring : Part) (ds : List CutLine) (p : Part) : Type 0 where

@@ -32,10 +32,10 @@ tried_of t = record { used = length t.nodes; fails = below (length t.cells) t.fa
 abbrev pub attempt_asks_in : Float → List Float → ℕ → Part → List Bool → List Ask
 attempt_asks_in share l u p bs = attempt_asks share (nodes_in l u) p.points (mark_at p) (side_at bs)
 
--- a fair piece, with room for the nodes of one attempt
+-- a valid piece, with room for the nodes of one attempt
 pub record CanTry (share : Float) (l : List Float) (u : ℕ) (p : Part) : Type 0 where
   pub usable : Usable l u
-  pub fair : ValidPiece p
+  pub valid : ValidPiece p
   pub fits : length (attempt_in share l u p).nodes ≤ most_places
   pub room : length (attempt_in share l u p).nodes * 2 ≤ length l
 
@@ -46,9 +46,9 @@ subdivide_in share l u p = subdivide share (nodes_in l u) p
 abbrev pub subdivide_asks_in : Float → List Float → ℕ → Part → List Bool → List Ask
 subdivide_asks_in share l u p bs = subdivide_asks share (nodes_in l u) p (side_at bs)
 
--- a fair piece, with room for the nodes of all attempts that are made
+-- a valid piece, with room for the nodes of all attempts that are made
 pub record CanSubdividePiece (share : Float) (l : List Float) (u : ℕ) (p : Part) : Type 0 where
   pub usable : Usable l u
-  pub fair : ValidPiece p
+  pub valid : ValidPiece p
   pub fits : length (subdivide_in share l u p).nodes ≤ most_places
   pub room : length (subdivide_in share l u p).nodes * 2 ≤ length l

@@ -31,6 +31,6 @@ pub record AskedOnRim (qs : List Ask) (k : ℕ) : Type 0 where
   pub for : ask.node ≡ k
 
 -- "set (1) exactly if the node was ever a corner or the middle of a ring edge, clear (0) if only a centre or the middle of a cut": the mark of node k
-pub data Told (qs : List Ask) (k : ℕ) : ℕ → Type 0 where
-  rim : AskedOnRim qs k → Told qs k 1
-  inside : ¬ AskedOnRim qs k → Told qs k 0
+pub data RimMark (qs : List Ask) (k : ℕ) : ℕ → Type 0 where
+  rim : AskedOnRim qs k → RimMark qs k 1
+  inside : ¬ AskedOnRim qs k → RimMark qs k 0

@@ -20,7 +20,7 @@ use Rattle.vector.proofs.Sheet.{origin_on}
 use Rattle.arclength.specs.Arclength.{point_at, arc, point_at_arclength}
 use Rattle.chain.specs.Chain as Chain
 use Rattle.chain.specs.Chain.{Stretch, no_stretch}
-use Rattle.chain.specs.Kept.{stretch_in, stretches_in, nowhere, Simplifies}
+use Rattle.chain.specs.Stretches.{stretch_in, stretches_in, nowhere, Simplifies}
 
 -- w is the last point kept
 pub record Collected (c : List GridPoint) (points : List GridPoint) (snaps : List Point) (count w i : ℕ) : Type 0 where

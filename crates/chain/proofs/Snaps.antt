@@ -58,7 +58,8 @@ module _ (c : List GridPoint) (h : ChainOnSheet c) where
       span = arc c (suc i) -f arc c i
 
       go : (b : Bool) → span ≤f nat 0 ≡ b
-          → InRange (cond b (in_mm (point_at c (suc i))) (lerp (in_mm (point_at c i)) (in_mm (point_at c (suc i))) (clamp (nat 0) (nat 1) ((s -f arc c i) /f span))))
+          → InRange (cond b (in_mm (point_at c (suc i)))
+          (lerp (in_mm (point_at c i)) (in_mm (point_at c (suc i))) (clamp (nat 0) (nat 1) ((s -f arc c i) /f span))))
       go true e = point_in_lem (point_at c (suc i)) (h.each (suc i))
       go false e =
           between_in (point_at c i) (point_at c (suc i)) (clamp (nat 0) (nat 1) ((s -f arc c i) /f span)) (h.each i) (h.each (suc i))
@@ -96,7 +97,8 @@ module _ (c : List GridPoint) (h : ChainOnSheet c) where
   stretches_in_lem zero a = λ k u. absurd (not-suc-le-zero u)
   stretches_in_lem (suc i) a = go (stays c i) (stretches_in_lem i (omega arith))
     where
-      go : (b : Bool) → SnapsInRange (stretches_to c i) → SnapsInRange (cond b (stretches_to c i ++ (stretch c (last_kept c i) (suc i) ∷ [])) (stretches_to c i))
+      go : (b : Bool) → SnapsInRange (stretches_to c i)
+          → SnapsInRange (cond b (stretches_to c i ++ (stretch c (last_kept c i) (suc i) ∷ [])) (stretches_to c i))
       go true g = one_more (stretches_to c i) (stretch c (last_kept c i) (suc i)) g (stretch_in_lem (last_kept c i) (suc i) (omega (arith, last_kept-le i)) a)
       go false g = g
 

@@ -12,9 +12,9 @@ ghost use Rattle.vector.specs.Size.{OnSheet};
 ghost use Rattle.vector.specs.Rings.{OnSheetPoints};
 ghost use Rattle.root.specs.Norm as Norm;
 ghost use Rattle.cosine.specs.Cosine as Cosine;
-ghost use Rattle.chain.specs.Kept.{Simplifies};
+ghost use Rattle.chain.specs.Stretches.{Simplifies};
 
-use cosine::Side;
+use cosine::Normed;
 use vector::{GridPoint, MOST_POINTS, Point};
 
 // A simplified chain: the points kept, in the places 0 to count, and in the places below count the snap point of the
@@ -39,7 +39,7 @@ fn stays(a: GridPoint, b: GridPoint, c: GridPoint, nu: f64, nv: f64, last: bool)
     let v = c.sub(b);
     last || u.is_zero()
         || v.is_zero()
-        || cosine::cosine(Side { step: u, norm: nu }, Side { step: v, norm: nv })
+        || cosine::cosine(Normed { step: u, norm: nu }, Normed { step: v, norm: nv })
             < 0.9063077870366499
 }
 

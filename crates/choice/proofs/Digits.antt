@@ -8,116 +8,75 @@ use mathlib.Core.Path.{◌≡◌, refl, sym, ap, ◌∙◌}
 use mathlib.Core.Bool.{Bool, true, false, not, cond}
 use mathlib.Core.List.{List, [], ◌∷◌, ◌++◌, append_assoc}
 use lib.ListN.{length, get_or, take, drop, replicate, length-append, length-drop}
-use lib.Seq.{take-suc, get_or-take, length-take-le, drop_at, drop-drop}
+use lib.Seq.{take-suc, length-take-le, drop-drop}
 use lib.Pow.{pow_pos}
 use lib.Dec.{eqb}
 use lib.IntN.{ℤ, pos}
 use lib.Count.{ones, ones_in, ones_cat}
 use borrow.Rule.Slice.PartMut.{put_mid}
 use borrow.Author.Tests.{eq-eqb, eqb-true, eqb-false}
-use Rattle.std.specs.Simd.{first_chunks}
-use Rattle.std.proofs.lemmas.List.{take-replicate}
-use Rattle.std.proofs.lemmas.Slice.{take-put_mid, take-put_mid_below}
+use Rattle.std.proofs.lemmas.Bool.{ne_eqb}
+use Rattle.std.proofs.lemmas.List.{drop-replicate}
+use Rattle.std.proofs.lemmas.Slice.{take-put_mid, drop-put_mid}
 use Rattle.laws.specs.Bounded.{any}
 use Rattle.laws.proofs.Booleans.{is_true}
 use Rattle.laws.proofs.Search.{any_at}
-use Rattle.choice.specs.Choice.{chosen, left_out, after_chosen}
+use Rattle.choice.specs.Choice.{chosen}
 
--- ---- the numbers of a ring, two and two: the first r pairs are its first r points
-abbrev pub point_at : List ℤ → ℕ → List ℤ
-point_at l i = get_or l (i * 2) (pos 0) ∷ get_or l (i * 2 + 1) (pos 0) ∷ []
+-- the numbers of point i
+abbrev pub numbers_at : List ℤ → ℕ → List ℤ
+numbers_at l i = get_or l (i * 2) (pos 0) ∷ get_or l (i * 2 + 1) (pos 0) ∷ []
 
-pair_at : (l : List ℤ) (n i : ℕ) → n * 2 ≤ length l → i < n → get_or (first_chunks 2 n l) i [] ≡ point_at l i
-pair_at [] n i h k = absurd (omega (arith, h, k))
-pair_at (x ∷ []) n i h k = absurd (omega (arith, h, k))
-pair_at (x ∷ y ∷ l) zero i h k = absurd (omega (arith, k))
-pair_at (x ∷ y ∷ l) (suc n) zero h k = refl
-pair_at (x ∷ y ∷ l) (suc n) (suc i) h k =
-    let e : suc (suc (i * 2)) ≡ suc i * 2 = omega arith in
-    let f : suc (suc (i * 2 + 1)) ≡ suc i * 2 + 1 = omega arith in
-    pair_at l n i (omega (arith, h)) (omega (arith, k))
-    ∙ (λ j. get_or (x ∷ y ∷ l) (e j) (pos 0) ∷ get_or (x ∷ y ∷ l) (f j) (pos 0) ∷ [])
+-- ---- the loop that chooses, at point i: `rest` is the choice without the digits of the points passed, and in ps stand the n numbers of those chosen, then 0
+pub record Written (l : List ℤ) (c i rest n : ℕ) (ps : List ℤ) : Type 0 where
+  pub digits : rest ≡ c / 2 ^ i
+  pub low : n ≤ i * 2
+  pub long : length ps ≡ 24
+  pub front : take n ps ≡ chosen l c i
+  pub after : drop n ps ≡ replicate (24 - n) (pos 0)
 
-pub pair-among : (l : List ℤ) (n r i : ℕ) (ps : List (List ℤ)) → ps ≡ first_chunks 2 n l → n * 2 ≤ length l → r ≤ n → i < r
-    → get_or (take r ps) i [] ≡ point_at l i
-pair-among l n r i ps e h m k =
-    get_or-take r ps i [] k ∙ ap (λ (qs : List (List ℤ)). get_or qs i []) e ∙ pair_at l n i h (omega (arith, m, k))
-
-pub length-mid : (n k : ℕ) (xs ys : List ℤ) → n + k ≤ length xs → length ys ≡ k → length (put_mid n k xs ys) ≡ length xs
-length-mid n k xs ys h e = simp length-append (omega (arith, length-take-le n xs (omega (arith, h)), length-drop n xs, length-drop k (drop n xs), h, e))
-
--- ---- a turn of the loop that chooses: the point p goes over the places after the first n, and counts if its digit is 1
-module _ (l : List ℤ) (c i : ℕ) (ps : List ℤ) (n m rest : ℕ) (p : List ℤ) (h : n ≤ length ps) (e : take n ps ≡ chosen l c i) (f : rest ≡ c / 2 ^ i)
-    (d : p ≡ point_at l i) where
-  pub choose-more : take (n + rest % 2 * 2) (put_mid n m ps p) ≡ chosen l c (i + 1)
-  unfolding chosen
-  choose-more = rw (add-one i) (go (eqb (c / 2 ^ i % 2) 1) refl)
-    where
-      go : (b : Bool) → eqb (c / 2 ^ i % 2) 1 ≡ b → take (n + rest % 2 * 2) (put_mid n m ps p) ≡ cond b (chosen l c i ++ point_at l i) (chosen l c i)
-      go true q =
-          let u : rest % 2 ≡ 1 = ap (λ (k : ℕ). k % 2) f ∙ eqb-true (c / 2 ^ i % 2) 1 q in
-          take-put_mid n m ps p _ (omega (arith, u, ap length d)) h ∙ (λ j. e j ++ d j)
-      go false q =
-          let g : rest % 2 ≡ c / 2 ^ i % 2 = ap (λ (k : ℕ). k % 2) f in
-          let u : n + rest % 2 * 2 ≡ n = omega (arith, eqb-false (c / 2 ^ i % 2) 1 q, g) in
-          rw u (take-put_mid_below n m ps p n (omega arith) h ∙ e)
-
--- what that leaves after the points that are chosen
-module _ (l : List ℤ) (c i : ℕ) (ps : List ℤ) (n rest : ℕ) (p : List ℤ) (z : length ps ≡ 24) (h : n + 2 ≤ 24) (f : rest ≡ c / 2 ^ i)
-    (e : drop n ps ≡ after_chosen l c i n) (d : p ≡ point_at l i) where
-  -- past the point that was left out, all is 0
-  past-out : drop 2 (drop n ps) ≡ take (22 - n) (replicate 24 (pos 0))
-  unfolding left_out
-  past-out = ap (drop 2) e ∙ (λ j. drop 2 (take (k j) (left_out l c i ++ replicate 24 (pos 0)))) ∙ go i
-    where
-      k : 24 - n ≡ suc (suc (22 - n))
-      k = omega arith
-
-      nil : drop 2 (take (suc (suc (22 - n))) (replicate 24 (pos 0))) ≡ take (22 - n) (replicate 24 (pos 0))
-      nil = take-replicate (22 - n) 22 (pos 0) (omega arith) ∙ sym (take-replicate (22 - n) 24 (pos 0) (omega arith))
-
-      by : (b : Bool) (x y : ℤ) → drop 2 (take (suc (suc (22 - n))) (cond b [] (x ∷ y ∷ []) ++ replicate 24 (pos 0))) ≡ take (22 - n) (replicate 24 (pos 0))
-      by true x y = nil
-      by false x y = refl
-
-      go : (i : ℕ) → drop 2 (take (suc (suc (22 - n))) (left_out l c i ++ replicate 24 (pos 0))) ≡ take (22 - n) (replicate 24 (pos 0))
-      go zero = nil
-      go (suc i) = by (eqb (c / 2 ^ i % 2) 1) (get_or l (i * 2) (pos 0)) (get_or l (i * 2 + 1) (pos 0))
-
-  -- what stands after the first n places
-  after-n : drop n (put_mid n 2 ps p) ≡ p ++ drop 2 (drop n ps)
-  after-n = drop_at (take n ps) (p ++ drop 2 (drop n ps)) n (length-take-le n ps (omega (arith, z, h)))
-
-  pub out-more : (w : ℕ) → w ≡ 2 → drop (n + rest % 2 * 2) (put_mid n w ps p) ≡ after_chosen l c (i + 1) (n + rest % 2 * 2)
-  unfolding left_out
-  out-more w ew = rw (ew, add-one i) (go (eqb (c / 2 ^ i % 2) 1) refl)
-    where
-      go : (b : Bool) → eqb (c / 2 ^ i % 2) 1 ≡ b
-          → drop (n + rest % 2 * 2) (put_mid n 2 ps p) ≡ take (24 - (n + rest % 2 * 2)) (cond b [] (point_at l i) ++ replicate 24 (pos 0))
-      go true q =
-          let u : n + rest % 2 * 2 ≡ n + 2 = omega (arith, ap (λ (k : ℕ). k % 2) f, eqb-true (c / 2 ^ i % 2) 1 q) in
-          let w : 24 - (n + 2) ≡ 22 - n = omega arith in
-          rw (u, w) (sym (drop-drop 2 n (put_mid n 2 ps p)) ∙ ap (drop 2) (after-n ∙ ap (λ (x : List ℤ). x ++ drop 2 (drop n ps)) d) ∙ past-out)
-      go false q =
-          let g : rest % 2 ≡ c / 2 ^ i % 2 = ap (λ (k : ℕ). k % 2) f in
-          let u : n + rest % 2 * 2 ≡ n = omega (arith, eqb-false (c / 2 ^ i % 2) 1 q, g) in
-          let w : 24 - n ≡ suc (suc (22 - n)) = omega arith in
-          rw (u, w) (after-n ∙ (λ j. d j ++ past-out j))
-
-pub none_out : (l : List ℤ) (c : ℕ) → replicate 24 (pos 0) ≡ after_chosen l c 0 0
-unfolding left_out
-none_out l c = refl
-
-pub rest_more : (c i rest : ℕ) → rest ≡ c / 2 ^ i → rest / 2 ≡ c / 2 ^ (i + 1)
-rest_more c i rest f =
-    ap (λ (k : ℕ). k / 2) f ∙ div-div-eq-div-mul c (2 ^ i) 2 ∙ ap (λ (k : ℕ). c / k) (sym (pow-suc 2 i) ∙ ap (λ (k : ℕ). 2 ^ k) (sym (add-one i)))
-
-pub rest-none : (c : ℕ) → c ≡ c / 2 ^ 0
-rest-none c = sym (div-one c)
-
-pub chosen_none : (l : List ℤ) (c : ℕ) → [] ≡ chosen l c 0
+pub written_none : (l : List ℤ) (c : ℕ) → Written l c 0 c 0 (replicate 24 (pos 0))
 unfolding chosen
-chosen_none l c = refl
+written_none l c = record { digits = sym (div-one c); low = omega arith; long = refl; front = refl; after = refl }
+
+module _ {l : List ℤ} {c i rest n : ℕ} {ps : List ℤ} (w : Written l c i rest n ps) where
+  digit : rest % 2 ≡ c / 2 ^ i % 2
+  digit = ap (λ (k : ℕ). k % 2) w.digits
+
+  passed : rest / 2 ≡ c / 2 ^ (i + 1)
+  passed =
+      ap (λ (k : ℕ). k / 2) w.digits
+      ∙ div-div-eq-div-mul c (2 ^ i) 2
+      ∙ ap (λ (k : ℕ). c / k) (sym (pow-suc 2 i) ∙ ap (λ (k : ℕ). 2 ^ k) (sym (add-one i)))
+
+  -- its digit is 1: its numbers p go over the next two places
+  pub written_more : (p : List ℤ) (k : ℕ) → rest % 2 ≡ 1 → n + 2 ≤ 24 → k ≡ 2 → p ≡ numbers_at l i → Written l c (i + 1) (rest / 2) (n + 2) (put_mid n k ps p)
+  unfolding chosen
+  written_more p k u h e d =
+      let two : length p ≡ 2 = ap length d in
+      let m : 24 - n - 2 ≡ 24 - (n + 2) = omega arith in
+      let one = eq-eqb (c / 2 ^ i % 2) 1 (sym digit ∙ u) in
+      record {
+        digits = passed;
+        low = omega (arith, w.low);
+        long =
+            simp length-append
+            (omega (arith, length-take-le n ps (omega (arith, w.long, h)), length-drop n ps, length-drop k (drop n ps), w.long, h, e, two));
+        front = take-put_mid n k ps p (n + 2) (omega (arith, two)) (omega (arith, w.long, h)) ∙ (λ j. w.front j ++ d j) ∙ rw (add-one i, one) refl;
+        after =
+            drop-put_mid n k ps p (n + 2) (omega (arith, e)) (omega (arith, w.long, h)) (omega (arith, two, e))
+            ∙ sym (drop-drop 2 n ps)
+            ∙ ap (drop 2) w.after
+            ∙ drop-replicate 2 (24 - n) (pos 0)
+            ∙ ap (λ (k : ℕ). replicate k (pos 0)) m;
+      }
+
+  -- it is another: nothing is written
+  pub written_same : (rest % 2 ≡ 1 → ⊥) → Written l c (i + 1) (rest / 2) n ps
+  unfolding chosen
+  written_same u =
+      let other = ne_eqb (c / 2 ^ i % 2) 1 (λ e. u (digit ∙ e)) in
+      record { digits = passed; low = omega (arith, w.low); long = w.long; front = w.front ∙ rw (add-one i, other) refl; after = w.after }
 
 -- ---- how many points are chosen
 low-digits : (c p : ℕ) → 0 < p → c % (p * 2) ≡ c / p % 2 * p + c % p

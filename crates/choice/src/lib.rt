@@ -5,8 +5,8 @@
 
 #![tactic(auto)]
 
-ghost use Rattle.std.specs.Prelude.{◌≡◌, ◌*◌, ◌^◌, ◌≤◌, length, take, drop};
-ghost use Rattle.choice.specs.Choice.{chosen, after_chosen};
+ghost use Rattle.std.specs.Prelude.{◌≡◌, ◌-◌, ◌*◌, ◌^◌, ◌≤◌, length, take, drop, replicate, pos};
+ghost use Rattle.choice.specs.Choice.{chosen};
 
 // The chosen points, x and y in turn, in the first `count` places. Kept: there is no heap, and so no list of its own length.
 #[derive(Clone, Copy)]
@@ -15,20 +15,21 @@ pub struct ChosenPoints {
     pub count: usize,
 }
 
-// Each point is written, and counted if it is chosen: the next one goes over it if not. So after the chosen points stands the
-// last point, if it isn't one of them, and then 0.
+// Only the chosen points are written, one after the other, so that every place after them is 0.
 pub fn choose(ring: &[i32], r: usize, choice: u32) -> ChosenPoints
     requires { (r ≤ 12) × (r * 2 ≤ length ring.now) }
     ensures { (take result.count result.points ≡ chosen ring.now choice r) × (result.count ≤ r * 2) × (length result.points ≡ 24)
-        × (drop result.count result.points ≡ after_chosen ring.now choice r result.count) }
+        × (drop result.count result.points ≡ replicate (24 - result.count) (pos 0)) }
 {
     let mut points = [0i32; 24];
     let mut count: usize = 0;
     let mut rest = choice;
     let (pairs, _) = ring.as_chunks::<2>();
     for p in &pairs[..r] {
-        points[count..count + 2].copy_from_slice(p);
-        count += (rest % 2) as usize * 2;
+        if rest % 2 == 1 {
+            points[count..count + 2].copy_from_slice(p);
+            count += 2;
+        }
         rest /= 2;
     }
     ChosenPoints { points, count }

@@ -4,8 +4,8 @@ use Rattle.std.specs.Prelude.{ℕ, zero, suc, ◌||◌, ◌&&◌, cond, List, le
 use Rattle.vector.specs.declared.GridPoint.{GridPoint}
 use Rattle.nearness.specs.Nearness.{tolerance}
 use Rattle.clean_steps.specs.Steps.{opened}
-pub use Rattle.clean_steps.specs.Choices.{pick, among, places, Rising}
-unfoldable pub use Rattle.clean_steps.specs.Choices.{spaced_places, bent_places}
+pub use Rattle.clean_steps.specs.Places.{pick, among, places, Rising}
+unfoldable pub use Rattle.clean_steps.specs.Places.{spaced_places, bent_places}
 
 -- "above 3 points .. if 3 or more remain"
 unfoldable pub straightened_places : Float → List GridPoint → List ℕ

@@ -18,7 +18,7 @@ use Rattle.vector.specs.declared.GridPoint.{GridPoint}
 use Rattle.vector.specs.Grid.{origin}
 use Rattle.nearness.specs.Nearness.{near}
 use Rattle.clean_steps.specs.Steps.{spaced, flat, bent}
-use Rattle.clean_steps.specs.Choices.{pick, among, places, spaced_places, bent_places, Rising}
+use Rattle.clean_steps.specs.Places.{pick, among, places, spaced_places, bent_places, Rising}
 
 -- ---- what stands in a list at given places: the points of a ring, or places among places
 module _ {A : Type 0} (d : A) (l : List A) where

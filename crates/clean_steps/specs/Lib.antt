@@ -1,4 +1,4 @@
 -- The steps of a pass, of the points and of their places.
 pub mod Steps
-pub mod Choices
-pub mod Chosen
+pub mod Places
+pub mod KeptPlaces

@@ -28,7 +28,7 @@ use Rattle.laws.proofs.Signed.{product}
 use Rattle.laws.proofs.UnitInterval.{nonpos}
 use Rattle.vector.specs.declared.GridPoint.{GridPoint}
 use Rattle.vector.specs.Grid.{origin, dot, cross, same, sub, at, prev}
-use Rattle.vector.specs.Size.{Step, AllOnSheet}
+use Rattle.vector.specs.Size.{SheetStep, AllOnSheet}
 use Rattle.vector.proofs.Sheet.{step, at_on, prev_on}
 use Rattle.corner.specs.Corner.{quotient, by_quadrant, measure, measure_at}
 use Rattle.corner.proofs.Steps.{moving}
@@ -133,7 +133,7 @@ by_quadrant_lem false false true q f g = left q (f tt) (above q (g tt))
 by_quadrant_lem false false false q f g = subst (λ z. Measured (z +f q)) (sym four_is) (right q (f tt) (below q (g tt)))
 
 -- ---- the measure of two steps
-sums : (u v : GridPoint) → Step u → Step v → nat_abs (cross u v) + nat_abs (dot u v) ≤ 2 ^ 53
+sums : (u v : GridPoint) → SheetStep u → SheetStep v → nat_abs (cross u v) + nat_abs (dot u v) ≤ 2 ^ 53
 unfolding cross dot
 sums u v h k =
     omega (
@@ -150,7 +150,7 @@ sign-is : (z : ℤ) → minus_sign z ≡ not (non_neg z)
 sign-is (pos n) = refl
 sign-is (negsuc n) = refl
 
-pub measure-is : (u v : GridPoint) → Step u → Step v → Measured (measure u v)
+pub measure-is : (u v : GridPoint) → SheetStep u → SheetStep v → Measured (measure u v)
 unfolding measure
 measure-is u v h k =
     by_quadrant_lem (same u origin || same v origin) (non_neg (dot u v)) (non_neg (cross u v)) (quotient (cross u v) (dot u v))

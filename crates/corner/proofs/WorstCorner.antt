@@ -2,7 +2,6 @@
 -- This holds for every part, whatever its count and its measures. With the points on the sheet there is no second such corner.
 use Prim.Native.Nat.{ℕ, zero, suc, ◌-◌, ◌≤◌, ◌<◌}
 use native.Mathlib.Nat.{eq-or-lt_of_le, le_of_suc-le-suc}
-use native.Mathlib.Decide.{dec_lt}
 use native.Mathlib.Omega.{arith}
 use mathlib.Core.Path.{◌≡◌, refl, sym, subst}
 use mathlib.Core.Logic.{◌⊎◌, inl, inr}
@@ -53,7 +52,8 @@ worst-step r i w h false e =
     go j (inr g) = h.above j (le_of_suc-le-suc g)
     go j (inl q) =
         subst (λ n. T (not (measure_at r w <f measure_at r n))) (sym q)
-        (not_T (measure_at r w <f measure_at r (suc i)) (λ k. T_not (measure_at r w ≤f measure_at r (suc i)) less (lt→le (measure_at r w) (measure_at r (suc i)) k)))
+        (not_T (measure_at r w <f measure_at r (suc i))
+        (λ k. T_not (measure_at r w ≤f measure_at r (suc i)) less (lt→le (measure_at r w) (measure_at r (suc i)) k)))
 
     end : (j : ℕ) → w < j → (j ≡ suc i) ⊎ (j < suc i) → T (not (measure_at r w ≤f measure_at r j))
     end j f (inr g) = h.last j f (le_of_suc-le-suc g)
@@ -64,7 +64,8 @@ unfolding worst_to
 worst-to r zero =
     record {
       low = omega arith;
-      above = λ j g. subst (λ n. T (not (measure_at r 0 <f measure_at r n))) (nought j g) (not_T (measure_at r 0 <f measure_at r 0) (lt_irrefl_f (measure_at r 0)));
+      above =
+          λ j g. subst (λ n. T (not (measure_at r 0 <f measure_at r n))) (nought j g) (not_T (measure_at r 0 <f measure_at r 0) (lt_irrefl_f (measure_at r 0)));
       last = λ j f g. absurd (omega arith);
     }
   where
@@ -89,12 +90,8 @@ not-before r v w a h k g =
     (not_lt→le (measure_at r w) (measure_at r v) (measure_at-is r w a).number (measure_at-is r v a).number (k.above v h.place))
 
 pub worst-only : (r : List GridPoint) → AllOnSheet r → (v : ℕ) → 0 < length r → Worst r v → v ≡ worst r
-worst-only r a v p h = go (dec_lt v (worst r)) (dec_lt (worst r) v)
-  where
-    k : Worst r (worst r)
-    k = worst-is r p
-
-    go : Dec (v < worst r) → Dec (worst r < v) → v ≡ worst r
-    go (yes g) d = absurd (not-before r v (worst r) a h k g)
-    go (no f) (yes g) = absurd (not-before r (worst r) v a k h g)
-    go (no f) (no g) = omega arith
+worst-only r a v p h =
+    let k = worst-is r p in
+    let before : v < worst r → ⊥ = not-before r v (worst r) a h k in
+    let after : worst r < v → ⊥ = not-before r (worst r) v a k h in
+    omega arith

@@ -8,7 +8,7 @@
 ghost use Rattle.std.specs.Prelude.{◌≡◌, ◌^◌, ◌≤◌, ◌<◌, nat_abs, length};
 ghost use Rattle.laws.specs.Double.{nat};
 ghost use Rattle.vector.specs.Grid as Grid;
-ghost use Rattle.vector.specs.Size.{OnSheet, Step};
+ghost use Rattle.vector.specs.Size.{OnSheet, SheetStep};
 ghost use Rattle.vector.specs.Rings.{OnSheetPoints};
 ghost use Rattle.corner.specs.Corner as Corners;
 
@@ -54,7 +54,7 @@ fn quotient(s: i64, c: i64) -> f64
 // The measure of the corner between the step u into it and the step v out of it.
 #[tactic(auto, using(laws::proofs::Signed::back, laws::proofs::Constants::two_bits, laws::proofs::Constants::four_bits, laws::proofs::SignedTests::from_zero), unfolding(crate::specs::Corner::measure, crate::specs::Corner::by_quadrant))]
 fn measure(u: GridPoint, v: GridPoint) -> f64
-    requires { Step u × Step v }
+    requires { SheetStep u × SheetStep v }
     ensures { result ≡ Corners.measure u v }
 {
     if u.is_zero() || v.is_zero() {

@@ -32,7 +32,7 @@ use Rattle.vector.specs.declared.GridPoint.{GridPoint}
 use Rattle.vector.specs.declared.Point.{Point}
 use Rattle.vector.specs.Grid as Grid
 use Rattle.vector.specs.Plane as Plane
-use Rattle.vector.specs.Size.{Step}
+use Rattle.vector.specs.Size.{SheetStep}
 use Rattle.vector.proofs.RustDoubles as exact
 use Rattle.vector.proofs.Sheet.{dot-fits}
 use Rattle.root.specs.Norm.{norm, grid_norm}
@@ -59,7 +59,7 @@ product_above x y p q h k =
         let v : d ≤ b * 2 ^ 13 = omega arith in
         omega (arith, mul-le-mul u v, ap (λ (z : ℕ). a * z) f, ap (λ (z : ℕ). z * b) e)
 
-module _ (a b : GridPoint) (h : Step a) (k : Step b) where
+module _ (a b : GridPoint) (h : SheetStep a) (k : SheetStep b) where
   abbrev norms : Float
   norms = grid_norm a *f grid_norm b
 
@@ -95,7 +95,7 @@ cosine-is : (a b : GridPoint) → cosine a b ≡ cond (Grid.same a Grid.origin |
 unfolding cosine
 cosine-is a b = λ i. cond (Grid.same a Grid.origin || Grid.same b Grid.origin) (one-is i) (clamp (minus_one_is i) (one-is i) (quotient a b))
 
-module _ (a b : GridPoint) (h : Step a) (k : Step b) where
+module _ (a b : GridPoint) (h : SheetStep a) (k : SheetStep b) where
   real : Grid.same a Grid.origin ≡ false → Grid.same b Grid.origin ≡ false → T (not (is_nan (quotient a b)))
   real p q =
       quotient-real binary64 (mm² (Grid.dot a b)) (grid_norm a *f grid_norm b)
@@ -120,7 +120,7 @@ minus-one_is_z = (true, 1, (refl, refl), refl)
 one_is_z : IsZ one (pos 1) 1
 one_is_z = (false, 1, (refl, refl), refl)
 
-module _ (a b : GridPoint) (h : Step a) (k : Step b) where
+module _ (a b : GridPoint) (h : SheetStep a) (k : SheetStep b) where
   abbrev dot_mm : Float
   dot_mm = Plane.dot (Plane.in_mm a) (Plane.in_mm b)
 
@@ -158,7 +158,8 @@ module _ (a b : GridPoint) (h : Step a) (k : Step b) where
       one-self = let r = le_refl_f one one_in_range.0 in le_antisym_f one one r r
 
       zeros : (p q : Bool) → Grid.same a Grid.origin ≡ p → Grid.same b Grid.origin ≡ q → Grid.dot a b ≡ pos 0
-          → T (eq (cond (p || q) one (clamp minus_one_of one (dot_mm /f (grid_norm a *f grid_norm b)))) (cond (p || q) one (clamp minus_one_of one (quotient a b))))
+          → T (eq (cond (p || q) one (clamp minus_one_of one (dot_mm /f (grid_norm a *f grid_norm b))))
+          (cond (p || q) one (clamp minus_one_of one (quotient a b))))
       zeros true q e f z = one-self
       zeros false true e f z = one-self
       zeros false false e f z =

@@ -6,36 +6,36 @@
 #![tactic(auto)]
 
 ghost use Rattle.std.specs.Prelude.{◌≡◌};
-ghost use Rattle.vector.specs.Size.{Step};
+ghost use Rattle.vector.specs.Size.{SheetStep};
 ghost use Rattle.root.specs.Norm.{grid_norm};
 ghost use Rattle.cosine.specs.Cosine as Cosine;
 
 use vector::GridPoint;
 
-// A side of an angle: a step with its norm, so that a caller that compares one step with several computes its norm once.
+// A step with its norm, so that a caller that compares one step with several computes its norm once.
 #[derive(Clone, Copy)]
-pub struct Side {
+pub struct Normed {
     pub step: GridPoint,
     pub norm: f64,
-    ghost is_step: { Step step },
+    ghost is_step: { SheetStep step },
     ghost is_norm: { norm ≡ grid_norm step },
 }
 
-impl Side {
-    pub fn new(step: GridPoint) -> Side
-        requires { Step step }
+impl Normed {
+    pub fn new(step: GridPoint) -> Normed
+        requires { SheetStep step }
         ensures { result.step ≡ step }
     {
-        Side {
+        Normed {
             step,
             norm: root::grid_norm(step),
         }
     }
 }
 
-// The cosine of the angle between two sides.
+// The cosine of the angle between two steps.
 #[tactic(auto, using(laws::proofs::Signed::back, laws::proofs::Constants::one_is, laws::proofs::Clamp::sign_clamp), unfolding(crate::specs::Cosine::cosine))]
-pub fn cosine(a: Side, b: Side) -> f64
+pub fn cosine(a: Normed, b: Normed) -> f64
     ensures { result ≡ Cosine.cosine a.step b.step }
 {
     if a.step.is_zero() || b.step.is_zero() {

@@ -22,7 +22,7 @@ use Rattle.simple.specs.Simple.{point_in_polygon}
 use Rattle.marks.specs.Part.{Part}
 use Rattle.limits.specs.declared.Limits.{Limits}
 use Rattle.judge.specs.Judge.{in_range}
-use Rattle.obstacles.specs.Obstacles.{blocks, runs_over, unobstructed}
+use Rattle.obstacles.specs.Obstacles.{crosses_edge, runs_over, unobstructed}
 use Rattle.diagonal.specs.Diagonal.{cosine_next, cosine_prev, meets_rule}
 use Rattle.parts.specs.Cut.{rotate}
 use Rattle.split.specs.Split.{Cut, split_bad_vertices}
@@ -45,7 +45,8 @@ rule_clear : (L : Limits) (r : List GridPoint) (k : ℕ) → T (meets_rule L r k
 unfolding meets_rule unobstructed runs_over
 rule_clear L r k t i h =
     any_none (runs_over r k) (length r)
-    (last (point_in_polygon r (lerp (in_mm (at r 0)) (in_mm (at r k)) (lit 5 1)) && not (any (blocks r k) (length r))) (not (any (runs_over r k) (length r)))
+    (last (point_in_polygon r (lerp (in_mm (at r 0)) (in_mm (at r k)) (lit 5 1)) && not (any (crosses_edge r k) (length r)))
+    (not (any (runs_over r k) (length r)))
     (second (not (same (at r 0) (at r k))) (unobstructed r k) (in_range L (cosine_next r k)) (in_range L (cosine_prev r k)) t))
     i h
 

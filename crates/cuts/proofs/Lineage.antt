@@ -130,7 +130,8 @@ passed_apart {i = i} {j = j} a b n e = go (dec_lt a.place 2)
         let x : suc i ≡ suc j = sym (a.far f) ∙ e ∙ b.far (subst (λ (k : ℕ). 2 ≤ k) e f) in
         n (omega (arith, x))
 
-beside-cut : (l : List Cut) (c : Cut) (w : List Part) → Deals c → (x : Cut) → Beside l (c.part ∷ w) x → Beside (c ∷ l) (second_part_of c ∷ first_part_of c ∷ w) x
+beside-cut : (l : List Cut) (c : Cut) (w : List Part)
+    → Deals c → (x : Cut) → Beside l (c.part ∷ w) x → Beside (c ∷ l) (second_part_of c ∷ first_part_of c ∷ w) x
 beside-cut l c w e x b =
     let f = passed_on l c w e (diagonal x) (first_part_of x) b.i b.first in
     let s = passed_on l c w e (diagonal x) (second_part_of x) b.j b.second in
@@ -159,6 +160,8 @@ following L ring s =
     (λ x b. subst (λ (w : List Part). Beside l w x) (append_assoc ps o (p ∷ [])) (beside-out l p (ps ++ o) x b)) l i)
     (λ p ps o c t l k f h i.
     let d = cut-deals f in
-    let e = cut p k in
-    (own l e (ps ++ o) d, all-weaken (Beside l (p ∷ (ps ++ o))) (Beside (e ∷ l) (second_part_of e ∷ first_part_of e ∷ (ps ++ o))) (beside-cut l e (ps ++ o) d) l i))
+    let e = cut p k in (
+      own l e (ps ++ o) d,
+      all-weaken (Beside l (p ∷ (ps ++ o))) (Beside (e ∷ l) (second_part_of e ∷ first_part_of e ∷ (ps ++ o))) (beside-cut l e (ps ++ o) d) l i,
+    ))
     ring s tt

@@ -87,7 +87,8 @@ loop-cut a xs z ys =
     ∙ ap (λ x. walk a ((xs ++ (z ∷ [])) ++ (a ∷ [])) +ℤ x) (sym (ap (walk z) (append_assoc ys (a ∷ []) (z ∷ [])) ∙ walk_join z ys a (z ∷ [])))
 
 -- ---- the sum by index is the sum round the ring
-path_snoc : (r : List GridPoint) (i : ℕ) (z : GridPoint) → i < length r → path (take (suc i) r ++ (z ∷ [])) ≡ path (take (suc i) r) +ℤ term (get_or r i origin) z
+path_snoc : (r : List GridPoint) (i : ℕ) (z : GridPoint)
+    → i < length r → path (take (suc i) r ++ (z ∷ [])) ≡ path (take (suc i) r) +ℤ term (get_or r i origin) z
 unfolding walk
 path_snoc r i z h =
     let g : GridPoint = get_or r i origin in

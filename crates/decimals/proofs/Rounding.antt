@@ -9,7 +9,7 @@ use native.Mathlib.Decide.{dec_le}
 use lib.Ieee.{nearest}
 use Rattle.laws.proofs.HalfUlp.{Cmp, cmp}
 use Rattle.decimals.specs.Rounded.{half_even}
-use Rattle.decimals.specs.Nearest.{Nearest}
+use Rattle.decimals.specs.Nearest.{NearestEven}
 
 -- ---- `nearest` by an order, the three ways of a program
 module _ (n d : ℕ) where
@@ -41,7 +41,7 @@ module _ (n d : ℕ) where
       go Ordering.gt k = absurd (omega arith)
 
 -- ---- the result is nearest
-by_parts : (n d q r N : ℕ) (o : Ordering) → q * d + r ≡ n → r < d → Cmp o (r * 2) d → N ≡ nearest q o → Nearest n d N
+by_parts : (n d q r N : ℕ) (o : Ordering) → q * d + r ≡ n → r < d → Cmp o (r * 2) d → N ≡ nearest q o → NearestEven n d N
 by_parts n d q r N Ordering.lt e l c s =
     let p : N * d ≡ q * d = ap (λ (z : ℕ). z * d) s in
     record { not_low = omega arith; not_high = omega arith; even_low = λ h. absurd (omega arith); even_high = λ h. absurd (omega arith) }
@@ -54,12 +54,12 @@ by_parts n d q r N Ordering.eq e l c s =
     let even : N % 2 ≡ 0 = omega arith in
     record { not_low = omega arith; not_high = omega arith; even_low = λ h. even; even_high = λ h. even }
 
-pub half-nearest : (n d : ℕ) → 0 < d → Nearest n d (half_even n d)
+pub half-nearest : (n d : ℕ) → 0 < d → NearestEven n d (half_even n d)
 unfolding half_even
 half-nearest n d D = by_parts n d (n / d) (n % d) (half_even n d) (compare (n % d * 2) d) (div-add-mod' n d) (mod-lt n D) (cmp (n % d * 2) d) refl
 
 -- ---- and nothing else is
-not-above : (n d N M : ℕ) → 0 < d → Nearest n d N → Nearest n d M → N < M → ⊥
+not-above : (n d N M : ℕ) → 0 < d → NearestEven n d N → NearestEven n d M → N < M → ⊥
 not-above n d N M D a b h =
     let k = M - suc N in
     let m : M ≡ suc N + k = omega arith in
@@ -70,7 +70,7 @@ not-above n d N M D a b h =
     let w : k < 1 = le_of_mul-le-mul_right {k = d} (omega (arith, suc-mul k d)) D in
     omega arith
 
-pub nearest_unique : (n d N M : ℕ) → 0 < d → Nearest n d N → Nearest n d M → N ≡ M
+pub nearest_unique : (n d N M : ℕ) → 0 < d → NearestEven n d N → NearestEven n d M → N ≡ M
 nearest_unique n d N M D a b = go (dec_le N M) (dec_le M N)
   where
     go : Dec (N ≤ M) → Dec (M ≤ N) → N ≡ M
@@ -99,7 +99,7 @@ module _ (n d m c N : ℕ) (D : 0 < d) (C : 0 < c) (e : n * c ≡ m * d) where
   high-c : (2 * n + d) * c ≡ (2 * m + c) * d
   high-c = omega (arith, add-mul (2 * n) d c, add-mul (2 * m) c d, left-c, both)
 
-  pub nearest-same : Nearest n d N → Nearest m c N
+  pub nearest-same : NearestEven n d N → NearestEven m c N
   nearest-same a = record {
     not_low = le_of_mul-le-mul_right {k = d} (omega (arith, mul-le-mul_right c a.not_low, left-c, right-c)) D;
     not_high = le_of_mul-le-mul_right {k = d} (omega (arith, mul-le-mul_right c a.not_high, low-c, high-c)) D;
@@ -121,7 +121,7 @@ half-none n d D h =
 pub half_le : (n d B : ℕ) → 0 < d → n ≤ B * d → half_even n d ≤ B
 half_le n d B D h = go (half_even n d) (half-nearest n d D) (dec_le (half_even n d) B)
   where
-    go : (N : ℕ) → Nearest n d N → Dec (N ≤ B) → N ≤ B
+    go : (N : ℕ) → NearestEven n d N → Dec (N ≤ B) → N ≤ B
     go N a (yes p) = p
     go N a (no p) =
         let k = N - suc B in

@@ -6,7 +6,7 @@ use mathlib.Core.List.{List, [], ◌∷◌, ◌++◌}
 use native.Mathlib.Omega.{arith}
 use lib.ListN.{length, length-append}
 use lib.Ieee.{Float}
-use Rattle.text.specs.Text.{bytes, decimal, marks, filled_to, filled_by, part, takes, filled}
+use Rattle.text.specs.Text.{bytes, decimal, slots, filled_to, filled_by, stands_for, takes, filled}
 use Rattle.text.proofs.Decimal.{one-digit, at-most_20}
 use Rattle.decimals.specs.Rounded.{ten_thousandths, minus}
 use Rattle.decimals.specs.Shown.{decimals, shown}
@@ -24,7 +24,7 @@ digit n = (48 + n) ∷ []
 filled_is : (m : Bool) (a b c d e : ℕ)
     → filled (cond m (bytes "-#.####") (bytes "#.####")) (a ∷ b ∷ c ∷ d ∷ e ∷ [])
     ≡ sign m ++ decimal a ++ point ++ decimal b ++ decimal c ++ decimal d ++ decimal e
-unfolding filled_by filled_to marks part takes bytes
+unfolding filled_by filled_to slots stands_for takes bytes
 filled_is true a b c d e = refl
 filled_is false a b c d e = refl
 

@@ -39,7 +39,7 @@ pub fn half_even(p: u64, s: u64) -> u64
 
 // How many ten-thousandths x has. With the field f and the digits t it is (2^52 + t) * 2^(f - 1075), and ten thousand times
 // that is (2^52 + t) * 625 over 2^(1071 - f). Where f is below 1008 that is less than a half.
-pub fn ten_thousandths(x: f64) -> u64
+fn ten_thousandths(x: f64) -> u64
     requires { Within 1024 x }
     ensures { result ≡ Rounded.ten_thousandths x }
 {

@@ -13,7 +13,7 @@ ghost use Rattle.diagonal.specs.Diagonal as Diagonals;
 ghost use Rattle.diagonal.specs.Answer.{answer};
 ghost use Rattle.diagonal.specs.Best.{wins};
 
-use cosine::Side;
+use cosine::Normed;
 use limits::Limits;
 use vector::GridPoint;
 
@@ -38,8 +38,8 @@ pub fn best_diagonal(limits: Limits, part: &[GridPoint]) -> Option<usize>
 {
     let n = part.len();
     let o = part[0];
-    let next = Side::new(part[1].sub(o));
-    let prev = Side::new(part[n - 1].sub(o));
+    let next = Normed::new(part[1].sub(o));
+    let prev = Normed::new(part[n - 1].sub(o));
     let mut best: Option<Best> = None;
     // Kept: the range says which corners are asked, from 2 to n - 2. Over the part's points, of which this reads one a turn, it would
     // be `enumerate().take(n - 1).skip(2)`, for a k that is needed all the same.

@@ -91,23 +91,16 @@ module _ (L : Limits) (e r : ℕ) (p : Part) (l : List Float) (u : ℕ) (t q : L
           held = b.held;
           prepared =
               subst (λ (p : Part). Prepared L r p x) (sym b.part)
+              (h.prepared x
               (record {
-                few = h.few;
-                fewer = h.fewer;
-                sheet = h.sheet;
-                edged = h.edged;
-                snaps = h.snaps;
-                ready =
-                    record {
-                      listed = tested.listed;
-                      stored = omega (arith, at, g, n);
-                      places = tested.places;
-                      used = tested.used;
-                      rimmed = tested.rimmed;
-                      nodes_free = tested.nodes_free;
-                      cells_free = omega (arith, at, g, n);
-                    };
-              });
+                listed = tested.listed;
+                stored = omega (arith, at, g, n);
+                places = tested.places;
+                used = tested.used;
+                rimmed = tested.rimmed;
+                nodes_free = tested.nodes_free;
+                cells_free = omega (arith, at, g, n);
+              }));
         }
 
 -- ---- a call with a chain

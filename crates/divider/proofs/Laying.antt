@@ -100,7 +100,7 @@ module _ (L : Limits) (r : ℕ) (m : MarkedRing) (l : List Float) (u : ℕ) (rs 
           record {
             usable = usable;
             sheet = o;
-            fair = λ i b. subst (λ (y : List Part). ValidPiece (get_or y i no_part)) (sym shown.pieces) (NodeList.fair L r p x s i (rw count_is at b));
+            valid = λ i b. subst (λ (y : List Part). ValidPiece (get_or y i no_part)) (sym shown.pieces) (NodeList.valid L r p x s i (rw count_is at b));
             fits = rw outcome-is (omega (arith, node-room, length_in l (length l / 2), h.ready.places));
             room = rw outcome-is (omega (arith, node-room));
             corners = rw e (subst (λ (n : ℕ). n ≤ cell_reserve L r) (λ j. corners_to (sym shown.pieces j) (sym count_is j)) corners);

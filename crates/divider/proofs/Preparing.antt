@@ -15,7 +15,7 @@ use Rattle.vector.proofs.Rings.{room}
 use Rattle.chain.specs.declared.Simplified.{Simplified}
 use Rattle.chain.specs.Chain.{simplify_chain}
 use Rattle.chain.specs.Range.{ChainOnSheet}
-use Rattle.chain.specs.Kept.{stretches_in, Simplifies}
+use Rattle.chain.specs.Stretches.{stretches_in, Simplifies}
 use Rattle.clean.specs.declared.CleanedRing.{CleanedRing}
 use Rattle.clean.specs.Clean.{clean_polygon}
 use Rattle.clean.specs.Rings.{Cleaned}
@@ -56,10 +56,15 @@ passing L ring chain size z =
       cuts = p.cuts;
       from = p.from;
       few = p.to;
-      fewer = omega (arith, clean_length size ps, length_tab (point_in ring) (length ring / 2));
-      sheet = clean_each OnSheet size ps p.sheet;
-      edged = marked-many (simplify_chain qs) (clean_polygon size ps);
-      snaps = marked_in_range qs h (clean_polygon size ps);
+      prepared =
+          λ x y. record {
+            few = p.to;
+            fewer = omega (arith, clean_length size ps, length_tab (point_in ring) (length ring / 2));
+            sheet = clean_each OnSheet size ps p.sheet;
+            edged = marked-many (simplify_chain qs) (clean_polygon size ps);
+            snaps = marked_in_range qs h (clean_polygon size ps);
+            ready = y;
+          };
     }
 
 module _ (ring chain : List ℤ) (size : ℕ) (own run : Ring) (a : points_of own ≡ all_points ring) (b : points_of run ≡ all_points chain)

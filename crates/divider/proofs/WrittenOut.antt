@@ -13,7 +13,7 @@ use Rattle.laws.specs.Table.{tab}
 use Rattle.laws.proofs.Table.{length_tab, part_tab}
 use Rattle.laws.proofs.WrittenOut as written
 use Rattle.vector.specs.declared.Point.{Point}
-use Rattle.nodes.specs.Flat.{nodes_in, two, flat, over}
+use Rattle.nodes.specs.Flat.{nodes_in, two, flat_nodes, over}
 use Rattle.nodes.proofs.Flat.{length_in, over_in}
 use Rattle.quads.specs.declared.Cell.{Cell}
 use Rattle.quads.specs.Flat.{four, flat_cells, over_cells}
@@ -43,7 +43,7 @@ module _ (l : List Float) where
   unfolding over
   nodes-out ns h =
       written.put-out two 2 (λ p. refl) l nodes_of (over_in l node_places fits) 0 ns (omega (arith, length_in l node_places))
-      ∙ (λ j. flat ns ++ drop (zero-add (length ns) j * 2) l)
+      ∙ (λ j. flat_nodes ns ++ drop (zero-add (length ns) j * 2) l)
 
 -- ---- cells, four numbers each
 -- cell i of l is its four numbers from 4 i on

@@ -1,22 +1,18 @@
 -- The steps of a call: the ring that it prepares, as an array holds it, and what the core asks for. Definitions only.
 use Rattle.std.specs.Prelude.{ℕ, ◌+◌, ◌/◌, ◌≤◌, ◌≡◌, cond, eqb, List, ℤ, length, Float, Result, Ok, Err}
-use Rattle.vector.specs.declared.Point.{Point}
 use Rattle.vector.specs.Size.{AllOnSheet}
 use Rattle.vector.specs.Rings.{most_points}
-use Rattle.marks.specs.declared.EdgeMark.TheVariants.{Snap}
 use Rattle.marks.specs.declared.MarkedRing.{MarkedRing}
 use Rattle.marks.specs.Part.{Part}
 use Rattle.marks.specs.Edges.{part_in, ValidMarkedRing}
 use Rattle.limits.specs.declared.Limits.{Limits}
-use Rattle.nodes.specs.Growth.{InRange}
-use Rattle.cells.specs.Stages.{mark_at}
 use Rattle.table.specs.declared.Answer.{Answer}
 use Rattle.table.specs.declared.Refusal.{Refusal}
 use Rattle.table.specs.declared.Row.{Row}
 use Rattle.table.specs.Answers.{values, number_of, refused_row}
 use Rattle.call.specs.Call.{Lists, cell_reserve}
 use Rattle.call.specs.Divide.{CallAnswer, refused, refused_or, core, start_of}
-use Rattle.call.specs.Demand.{Prepared}
+use Rattle.call.specs.Demand.{Ready, Prepared}
 use Rattle.call.specs.Marked.{all_points}
 use Rattle.call.specs.Lent.{all_cells, LentRecords, call_of_records, tests_by, lent_lists}
 use Rattle.entry.specs.Refusal.{lists_refusal}
@@ -27,15 +23,13 @@ pub record OnPaper (l : List ℤ) : Type 0 where
   pub few : length l / 2 ≤ most_points
   pub sheet : AllOnSheet (all_points l)
 
--- a ring of r points, cleaned to p with its marks, passed the tests before those of the lists, and the set is of at most 32 cuts
+-- a ring of r points, cleaned to p with its marks, passed the tests before those of the lists: over any lists that are ready for it, it is prepared; and the
+-- set has at most 32 cuts
 pub record Passing (L : Limits) (r : ℕ) (p : Part) : Type 0 where
   pub cuts : L.cuts ≤ 32
   pub from : 3 ≤ r
   pub few : r ≤ most_points
-  pub fewer : length p.points ≤ r
-  pub sheet : AllOnSheet p.points
-  pub edged : length p.edges ≡ length p.points
-  pub snaps : (i : ℕ) (q : Point) → mark_at p i ≡ Snap q → InRange q
+  pub prepared : (x : Lists) → Ready L r x → Prepared L r p x
 
 -- m is the cleaned ring p with its marks
 pub record Prepares (p : Part) (m : MarkedRing) : Type 0 where

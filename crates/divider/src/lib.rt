@@ -111,7 +111,7 @@ fn lay_out(
 
 // The core, which every entry calls: a ring of `own` points, cleaned and with its marks, wherever they came from, and the
 // used nodes nearby. Refusals 5 to 7, or its pieces and their cells.
-pub fn divide_core(
+fn divide_core(
     limits: Limits,
     ring: &MarkedRing,
     own: usize,
@@ -134,7 +134,7 @@ pub fn divide_core(
 }
 
 // The answer of a call: that of its last step, or the refusal of one, with the caller's two counts.
-pub fn answer_of(step: Result<Answer, Refusal>, nodes: usize, cells: usize) -> Answer
+fn answer_of(step: Result<Answer, Refusal>, nodes: usize, cells: usize) -> Answer
     ensures { Answers.values result ≡ returned step nodes cells }
 {
     step.unwrap_or_else(|why| Answer::Refused { why, nodes, cells })
@@ -170,7 +170,7 @@ fn divide_steps<R: Request>(
 {
     request.refusal(limits)?;
     let own = request.own();
-    let w = request.window(limits);
+    let w = request.ring_box(limits);
     let mut numbers = [0; MOST_NEARBY];
     let mut xs = [0.0; MOST_NEARBY];
     let near = entry::lists_refusal(

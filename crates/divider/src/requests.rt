@@ -16,7 +16,7 @@ ghost use Rattle.divider.specs.Steps.{Passing, Prepares};
 
 use limits::Limits;
 use marks::MarkedRing;
-use nodes::Window;
+use nodes::RingBox;
 use table::Refusal;
 
 // What a call asks to be divided. Its ghost members say what its tests answer and what ring the core gets.
@@ -38,8 +38,8 @@ pub trait Request: Copy {
     fn own(self) -> usize
         ensures { result ≡ points self };
 
-    // The window in which used nodes are collected.
-    fn window(self, limits: Limits) -> Window
+    // The box in which used nodes are collected.
+    fn ring_box(self, limits: Limits) -> RingBox
         ensures { Framed result };
 
     fn prepared(self) -> MarkedRing
@@ -70,8 +70,8 @@ impl<'a> Request for ByChain<'a> {
         self.ring.len() / 2
     }
 
-    fn window(self, limits: Limits) -> Window {
-        extent::window(self.ring, self.chain)
+    fn ring_box(self, limits: Limits) -> RingBox {
+        extent::ring_box(self.ring, self.chain)
     }
 
     fn prepared(self) -> MarkedRing {

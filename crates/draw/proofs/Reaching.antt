@@ -1,4 +1,5 @@
--- The loop of `draw`: it begins with no byte read, a byte more keeps the invariant and brings the end nearer, and where it ends the run is finished.
+-- The loop of `draw`: it begins with no byte read, a byte more keeps what was reached (`turned`) and brings the end nearer (`falls`); and a run with
+-- something wrong stays as it is, whatever comes after (`same_after`).
 use Prim.Native.Nat.{ℕ, suc, ◌+◌, ◌-◌, ◌*◌, ◌≤◌, ◌<◌}
 use mathlib.Core.Path.{◌≡◌, refl, sym, ap, ◌∙◌}
 use mathlib.Core.Bool.{Bool, true, false, true≢false, not, ◌||◌, cond}
@@ -13,43 +14,43 @@ use Rattle.drawing.specs.declared.Wrong.{Wrong}
 use Rattle.drawing.specs.declared.Wrong.TheVariants.{LongLine, LongText}
 use Rattle.drawing.specs.declared.State.{State}
 use Rattle.drawing.specs.declared.held.Drawing.{Drawing}
-use Rattle.drawing.specs.Page.{Page, page, page_of, gone_on, stops, line_ends, fed, ends, blank_page, Run, after, onward, ran, finished, Moves}
-use Rattle.draw.specs.declared.Ended.{Ended}
-use Rattle.draw.specs.Reached.{Reached, LineEnded, Sendable, written, ending, Ends}
+use Rattle.drawing.specs.Parsing.{Parser, parser, parser_of, gone_on, stops, line_ends, fed, ends}
+use Rattle.drawing.specs.Parsing.{fresh_parser, Run, after, onward, ran, finished, latest_first, Moves}
+use Rattle.draw.specs.Reached.{over, whole, Reached, LineEnded, Sendable, written}
 
-pub begun_so : (d : Drawing) → page_of d ≡ blank_page → Reached d 0
-unfolding ran
+unfoldable pub begun_so : (d : Drawing) → parser_of d ≡ fresh_parser → Reached d 0
+unfolding ran latest_first
 begun_so d e =
-    let l : d.state.left ≡ 16777216 = ap (λ (p : Page). p.state.left) e in
-    record { input = []; same = e; count = refl; bound = omega (arith, l) }
+    let l : d.state.left ≡ 16777216 = ap (λ (p : Parser). p.state.left) e in
+    record { text = []; same = e; count = refl; bound = omega (arith, l) }
 
-onward-as : (w : Option Wrong) (r : Run) (b : ℕ) → r.page.state.draft.wrong ≡ w → onward r b ≡ after w r (fed b r.page)
+pub onward-as : (w : Option Wrong) (r : Run) (b : ℕ) → r.parser.state.draft.wrong ≡ w → onward r b ≡ after w r (fed b r.parser)
 unfolding onward
-onward-as w r b e = ap (λ (v : Option Wrong). after v r (fed b r.page)) e
+onward-as w r b e = ap (λ (v : Option Wrong). after v r (fed b r.parser)) e
 
-after-wrong : (r : Run) (q : Page) → (r.page.state.draft.wrong ≡ None → ⊥) → after r.page.state.draft.wrong r q ≡ r
-after-wrong r q k = go r.page.state.draft.wrong k
+after-wrong : (r : Run) (q : Parser) → (r.parser.state.draft.wrong ≡ None → ⊥) → after r.parser.state.draft.wrong r q ≡ r
+after-wrong r q k = go r.parser.state.draft.wrong k
   where
     go : (w : Option Wrong) → (w ≡ None → ⊥) → after w r q ≡ r
     go None k = absurd (k refl)
     go (Some w) k = refl
 
-onward-stays : (r : Run) (b : ℕ) → (r.page.state.draft.wrong ≡ None → ⊥) → onward r b ≡ r
+onward-stays : (r : Run) (b : ℕ) → (r.parser.state.draft.wrong ≡ None → ⊥) → onward r b ≡ r
 unfolding onward
-onward-stays r b k = after-wrong r (fed b r.page) k
+onward-stays r b k = after-wrong r (fed b r.parser) k
 
--- the page as a step finds it: nothing is written yet
-abbrev found : Drawing → Page
-found d = page d.state d.text d.lists.ring d.lists.chain []
+-- the parser as a step finds it: nothing is written yet
+abbrev found : Drawing → Parser
+found d = parser d.state d.text d.lists.ring d.lists.chain []
 
--- a byte does not look at what was written before
-blind : (b : ℕ) (d : Drawing) → fed b (found d) ≡ fed b (page_of d)
+-- a step does not look at what was written before
+pub fed_so : (b : ℕ) (d r : Drawing) → Moves (fed b) d r → parser_of r ≡ fed b (parser_of d)
 unfolding fed line_ends
-blind b d = refl
+fed_so b d r m = m
 
-blind_end : (d : Drawing) → ends (found d) ≡ ends (page_of d)
+pub ends_so : (d r : Drawing) → Moves ends d r → parser_of r ≡ ends (parser_of d)
 unfolding ends
-blind_end d = refl
+ends_so d r m = m
 
 -- ---- the end comes nearer with each byte
 abbrev near_by : Option Wrong → ℕ → ℕ
@@ -64,7 +65,7 @@ at_most None n m h = omega arith
 at_most (Some w) n m h = omega arith
 
 -- a byte fewer may come, or the run has ended; and it writes one pair at most
-fed-step : (b : ℕ) (p : Page)
+fed-step : (b : ℕ) (p : Parser)
     → (nearer (fed b p).state < suc p.state.left)
     × (length (fed b p).out ≤ 1024 → length (fed b p).out + 1024 * (fed b p).state.left ≤ 1024 * p.state.left)
 unfolding fed line_ends
@@ -73,8 +74,8 @@ fed-step b p = go (eqb p.state.left 0) (eqb b 10) (p.state.comment || eqb b 35) 
     s : State
     s = p.state
 
-    pages : Bool → Bool → Bool → Bool → Page
-    pages t u v w =
+    parsers : Bool → Bool → Bool → Bool → Parser
+    parsers t u v w =
         cond t (stops LongText p)
         (cond u (line_ends p)
         (cond v (record { state = gone_on s s.length true; text = p.text; ring = p.ring; chain = p.chain; out = [] })
@@ -85,8 +86,8 @@ fed-step b p = go (eqb p.state.left 0) (eqb b 10) (p.state.comment || eqb b 35) 
     less e = let n = eqb-false s.left 0 e in omega (arith, n)
 
     go : (t u v w : Bool) → eqb s.left 0 ≡ t
-        → (nearer (pages t u v w).state < suc s.left)
-        × (length (pages t u v w).out ≤ 1024 → length (pages t u v w).out + 1024 * (pages t u v w).state.left ≤ 1024 * s.left)
+        → (nearer (parsers t u v w).state < suc s.left)
+        × (length (parsers t u v w).out ≤ 1024 → length (parsers t u v w).out + 1024 * (parsers t u v w).state.left ≤ 1024 * s.left)
     go true u v w e = (omega arith, λ h. omega arith)
     go false true v w e = (at_most ((line_ends p).state.draft.wrong) (s.left - 1) s.left (less e), λ h. omega (arith, less e))
     go false false true w e = (at_most (s.draft.wrong) (s.left - 1) s.left (less e), λ h. omega (arith, less e))
@@ -96,7 +97,7 @@ fed-step b p = go (eqb p.state.left 0) (eqb b 10) (p.state.comment || eqb b 35) 
 pub falls : (b : ℕ) (d r : Drawing) → d.state.draft.wrong ≡ None → Moves (fed b) d r → nearer r.state < nearer d.state
 falls b d r w m =
     let q : nearer d.state ≡ suc d.state.left = ap (λ (v : Option Wrong). near_by v d.state.left) w in
-    let a : r.state ≡ (fed b (found d)).state = ap (λ (p : Page). p.state) m in
+    let a : r.state ≡ (fed b (found d)).state = ap (λ (p : Parser). p.state) m in
     let h : nearer r.state < suc d.state.left = rw a (fed-step b (found d)).0 in
     omega (arith, q, h)
 
@@ -113,6 +114,17 @@ halts None e h z = true≢false (sym (e ∙ ap not h))
 halts (Some v) e h z = not_none refl z
 
 -- ---- what a run has reached
+-- a byte more in the order of a text, and more of them
+pub latest_on : (bs t : List ℕ) (b : ℕ) → latest_first bs (t ++ (b ∷ [])) ≡ b ∷ latest_first bs t
+unfolding latest_first
+latest_on bs [] b = refl
+latest_on bs (c ∷ t) b = latest_on (c ∷ bs) t b
+
+latest_more : (bs t u : List ℕ) → latest_first bs (t ++ u) ≡ latest_first (latest_first bs t) u
+unfolding latest_first
+latest_more bs [] u = refl
+latest_more bs (c ∷ t) u = latest_more (c ∷ bs) t u
+
 part-short : (t : Bool) (out : List ℕ) → length out ≡ 1024 → length (cond t out []) ≤ 1024
 part-short true out h = omega arith
 part-short false out h = omega arith
@@ -120,30 +132,33 @@ part-short false out h = omega arith
 pub one_pair : (d : Drawing) → length (written d) ≤ 1024
 one_pair d = part-short d.state.draft.wrote d.lists.out d.lists.out_long
 
+-- one byte more of a text with which nothing is wrong
+over_on : (t : List ℕ) (b : ℕ) → (over t).parser.state.draft.wrong ≡ None
+    → over (t ++ (b ∷ [])) ≡ record { parser = fed b (over t).parser; blocks = (over t).blocks ++ (fed b (over t).parser).out }
+unfolding ran
+over_on t b e = ap ran (latest_on [] t b) ∙ onward-as None (over t) b e
+
 module _ {d : Drawing} {sent : ℕ} (q : Reached d sent) where
-  wrong_is : (ran q.input).page.state.draft.wrong ≡ d.state.draft.wrong
-  wrong_is = ap (λ (p : Page). p.state.draft.wrong) (sym q.same)
-
-  fed_as : (b : ℕ) → fed b (found d) ≡ fed b (ran q.input).page
-  fed_as b = blind b d ∙ ap (fed b) q.same
-
-  pub fed-is : (b : ℕ) → d.state.draft.wrong ≡ None → fed b (found d) ≡ (ran (b ∷ q.input)).page
-  unfolding ran
-  fed-is b e = fed_as b ∙ sym (ap (λ (x : Run). x.page) (onward-as None (ran q.input) b (wrong_is ∙ e)))
+  pub wrong_is : (over q.text).parser.state.draft.wrong ≡ d.state.draft.wrong
+  wrong_is = ap (λ (p : Parser). p.state.draft.wrong) (sym q.same)
 
   module _ (b : ℕ) (r : Drawing) (e : d.state.draft.wrong ≡ None) (m : Moves (fed b) d r) where
-    wrote_so : written r ≡ (fed b (ran q.input).page).out
-    wrote_so = ap (λ (p : Page). p.out) (m ∙ fed_as b)
+    one_on : over (q.text ++ (b ∷ [])) ≡ record { parser = parser_of r; blocks = (over q.text).blocks ++ written r }
+    one_on =
+        let f : parser_of r ≡ fed b (over q.text).parser = fed_so b d r m ∙ ap (fed b) q.same in
+        over_on q.text b (wrong_is ∙ e) ∙ ap (λ (p : Parser). record { parser = p; blocks = (over q.text).blocks ++ p.out }) (sym f)
 
-    pub all : (ran (b ∷ q.input)).blocks ≡ (ran q.input).blocks ++ written r
-    unfolding ran
-    all = ap (λ (x : Run). x.blocks) (onward-as None (ran q.input) b (wrong_is ∙ e)) ∙ ap (λ (l : List ℕ). (ran q.input).blocks ++ l) (sym wrote_so)
+    pub fed-is : parser_of r ≡ (over (q.text ++ (b ∷ []))).parser
+    fed-is = ap (λ (x : Run). x.parser) (sym one_on)
+
+    pub all : (over (q.text ++ (b ∷ []))).blocks ≡ (over q.text).blocks ++ written r
+    all = ap (λ (x : Run). x.blocks) one_on
 
     pub bounded : sent + length (written r) + 1024 * r.state.left ≤ 17179869184
     bounded =
-        let p : Page = found d in
-        let w : written r ≡ (fed b p).out = ap (λ (x : Page). x.out) m in
-        let l : r.state.left ≡ (fed b p).state.left = ap (λ (x : Page). x.state.left) m in
+        let p : Parser = found d in
+        let w : written r ≡ (fed b p).out = ap (λ (x : Parser). x.out) m in
+        let l : r.state.left ≡ (fed b p).state.left = ap (λ (x : Parser). x.state.left) m in
         let k : length (fed b p).out ≤ 1024 = rw (← w) (one_pair r) in
         let z : length (written r) ≡ length (fed b p).out = ap length w in
         omega (arith, (fed-step b p).1 k, q.bound)
@@ -151,77 +166,43 @@ module _ {d : Drawing} {sent : ℕ} (q : Reached d sent) where
     unfoldable pub turned : (sent' : ℕ) → sent' ≡ sent + length (written r) → Reached r sent'
     turned sent' z =
         record {
-          input = b ∷ q.input;
-          same = m ∙ fed-is b e;
-          count = let n = ap length all ∙ length-append (ran q.input).blocks (written r) in omega (arith, n, q.count);
-          bound = omega (arith, bounded);
+          text = q.text ++ (b ∷ []);
+          same = fed-is;
+          count = let n = ap length all ∙ length-append (over q.text).blocks (written r) in omega (arith, z, n, q.count);
+          bound = omega (arith, bounded, z);
         }
 
     -- the byte ended the last line
     pub line_ended : b ≡ 10 → (sent' : ℕ) → sent' ≡ sent + length (written r) → LineEnded r sent'
     unfolding turned
-    line_ended n sent' z = record { reached = turned sent' z; before = q.input; last = λ j. n j ∷ q.input }
+    line_ended n sent' z = record { reached = turned sent' z; before = q.text; last = λ j. q.text ++ (n j ∷ []) }
 
     pub sendable : Sendable r sent
-    sendable = record { input = b ∷ q.input; ended = false; blocks = ap (λ (p : Page). p.out) (m ∙ fed-is b e); few = omega (arith, q.bound) }
+    sendable = record { text = q.text ++ (b ∷ []); ended = false; blocks = ap (λ (p : Parser). p.out) fed-is; few = omega (arith, q.bound) }
 
-  stuck : (d.state.draft.wrong ≡ None → ⊥) → finished q.input ≡ ran q.input
-  unfolding finished ran
-  stuck k =
-      let h = onward-stays (ran q.input) 10 (λ z. k (sym wrong_is ∙ z)) in
-      after-wrong (onward (ran q.input) 10) (ends (onward (ran q.input) 10).page)
-      (λ z. k (sym wrong_is ∙ ap (λ (x : Run). x.page.state.draft.wrong) (sym h) ∙ z)) ∙ h
+-- ---- a run with something wrong
+abbrev pub Stuck : List ℕ → Type 0
+Stuck bs = (ran bs).parser.state.draft.wrong ≡ None → ⊥
 
-  pub ends_wrong : (d.state.draft.wrong ≡ None → ⊥) → (r : Ended) → r ≡ ending d.state sent → Ends r
-  ends_wrong k r e =
-      let x : d.state ≡ (finished q.input).page.state = ap (λ (p : Page). p.state) q.same ∙ ap (λ (x : Run). x.page.state) (sym (stuck k)) in
-      let y : sent ≡ length (finished q.input).blocks = q.count ∙ ap (λ (x : Run). length x.blocks) (sym (stuck k)) in
-      record { input = q.input; said = e ∙ (λ j. ending (x j) (y j)) }
+stays_on : (bs u : List ℕ) → Stuck bs → ran (latest_first bs u) ≡ ran bs
+unfolding ran latest_first
+stays_on bs [] k = refl
+stays_on bs (c ∷ u) k =
+    let e : ran (c ∷ bs) ≡ ran bs = onward-stays (ran bs) c k in
+    stays_on (c ∷ bs) u (λ z. k (sym (ap (λ (x : Run). x.parser.state.draft.wrong) e) ∙ z)) ∙ e
 
--- ---- the last line ended in a drawing of which the bytes are sent
-module _ {a : Drawing} {sent : ℕ} (bs : List ℕ) (q : Reached a sent) (i : q.input ≡ 10 ∷ bs) where
-  last : page_of a ≡ (ran (10 ∷ bs)).page
-  last = q.same ∙ ap (λ (l : List ℕ). (ran l).page) i
+pub stuck : (bs : List ℕ) → Stuck bs → finished bs ≡ ran bs
+unfolding finished ran
+stuck bs k =
+    let h = onward-stays (ran bs) 10 k in
+    after-wrong (onward (ran bs) 10) (ends (onward (ran bs) 10).parser) (λ z. k (sym (ap (λ (x : Run). x.parser.state.draft.wrong) h) ∙ z)) ∙ h
 
-  last_wrong : (ran (10 ∷ bs)).page.state.draft.wrong ≡ a.state.draft.wrong
-  last_wrong = ap (λ (p : Page). p.state.draft.wrong) (sym last)
-
-  counted : sent ≡ length (ran (10 ∷ bs)).blocks
-  counted = q.count ∙ ap (λ (l : List ℕ). length (ran l).blocks) i
-
-  bad_last : (a.state.draft.wrong ≡ None → ⊥) → finished bs ≡ ran (10 ∷ bs)
-  unfolding finished
-  bad_last k = after-wrong (ran (10 ∷ bs)) (ends (ran (10 ∷ bs)).page) (λ z. k (sym last_wrong ∙ z))
-
-  pub ends_last : (a.state.draft.wrong ≡ None → ⊥) → (r : Ended) → r ≡ ending a.state sent → Ends r
-  ends_last k r d =
-      let x : a.state ≡ (finished bs).page.state = ap (λ (p : Page). p.state) last ∙ ap (λ (x : Run). x.page.state) (sym (bad_last k)) in
-      let y : sent ≡ length (finished bs).blocks = counted ∙ ap (λ (x : Run). length x.blocks) (sym (bad_last k)) in
-      record { input = bs; said = d ∙ (λ j. ending (x j) (y j)) }
-
-  good_last : a.state.draft.wrong ≡ None
-      → record { page = ends (ran (10 ∷ bs)).page; blocks = (ran (10 ∷ bs)).blocks ++ (ends (ran (10 ∷ bs)).page).out } ≡ finished bs
-  unfolding finished
-  good_last k = sym (ap (λ (w : Option Wrong). after w (ran (10 ∷ bs)) (ends (ran (10 ∷ bs)).page)) (last_wrong ∙ k))
-
-  module _ (b : Drawing) (k : a.state.draft.wrong ≡ None) (n : Moves ends a b) where
-    over : page_of b ≡ ends (ran (10 ∷ bs)).page
-    over = n ∙ blind_end a ∙ ap ends last
-
-    pub sendable_last : Sendable b sent
-    sendable_last =
-        record {
-          input = bs;
-          ended = true;
-          blocks = ap (λ (p : Page). p.out) over ∙ ap (λ (x : Run). x.page.out) (good_last k);
-          few = omega (arith, q.bound);
-        }
-
-    pub ends_so : (sent' : ℕ) → sent' ≡ sent + length (written b) → (r : Ended) → r ≡ ending b.state sent' → Ends r
-    ends_so sent' z r d =
-        let x : b.state ≡ (finished bs).page.state = ap (λ (p : Page). p.state) over ∙ ap (λ (x : Run). x.page.state) (good_last k) in
-        let w : length (written b) ≡ length (ends (ran (10 ∷ bs)).page).out = ap (λ (p : Page). length p.out) over in
-        let v = length-append (ran (10 ∷ bs)).blocks (ends (ran (10 ∷ bs)).page).out in
-        let u = ap (λ (x : Run). length x.blocks) (good_last k) in
-        let y : sent' ≡ length (finished bs).blocks = omega (arith, z, counted, w, v, u) in
-        record { input = bs; said = d ∙ (λ j. ending (x j) (y j)) }
+-- no byte that comes after matters
+pub same_after : (t u : List ℕ) → Stuck (latest_first [] t) → whole (t ++ u) ≡ whole t
+same_after t u k =
+    let bs = latest_first [] t in
+    let e = stays_on bs u k in
+    ap finished (latest_more [] t u)
+    ∙ stuck (latest_first bs u) (λ z. k (sym (ap (λ (x : Run). x.parser.state.draft.wrong) e) ∙ z))
+    ∙ e
+    ∙ sym (stuck bs k)

@@ -2,18 +2,18 @@
 use Rattle.std.specs.Prelude.{ℕ, cond, Option, None, List, slice_get, eqb, Ok, Err}
 use Rattle.std.specs.declared.result.Result.{Result}
 use Rattle.text.specs.Text.{bytes}
-use Rattle.draw.specs.declared.Cut.{Cut}
-use Rattle.draw.specs.declared.Cut.TheVariants.{Reading, Writing}
+use Rattle.draw.specs.declared.Failure.{Failure}
+use Rattle.draw.specs.declared.Failure.TheVariants.{Reading, Writing}
 
 -- a read into some bytes: it failed, the input has ended, or the first of them
-abbrev pub came_to : {E : Type 0} → Result ℕ E → List ℕ → Result (Option ℕ) Cut
+abbrev pub came_to : {E : Type 0} → Result ℕ E → List ℕ → Result (Option ℕ) Failure
 came_to (Ok k) bytes = Ok (cond (eqb k 0) None (slice_get bytes 0))
 came_to (Err e) bytes = Err Reading
 
 -- 30 and 31 are those of standard input and output
-abbrev pub number_of_cut : Cut → ℕ
-number_of_cut Reading = 30
-number_of_cut Writing = 31
+abbrev pub number_of_failure : Failure → ℕ
+number_of_failure Reading = 30
+number_of_failure Writing = 31
 
 -- 25 to 29 are those of too much, 30 and 31 of standard input and output
 unfoldable pub said_more : ℕ → List ℕ

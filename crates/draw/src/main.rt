@@ -3,16 +3,21 @@
 // The text is read byte by byte and stepped over by drawing, whose `drawn` says what comes out for every text. A pair of blocks
 // is written as soon as its ring is complete. Where a line is bad the run ends, and `line N: what is expected` stands on
 // standard error, in the words that `said`, in specs/Said, has for its number. The loop's invariant is that the drawing is that
-// of the bytes read so far.
+// of the bytes read so far, which are those that the reader gave, and that the writer got their blocks. So a run that ends has
+// written `drawn` of all that the reader had, or of its bytes up to the one that something is wrong with, by `Gives`, in
+// specs/Given. What is left to the calls of the operating system is said in stream.
 
 #![tactic(auto)]
 
-ghost use Rattle.std.specs.Prelude.{◌≡◌, ◌+◌, length, None, IfOk, OnOk};
+ghost use Rattle.std.specs.Prelude.{◌≡◌, ◌+◌, [], length, None, IfOk, IfErr, OnOk};
+ghost use Rattle.std.specs.Io.KnownBytes.{Appends, Consumes};
 ghost use Rattle.drawing.specs.Drawing.{number_of};
-ghost use Rattle.drawing.specs.Page as Page;
+ghost use Rattle.drawing.specs.Parsing as Parsing;
 ghost use Rattle.drawing.specs.declared.Wrong.TheVariants.{Refused, Misread};
-ghost use Rattle.draw.specs.Reached.{Reached, LineEnded, Sendable, Ends, ending, line_of, written};
-ghost use Rattle.draw.specs.Said.{came_to, said, number_of_cut};
+ghost use Rattle.draw.specs.declared.Failure.TheVariants.{Reading, Writing};
+ghost use Rattle.draw.specs.Reached.{Reached, LineEnded, Sendable, Ends, step_of, closing, ending, line_of, written};
+ghost use Rattle.draw.specs.Given.{Gave, Gives, Broken};
+ghost use Rattle.draw.specs.Said.{came_to, said, number_of_failure};
 
 use drawing::{Drawing, State, Wrong};
 use lines::Fault;
@@ -23,17 +28,17 @@ use writer::Refusal;
 
 // Why a run can be cut short: the input cannot be read, or the output written.
 #[derive(Clone, Copy, Debug, PartialEq, Eq)]
-enum Cut {
+enum Failure {
     Reading,
     Writing,
 }
 
-impl From<WriteFailed> for Cut {
-    ghost use Rattle.draw.specs.declared.Cut.TheVariants.{Writing};
+impl From<WriteFailed> for Failure {
+    ghost use Rattle.draw.specs.declared.Failure.TheVariants.{Writing};
 
-    ghost from_gives = { λ failed cut. cut ≡ Writing };
+    ghost from_gives = { λ failed failure. failure ≡ Writing };
 
-    fn from(_: WriteFailed) -> Cut {
+    fn from(_: WriteFailed) -> Failure {
         Self::Writing
     }
 }
@@ -75,27 +80,32 @@ fn end_of(s: State, sent: u64) -> Ended
 
 // What a read of one byte came to: the byte, or none where the input has ended. One that failed is no end, so that part of a
 // drawing is not taken for the whole.
-fn came_to(got: io::Result<usize>, byte: &[u8]) -> Result<Option<u8>, Cut>
+fn came_to(got: io::Result<usize>, byte: &[u8]) -> Result<Option<u8>, Failure>
     ensures { result ≡ came_to got byte.now }
 {
     match got {
-        Err(_) => Err(Cut::Reading),
+        Err(_) => Err(Failure::Reading),
         Ok(0) => Ok(None),
         Ok(_) => Ok(byte.first().copied()),
     }
 }
 
 // Reads the next byte.
-fn read_byte<R: Read>(input: &mut R) -> Result<Option<u8>, Cut> {
+fn read_byte<R: Read>(input: &mut R) -> Result<Option<u8>, Failure>
+    ensures gave { IfOk result (Gave (R.remaining input.old) (R.remaining input.new)) }
+    ensures kept { IfErr result (λ failure. (failure ≡ Reading) × Consumes (R.remaining input.old) (R.remaining input.new) []) }
+{
     let mut byte = [0u8; 1];
     let got = input.read(&mut byte);
     came_to(got, &byte)
 }
 
 // Writes the pair that the last step completed, if it did, after `sent` bytes.
-fn send<W: Write>(output: &mut W, d: &Drawing, sent: &mut u64) -> Result<(), Cut>
+fn send<W: Write>(output: &mut W, d: &Drawing, sent: &mut u64) -> Result<(), Failure>
     requires { Sendable d.now sent.old }
-    ensures { OnOk result (sent.new ≡ sent.old + length (written d.now)) }
+    ensures count { OnOk result (sent.new ≡ sent.old + length (written d.now)) }
+    ensures bytes { OnOk result (Appends (W.contents output.old) (W.contents output.new) (written d.now)) }
+    ensures failed { IfErr result (λ failure. failure ≡ Writing) }
 {
     if d.state.draft.wrote {
         stream::write_counted(output, &d.lists.out, sent)?;
@@ -104,19 +114,22 @@ fn send<W: Write>(output: &mut W, d: &Drawing, sent: &mut u64) -> Result<(), Cut
 }
 
 // Steps over one byte, and writes the pair that it completes.
-fn take<W: Write>(output: &mut W, d: &mut Drawing, b: u8, sent: &mut u64) -> Result<(), Cut>
+fn take<W: Write>(output: &mut W, d: &mut Drawing, b: u8, sent: &mut u64) -> Result<(), Failure>
     requires { Reached d.old sent.old × (d.old.state.draft.wrong ≡ None) }
-    ensures steps { OnOk result (Page.Moves (Page.fed b) d.old d.new) }
+    ensures steps { OnOk result (Parsing.Moves (Parsing.fed b) d.old d.new) }
     ensures count { OnOk result (sent.new ≡ sent.old + length (written d.new)) }
+    ensures bytes { OnOk result (Appends (W.contents output.old) (W.contents output.new) (written d.new)) }
+    ensures failed { IfErr result (λ failure. failure ≡ Writing) }
 {
     d.feed(b);
     send(output, d, sent)
 }
 
 // The last line has ended, and with it the text.
-fn close<W: Write>(output: &mut W, d: &mut Drawing, sent: &mut u64) -> Result<Ended, Cut>
+fn close<W: Write>(output: &mut W, d: &mut Drawing, sent: &mut u64) -> Result<Ended, Failure>
     requires { LineEnded d.old sent.old × (d.old.state.draft.wrong ≡ None) }
-    ensures { IfOk result Ends }
+    ensures ends { IfOk result (Ends (step_of (Parsing.ends (Parsing.parser_of d.old))) sent.old (W.contents output.old) (W.contents output.new)) }
+    ensures failed { IfErr result (λ failure. failure ≡ Writing) }
 {
     d.finish();
     send(output, d, sent)?;
@@ -124,9 +137,10 @@ fn close<W: Write>(output: &mut W, d: &mut Drawing, sent: &mut u64) -> Result<En
 }
 
 // All is read: the last line ends, and then the text.
-fn finish<W: Write>(output: &mut W, d: &mut Drawing, sent: &mut u64) -> Result<Ended, Cut>
+fn finish<W: Write>(output: &mut W, d: &mut Drawing, sent: &mut u64) -> Result<Ended, Failure>
     requires { Reached d.old sent.old × (d.old.state.draft.wrong ≡ None) }
-    ensures { IfOk result Ends }
+    ensures ends { IfOk result (Ends (closing (Parsing.parser_of d.old)) sent.old (W.contents output.old) (W.contents output.new)) }
+    ensures failed { IfErr result (λ failure. failure ≡ Writing) }
 {
     take(output, d, b'\n', sent)?;
     match d.state.draft.wrong {
@@ -136,9 +150,11 @@ fn finish<W: Write>(output: &mut W, d: &mut Drawing, sent: &mut u64) -> Result<E
 }
 
 // The whole run.
-#[tactic(auto, using(crate::proofs::Reaching::begun_so, crate::proofs::Reaching::turned, crate::proofs::Reaching::falls, crate::proofs::Reaching::goes_on))]
-fn draw<R: Read, W: Write>(input: &mut R, output: &mut W) -> Result<Ended, Cut>
-    ensures { IfOk result Ends }
+#[tactic(auto, using(crate::proofs::Reaching::falls, crate::proofs::Reaching::goes_on))]
+fn draw<R: Read, W: Write>(input: &mut R, output: &mut W) -> Result<Ended, Failure>
+    ensures gives { IfOk result (Gives (R.remaining input.old) (R.remaining input.new) (W.contents output.old) (W.contents output.new)) }
+    ensures broken { IfErr result (λ failure. failure ≡ Reading
+        → Broken (R.remaining input.old) (R.remaining input.new) (W.contents output.old) (W.contents output.new)) }
 {
     let mut d = Drawing::new();
     let mut sent: u64 = 0;
@@ -196,12 +212,12 @@ fn words(wrong: Wrong) -> &'static [u8]
 }
 
 #[tactic(auto, unfolding(crate::specs::Said::said, crate::specs::Said::said_more, text::specs::Text::bytes))]
-fn cut_words(cut: Cut) -> &'static [u8]
-    ensures { result.now ≡ said (number_of_cut cut) }
+fn failure_words(failure: Failure) -> &'static [u8]
+    ensures { result.now ≡ said (number_of_failure failure) }
 {
-    match cut {
-        Cut::Reading => b"draw: standard input failed\n",
-        Cut::Writing => b"draw: standard output failed\n",
+    match failure {
+        Failure::Reading => b"draw: standard input failed\n",
+        Failure::Writing => b"draw: standard output failed\n",
     }
 }
 
@@ -209,8 +225,8 @@ fn main(rt: HostRuntime) {
     let end = draw(&mut rt.stdin(), &mut rt.stdout());
     let mut output = rt.stderr();
     match end {
-        Err(cut) => {
-            let _ = stream::write_all(&mut output, cut_words(cut));
+        Err(failure) => {
+            let _ = stream::write_all(&mut output, failure_words(failure));
         }
         Ok(Ended { bad: None, .. }) => {}
         Ok(Ended { bad: Some(bad), .. }) => {

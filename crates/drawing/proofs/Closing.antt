@@ -16,7 +16,7 @@ use Rattle.drawing.specs.declared.Wrong.TheVariants.{Refused}
 use Rattle.drawing.specs.declared.Phase.{Phase}
 use Rattle.drawing.specs.declared.Phase.TheVariants.{Closed, Ring, Chain}
 use Rattle.drawing.specs.declared.Draft.{Draft}
-use Rattle.drawing.specs.Drawing.{Drawn, before, failed, still, complete, closed_of, closes_at, closes, begun_of, afresh, begins, Fine, Did}
+use Rattle.drawing.specs.Drawing.{Drawn, before, failed, still, complete, closed_of, closes_at, closes, begun_of, afresh, begins, ValidDraft, Did}
 
 -- a ring is open
 pub opened : (d : Drawn) → (d.draft.phase ≡ Closed → ⊥) → closes d ≡ complete (tested d.ring d.chain d.draft.size d.draft.block 1024) d
@@ -28,7 +28,7 @@ opened d k = go d.draft.phase k
     go Ring k = refl
     go Chain k = refl
 
-module _ (o : Draft) (ring chain : List ℤ) (out : List ℕ) (f : Fine o) where
+module _ (o : Draft) (ring chain : List ℤ) (out : List ℕ) (f : ValidDraft o) where
   abbrev D : Drawn
   D = before o ring chain
 
@@ -38,18 +38,18 @@ module _ (o : Draft) (ring chain : List ℤ) (out : List ℕ) (f : Fine o) where
       rw e
       (record {
         same = rw p;
-        fine = record { corners = f.corners; run = f.run; block = f.block };
+        valid = record { corners = f.corners; chain_points = f.chain_points; block = f.block };
       })
 
   -- the writer was asked
   module _ (out_long : length out ≡ 1024) (k : o.phase ≡ Closed → ⊥) (t : Result (Unit {0}) Refusal)
-      (asked : t ≡ tested (take (o.corners * 2) ring) (take (o.run * 2) chain) o.size o.block (length out))
+      (asked : t ≡ tested (take (o.corners * 2) ring) (take (o.chain_points * 2) chain) o.size o.block (length out))
     where
       abbrev R : List ℤ
       R = take (o.corners * 2) ring
 
       abbrev C : List ℤ
-      C = take (o.run * 2) chain
+      C = take (o.chain_points * 2) chain
 
       answered : closes D ≡ complete t D
       answered =
@@ -62,7 +62,7 @@ module _ (o : Draft) (ring chain : List ℤ) (out : List ℕ) (f : Fine o) where
           rw e
           (record {
             same = sym (answered ∙ ap (λ (u : Result (Unit {0}) Refusal). complete u D) z);
-            fine = record { corners = f.corners; run = f.run; block = f.block };
+            valid = record { corners = f.corners; chain_points = f.chain_points; block = f.block };
           })
 
       module _ (z : t ≡ Ok tt) where
@@ -82,18 +82,18 @@ module _ (o : Draft) (ring chain : List ℤ) (out : List ℕ) (f : Fine o) where
               same =
                   ap (λ (b : List ℕ). record { draft = closed_of o; ring = []; chain = []; out = b }) (w ∙ pair-alone)
                   ∙ sym (answered ∙ ap (λ (u : Result (Unit {0}) Refusal). complete u D) z);
-              fine =
+              valid =
                   record {
                     corners = omega arith;
-                    run = omega arith;
+                    chain_points = omega arith;
                     block = omega (arith, low-number R C o.size o.block (length out) passes);
                   };
             }
 
-module _ (o : Draft) (ring chain : List ℤ) (out : List ℕ) (f : Fine o) where
+module _ (o : Draft) (ring chain : List ℤ) (out : List ℕ) (f : ValidDraft o) where
   pub closes_passed : length out ≡ 1024 → (o.phase ≡ Closed → ⊥) → (u : Unit {0})
-      → Ok u ≡ tested (take (o.corners * 2) ring) (take (o.run * 2) chain) o.size o.block (length out) → (out' : List ℕ)
-      → out' ≡ written (take (o.corners * 2) ring) (take (o.run * 2) chain) o.size o.block out → Did closes o ring chain (closed_of o) ring chain out'
+      → Ok u ≡ tested (take (o.corners * 2) ring) (take (o.chain_points * 2) chain) o.size o.block (length out) → (out' : List ℕ)
+      → out' ≡ written (take (o.corners * 2) ring) (take (o.chain_points * 2) chain) o.size o.block out → Did closes o ring chain (closed_of o) ring chain out'
   closes_passed l k u e out' w = closes_written o ring chain out f l k (Ok u) e refl out' w
 
 -- ---- the ring that begins
@@ -104,16 +104,16 @@ module _ (n size : ℕ) (o : Draft) (ring chain : List ℤ) (c : Draft) (out' : 
       ap (λ (v : Option Wrong). afresh v n size (closes (before o ring chain))) (ap (λ (x : Drawn). x.draft.wrong) (sym d.same) ∙ e)
 
   pub begins_not : (w : Wrong) → c.wrong ≡ Some w → Did (begins n size) o ring chain c ring chain out'
-  begins_not w e = record { same = d.same ∙ sym (wrong_is (Some w) e); fine = d.fine }
+  begins_not w e = record { same = d.same ∙ sym (wrong_is (Some w) e); valid = d.valid }
 
   pub begins_so : c.wrong ≡ None → Did (begins n size) o ring chain (begun_of n size c) ring chain out'
   begins_so e =
       record {
         same = ap (afresh None n size) d.same ∙ sym (wrong_is None e);
-        fine =
+        valid =
             record {
               corners = omega arith;
-              run = omega arith;
-              block = d.fine.block;
+              chain_points = omega arith;
+              block = d.valid.block;
             };
       }

@@ -20,11 +20,11 @@ use Rattle.drawing.specs.declared.Wrong.TheVariants.{LongLine, LongText}
 use Rattle.drawing.specs.declared.Draft.{Draft}
 use Rattle.drawing.specs.declared.State.{State}
 use Rattle.drawing.specs.Drawing.{shows, closes, takes, Did}
-use Rattle.drawing.specs.Page.{Page, page, drawn_of, gone_on, stopped, stops, line_after, next_line, line_ends, fed, ends, Moved}
+use Rattle.drawing.specs.Parsing.{Parser, parser, drawn_of, gone_on, stopped, stops, line_after, next_line, line_ends, fed, ends, Moved}
 
 module _ (s : State) (text : List ℕ) (ring chain : List ℤ) (out : List ℕ) where
-  abbrev P : Page
-  P = page s text ring chain []
+  abbrev P : Parser
+  P = parser s text ring chain []
 
   -- the line was taken
   pub line_ends_so : (h : Result Line Fault) (d : Draft) (n : ℕ) (ring' chain' : List ℤ) (out' : List ℕ) → h ≡ heard (take s.length text)
@@ -38,14 +38,14 @@ module _ (s : State) (text : List ℕ) (ring chain : List ℤ) (out : List ℕ) 
         state = record { left = s.left - 1; line = q j; length = 0; comment = false; draft = d };
         text = [];
         ring = take (d.corners * 2) ring';
-        chain = take (d.run * 2) chain';
+        chain = take (d.chain_points * 2) chain';
         out = cond d.wrote out' [];
       })
       ∙ (λ j. record { state = next_line s (g j).draft; text = []; ring = (g j).ring; chain = (g j).chain; out = (g j).out })
 
   -- something is wrong
   stopped_so : (r : State) (w : Wrong) → r ≡ stopped s w → Moved (stops w) s text ring chain r text ring chain out
-  stopped_so r w e = ap (λ (x : State). page x text ring chain out) e
+  stopped_so r w e = ap (λ (x : State). parser x text ring chain out) e
 
   module _ (b : ℕ) where
     pub fed_too_long : (r : State) → s.left ≡ 0 → r ≡ stopped s LongText → Moved (fed b) s text ring chain r text ring chain out
@@ -61,7 +61,7 @@ module _ (s : State) (text : List ℕ) (ring chain : List ℤ) (out : List ℕ) 
       module _ (c : b ≡ 10 → ⊥) where
         in-comment : (r : State) → (s.comment || eqb b 35) ≡ true → r ≡ gone_on s s.length true → Moved (fed b) s text ring chain r text ring chain out
         unfolding fed
-        in-comment r d e = ap (λ (x : State). page x text ring chain out) e ∙ rw (ne_eqb s.left 0 a, ne_eqb b 10 c, d)
+        in-comment r d e = ap (λ (x : State). parser x text ring chain out) e ∙ rw (ne_eqb s.left 0 a, ne_eqb b 10 c, d)
 
         pub fed_comment : (r : State) → (s.comment ≡ true) ⊎ ((s.comment ≡ false) × (b ≡ 35)) → r ≡ gone_on s s.length true
             → Moved (fed b) s text ring chain r text ring chain out
@@ -82,12 +82,12 @@ module _ (s : State) (text : List ℕ) (ring chain : List ℤ) (out : List ℕ) 
           fed_byte r long short z e =
               let l : take (s.length + 1) (set text s.length b) ≡ take s.length text ++ (b ∷ []) =
               rw (add-one s.length) (take-suc-set text s.length b (omega (arith, short, long))) in
-              ap (λ (x : State). page x (set text s.length b) ring chain out) e
+              ap (λ (x : State). parser x (set text s.length b) ring chain out) e
               ∙ (λ j. record {
                 state = gone_on s (s.length + 1) false;
                 text = l j;
                 ring = take (s.draft.corners * 2) ring;
-                chain = take (s.draft.run * 2) chain;
+                chain = take (s.draft.chain_points * 2) chain;
                 out = [];
               })
               ∙ rw (ne_eqb s.left 0 a, ne_eqb b 10 c, none, ne_eqb s.length 80 z)

@@ -10,16 +10,16 @@ use borrow.Author.Tests.{eq-eqb, ne_eqb}
 use Rattle.drawing.specs.declared.Wrong.TheVariants.{NoRing, RingFull, ChainFull}
 use Rattle.drawing.specs.declared.Phase.TheVariants.{Closed, Ring, Chain}
 use Rattle.drawing.specs.declared.Draft.{Draft}
-use Rattle.drawing.specs.Drawing.{point_of, failed, points, Fine, Did}
+use Rattle.drawing.specs.Drawing.{point_of, failed, points, ValidDraft, Did}
 
-module _ (x y : ℤ) (o : Draft) (ring chain : List ℤ) (out : List ℕ) (f : Fine o) where
+module _ (x y : ℤ) (o : Draft) (ring chain : List ℤ) (out : List ℕ) (f : ValidDraft o) where
   pub not_open : (r : Draft) → o.phase ≡ Closed → r ≡ failed o NoRing → Did (points x y) o ring chain r ring chain out
   unfolding points
   not_open r p e =
       rw e
       (record {
         same = rw p;
-        fine = record { corners = f.corners; run = f.run; block = f.block };
+        valid = record { corners = f.corners; chain_points = f.chain_points; block = f.block };
       })
 
   module _ (p : o.phase ≡ Ring) (ring' : List ℤ) where
@@ -29,7 +29,7 @@ module _ (x y : ℤ) (o : Draft) (ring chain : List ℤ) (out : List ℕ) (f : F
         rw (e, q.1)
         (record {
           same = rw (p, eq-eqb o.corners 60 q.0);
-          fine = record { corners = f.corners; run = f.run; block = f.block };
+          valid = record { corners = f.corners; chain_points = f.chain_points; block = f.block };
         })
 
     pub ring_more : (m : ℕ) → (o.corners < 60) × (m ≡ o.corners + 1) × (take ((o.corners + 1) * 2) ring' ≡ take (o.corners * 2) ring ++ point_of x y)
@@ -39,27 +39,28 @@ module _ (x y : ℤ) (o : Draft) (ring chain : List ℤ) (out : List ℕ) (f : F
         rw q.1
         (record {
           same = rw (p, ne_eqb o.corners 60 (λ z. omega (arith, z, q.0)), q.2);
-          fine =
-              record { corners = omega (arith, q.0); run = f.run; block = f.block };
+          valid =
+              record { corners = omega (arith, q.0); chain_points = f.chain_points; block = f.block };
         })
 
   module _ (p : o.phase ≡ Chain) (chain' : List ℤ) where
-    pub chain_full : (r : Draft) → (o.run ≡ 60) × (chain' ≡ chain) → r ≡ failed o ChainFull → Did (points x y) o ring chain r ring chain' out
+    pub chain_full : (r : Draft) → (o.chain_points ≡ 60) × (chain' ≡ chain) → r ≡ failed o ChainFull → Did (points x y) o ring chain r ring chain' out
     unfolding points
     chain_full r q e =
         rw (e, q.1)
         (record {
-          same = rw (p, eq-eqb o.run 60 q.0);
-          fine = record { corners = f.corners; run = f.run; block = f.block };
+          same = rw (p, eq-eqb o.chain_points 60 q.0);
+          valid = record { corners = f.corners; chain_points = f.chain_points; block = f.block };
         })
 
-    pub chain_more : (m : ℕ) → (o.run < 60) × (m ≡ o.run + 1) × (take ((o.run + 1) * 2) chain' ≡ take (o.run * 2) chain ++ point_of x y)
-        → Did (points x y) o ring chain (record o { run = m; wrote = false }) ring chain' out
+    pub chain_more : (m : ℕ)
+        → (o.chain_points < 60) × (m ≡ o.chain_points + 1) × (take ((o.chain_points + 1) * 2) chain' ≡ take (o.chain_points * 2) chain ++ point_of x y)
+        → Did (points x y) o ring chain (record o { chain_points = m; wrote = false }) ring chain' out
     unfolding points
     chain_more m q =
         rw q.1
         (record {
-          same = rw (p, ne_eqb o.run 60 (λ z. omega (arith, z, q.0)), q.2);
-          fine =
-              record { corners = f.corners; run = omega (arith, q.0); block = f.block };
+          same = rw (p, ne_eqb o.chain_points 60 (λ z. omega (arith, z, q.0)), q.2);
+          valid =
+              record { corners = f.corners; chain_points = omega (arith, q.0); block = f.block };
         })

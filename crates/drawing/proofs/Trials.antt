@@ -7,11 +7,11 @@ use Rattle.text.specs.Text.{bytes}
 use Rattle.numeral.specs.Numeral.{scaled, more, scan_to, scanned, whole, has_minus, behind, read, units, within, signed}
 use Rattle.lines.specs.Line.{words, heard}
 use Rattle.drawing.specs.Drawing.{said_of, closes, begins, points}
-use Rattle.drawing.specs.Page.{line_ends, fed, onward, ran, latest_first, Page}
+use Rattle.drawing.specs.Parsing.{line_ends, fed, onward, ran, latest_first, Parser}
 
--- the page after the bytes of a text
-abbrev after : List ℕ → Page
-after t = (ran (latest_first [] t)).page
+-- the parser after the bytes of a text
+abbrev after : List ℕ → Parser
+after t = (ran (latest_first [] t)).parser
 
 -- what is opened to compute: numbers, lines, drawings
 unfoldable numbers : Unit {0}

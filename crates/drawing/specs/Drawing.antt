@@ -39,11 +39,11 @@ pub record Drawn : Type 0 where
 
 -- what is kept as numbers and in lists, as such a record: so many points of the places, and the pair where one was written
 abbrev pub shows : Draft → List ℤ → List ℤ → List ℕ → Drawn
-shows o ring chain out = record { draft = o; ring = take (o.corners * 2) ring; chain = take (o.run * 2) chain; out = cond o.wrote out [] }
+shows o ring chain out = record { draft = o; ring = take (o.corners * 2) ring; chain = take (o.chain_points * 2) chain; out = cond o.wrote out [] }
 
 -- the same as a step finds it: nothing is written yet
 abbrev pub before : Draft → List ℤ → List ℤ → Drawn
-before o ring chain = record { draft = o; ring = take (o.corners * 2) ring; chain = take (o.run * 2) chain; out = [] }
+before o ring chain = record { draft = o; ring = take (o.corners * 2) ring; chain = take (o.chain_points * 2) chain; out = [] }
 
 -- "a line `x y`": its two coordinates
 abbrev pub point_of : ℤ → ℤ → List ℤ
@@ -65,7 +65,7 @@ stays d = record { draft = still d.draft; ring = d.ring; chain = d.chain; out = 
 
 -- a complete ring, which the writer does not refuse: its pair of blocks is out, the next ring's block is two further, and no ring is open
 abbrev pub closed_of : Draft → Draft
-closed_of o = record o { phase = Closed; corners = 0; run = 0; block = o.block + 2; wrote = true }
+closed_of o = record o { phase = Closed; corners = 0; chain_points = 0; block = o.block + 2; wrote = true }
 
 abbrev pub complete : Result (Unit {0}) Refusal → Drawn → Drawn
 complete (Ok u) d =
@@ -82,7 +82,7 @@ closes d = closes_at d.draft.phase d
 
 -- "A ring is `ring SIZE`": the ring before it is complete; this one begins at line n
 abbrev pub begun_of : ℕ → ℕ → Draft → Draft
-begun_of n size c = record c { began = n; phase = Ring; size = size; corners = 0; run = 0 }
+begun_of n size c = record c { began = n; phase = Ring; size = size; corners = 0; chain_points = 0 }
 
 abbrev pub afresh : Option Wrong → ℕ → ℕ → Drawn → Drawn
 afresh None n size c = record { draft = begun_of n size c.draft; ring = []; chain = []; out = c.out }
@@ -107,8 +107,8 @@ chains d = record { draft = chain_of d.draft; ring = d.ring; chain = d.chain; ou
 abbrev pub corner_of : Draft → Draft
 corner_of o = cond (eqb o.corners 60) (failed o RingFull) (record o { corners = o.corners + 1; wrote = false })
 
-abbrev pub run_of : Draft → Draft
-run_of o = cond (eqb o.run 60) (failed o ChainFull) (record o { run = o.run + 1; wrote = false })
+abbrev pub chain_point_of : Draft → Draft
+chain_point_of o = cond (eqb o.chain_points 60) (failed o ChainFull) (record o { chain_points = o.chain_points + 1; wrote = false })
 
 -- the points with one more, where there is room
 abbrev pub joined : ℕ → List ℤ → ℤ → ℤ → List ℤ
@@ -117,7 +117,7 @@ joined n ps x y = cond (eqb n 60) ps (ps ++ point_of x y)
 abbrev pub points_at : Phase → ℤ → ℤ → Drawn → Drawn
 points_at Closed x y d = fails NoRing d
 points_at Ring x y d = record { draft = corner_of d.draft; ring = joined d.draft.corners d.ring x y; chain = d.chain; out = [] }
-points_at Chain x y d = record { draft = run_of d.draft; ring = d.ring; chain = joined d.draft.run d.chain x y; out = [] }
+points_at Chain x y d = record { draft = chain_point_of d.draft; ring = d.ring; chain = joined d.draft.chain_points d.chain x y; out = [] }
 
 unfoldable pub points : ℤ → ℤ → Drawn → Drawn
 points x y d = points_at d.draft.phase x y d
@@ -131,15 +131,15 @@ takes n (Ok ChainLine) d = chains d
 takes n (Ok (Point x y)) d = points x y d
 
 -- what the code's numbers keep to
-pub record Fine (o : Draft) : Type 0 where
+pub record ValidDraft (o : Draft) : Type 0 where
   pub corners : o.corners ≤ 60
-  pub run : o.run ≤ 60
+  pub chain_points : o.chain_points ≤ 60
   pub block : o.block ≤ 65536
 
 -- a step of the code did f, from some lists to others
 pub record Did (f : Drawn → Drawn) (o : Draft) (ring chain : List ℤ) (r : Draft) (ring' chain' : List ℤ) (out' : List ℕ) : Type 0 where
   pub same : shows r ring' chain' out' ≡ f (before o ring chain)
-  pub fine : Fine r
+  pub valid : ValidDraft r
 
 abbrev pub Does : (Drawn → Drawn) → Draft → Lists → Draft → Lists → Type 0
 Does f o l r l' = Did f o l.ring l.chain r l'.ring l'.chain l'.out

@@ -1,3 +1,3 @@
 -- What a drawing's text becomes.
 pub mod Drawing
-pub mod Page
+pub mod Parsing

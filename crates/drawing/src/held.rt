@@ -26,6 +26,6 @@ pub struct Drawing {
     pub ghost short: { state.length ≤ 80 },
     pub ghost lines: { state.line + state.left ≤ 16777217 },
     pub ghost corners: { state.draft.corners ≤ 60 },
-    pub ghost run: { state.draft.run ≤ 60 },
+    pub ghost chain_points: { state.draft.chain_points ≤ 60 },
     pub ghost block: { state.draft.block ≤ 65536 },
 }

@@ -1,15 +1,15 @@
 // Drawing: a drawing's text, byte by byte, to the job blocks that the divider takes. It stands above lines and writer, at the
 // front of the way of a ring, and below the program `draw` that reads and writes.
 //
-// specs/Drawing says what comes out as one definition, `fed`, from a byte to what is kept and written. A ring is complete where
-// the next one begins or the text ends; only then is its pair of blocks written. A `Drawing` holds the points of the open ring
-// and of its chain, the bytes of the line and those of the pair.
+// specs/Parsing says what comes out as one definition, `drawn`, byte by byte (`fed`); specs/Drawing has the steps of a line. A
+// ring is complete where the next one begins or the text ends; only then is its pair of blocks written. A `Drawing` holds the
+// points of the open ring and of its chain, the bytes of the line and those of the pair.
 
 #![tactic(auto)]
 
 ghost use Rattle.std.specs.Prelude.{◌≡◌, ◌+◌, ◌*◌, ◌≤◌, ◌<◌, length};
 ghost use Rattle.drawing.specs.Drawing as Draws;
-ghost use Rattle.drawing.specs.Page as Page;
+ghost use Rattle.drawing.specs.Parsing as Parsing;
 
 mod held;
 
@@ -92,7 +92,7 @@ pub struct Draft {
     pub phase: Phase,
     pub size: u32,
     pub corners: usize,
-    pub run: usize,
+    pub chain_points: usize,
     pub block: u32,
     pub wrong: Option<Wrong>,
     pub wrote: bool,
@@ -135,12 +135,12 @@ fn put_point(places: &mut [i32], count: usize, x: i32, y: i32) -> Option<usize>
     Some(count + 1)
 }
 
-// Kept: as ghost fields of `Draft`, what `Fine` says would forbid `..o`, by which a step names what it changes and no more.
+// Kept: as ghost fields of `Draft`, what `ValidDraft` says would forbid `..o`, by which a step names what it changes and no more.
 impl Lists {
     // Writes the pair of the open ring, where one is open.
     #[tactic(auto, using(crate::proofs::Closing::closes_none, crate::proofs::Closing::closes_refused))]
     fn close(&mut self, o: Draft) -> Draft
-        requires { Draws.Fine o }
+        requires { Draws.ValidDraft o }
         ensures does { Draws.Does Draws.closes o self.old result self.new }
         ensures points { (self.new.ring ≡ self.old.ring) × (self.new.chain ≡ self.old.chain) }
     {
@@ -148,13 +148,13 @@ impl Lists {
             return o.quiet();
         }
         let ring = &self.ring[..o.corners * 2];
-        let chain = &self.chain[..o.run * 2];
+        let chain = &self.chain[..o.chain_points * 2];
         match writer::save(ring, chain, o.size, o.block, &mut self.out) {
             Err(refusal) => o.fails(refusal.into()),
             Ok(()) => Draft {
                 phase: Phase::Closed,
                 corners: 0,
-                run: 0,
+                chain_points: 0,
                 block: o.block + 2,
                 wrote: true,
                 ..o
@@ -165,7 +165,7 @@ impl Lists {
     // A ring begins: the one before it is complete.
     #[tactic(auto, using(crate::proofs::Closing::begins_not, crate::proofs::Closing::begins_so))]
     fn begin(&mut self, o: Draft, line: u32, size: u32) -> Draft
-        requires { Draws.Fine o }
+        requires { Draws.ValidDraft o }
         ensures { Draws.Does (Draws.begins line size) o self.old result self.new }
     {
         let c = self.close(o);
@@ -176,7 +176,7 @@ impl Lists {
                 phase: Phase::Ring,
                 size,
                 corners: 0,
-                run: 0,
+                chain_points: 0,
                 ..c
             },
         }
@@ -184,7 +184,7 @@ impl Lists {
 
     // A point of the open ring, or of its chain.
     fn point(&mut self, o: Draft, x: i32, y: i32) -> Draft
-        requires { Draws.Fine o }
+        requires { Draws.ValidDraft o }
         ensures { Draws.Does (Draws.points x y) o self.old result self.new }
     {
         match o.phase {
@@ -197,10 +197,10 @@ impl Lists {
                     ..o
                 },
             },
-            Phase::Chain => match put_point(&mut self.chain, o.run, x, y) {
+            Phase::Chain => match put_point(&mut self.chain, o.chain_points, x, y) {
                 None => o.fails(Wrong::ChainFull),
-                Some(run) => Draft {
-                    run,
+                Some(chain_points) => Draft {
+                    chain_points,
                     wrote: false,
                     ..o
                 },
@@ -210,7 +210,7 @@ impl Lists {
 
     // What was heard of line `number`.
     fn take_heard(&mut self, o: Draft, number: u32, heard: Result<Line, Fault>) -> Draft
-        requires { Draws.Fine o }
+        requires { Draws.ValidDraft o }
         ensures { Draws.Does (Draws.takes number heard) o self.old result self.new }
     {
         match heard {
@@ -254,14 +254,14 @@ pub struct State {
 impl State {
     // Before the first byte.
     pub fn new() -> State
-        ensures { result ≡ Page.begun }
+        ensures { result ≡ Parsing.begun }
     {
         let draft = Draft {
             began: 0,
             phase: Phase::Closed,
             size: 0,
             corners: 0,
-            run: 0,
+            chain_points: 0,
             block: 0,
             wrong: None,
             wrote: false,
@@ -277,7 +277,7 @@ impl State {
 
     fn goes(self, length: usize, comment: bool) -> State
         requires { 0 < self.left }
-        ensures { result ≡ Page.gone_on self length comment }
+        ensures { result ≡ Parsing.gone_on self length comment }
     {
         State {
             left: self.left - 1,
@@ -289,7 +289,7 @@ impl State {
     }
 
     fn stops(self, wrong: Wrong) -> State
-        ensures { result ≡ Page.stopped self wrong }
+        ensures { result ≡ Parsing.stopped self wrong }
     {
         State {
             draft: self.draft.fails(wrong),
@@ -301,7 +301,7 @@ impl State {
 // The number of the line after one that said o.
 fn next_line(line: u32, o: Draft) -> u32
     requires { line < 16777217 }
-    ensures { result ≡ Page.line_after line o }
+    ensures { result ≡ Parsing.line_after line o }
 {
     match o.wrong {
         None => line + 1,
@@ -312,7 +312,7 @@ fn next_line(line: u32, o: Draft) -> u32
 impl Drawing {
     // Before the first byte.
     pub fn new() -> Drawing
-        ensures { Page.page_of result ≡ Page.blank_page }
+        ensures { Parsing.parser_of result ≡ Parsing.fresh_parser }
     {
         Drawing {
             state: State::new(),
@@ -329,7 +329,7 @@ impl Drawing {
     #[tactic(auto, using(crate::proofs::Feeding::line_ends_so))]
     fn end_line(&mut self)
         requires { 0 < self.old.state.left }
-        ensures { Page.Moves Page.line_ends self.old self.new }
+        ensures { Parsing.Moves Parsing.line_ends self.old self.new }
     {
         let s = self.state;
         let heard = lines::hear(&self.text[..s.length]);
@@ -346,7 +346,7 @@ impl Drawing {
     // One byte of the text.
     #[tactic(auto, using(crate::proofs::Feeding::fed_too_long, crate::proofs::Feeding::fed_line, crate::proofs::Feeding::fed_comment, crate::proofs::Feeding::fed_full, crate::proofs::Feeding::fed_byte))]
     pub fn feed(&mut self, b: u8)
-        ensures { Page.Moves (Page.fed b) self.old self.new }
+        ensures { Parsing.Moves (Parsing.fed b) self.old self.new }
     {
         let s = self.state;
         if s.left == 0 {
@@ -366,7 +366,7 @@ impl Drawing {
     // The end of the text, after its last line.
     #[tactic(auto, using(crate::proofs::Feeding::text_ends))]
     pub fn finish(&mut self)
-        ensures moves { Page.Moves Page.ends self.old self.new }
+        ensures moves { Parsing.Moves Parsing.ends self.old self.new }
         ensures text { self.new.text ≡ self.old.text }
         ensures points { (self.new.lists.ring ≡ self.old.lists.ring) × (self.new.lists.chain ≡ self.old.lists.chain) }
     {

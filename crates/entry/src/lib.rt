@@ -18,8 +18,8 @@ ghost use Rattle.call.specs.Lent.{lent_lists};
 ghost use Rattle.entry.specs.Refusal as Tests;
 
 use limits::Limits;
-use nodes::{MOST_PLACES, Nearby, NodeNumber, Window};
-use reserve::Places;
+use nodes::{MOST_PLACES, Nearby, NodeNumber, RingBox};
+use reserve::FreePlaces;
 use table::Refusal;
 
 // A used rim mark is neither set (1) nor clear (0). Nothing ends the scan, so that several are judged at once.
@@ -47,7 +47,7 @@ fn counts_over(
 }
 
 // The places that a ring of r points may take.
-pub fn reserve_of(limits: Limits, r: usize) -> Places
+pub fn reserve_of(limits: Limits, r: usize) -> FreePlaces
     requires { (3 ≤ r) × (r ≤ most_points) }
     ensures nodes { result.nodes ≡ Call.node_reserve limits r }
     ensures cells { result.cells ≡ Call.cell_reserve limits r }
@@ -57,7 +57,7 @@ pub fn reserve_of(limits: Limits, r: usize) -> Places
 
 // 4: too few free places.
 #[tactic(auto, unfolding(call::specs::Call::room_out_of))]
-fn room_out(limits: Limits, r: usize, free: Places) -> bool
+fn room_out(limits: Limits, r: usize, free: FreePlaces) -> bool
     requires { (3 ≤ r) × (r ≤ most_points) }
     ensures { result ≡ Call.room_out_of limits r free.nodes free.cells }
 {
@@ -65,20 +65,20 @@ fn room_out(limits: Limits, r: usize, free: Places) -> bool
     free.nodes < reserve.nodes || free.cells < reserve.cells
 }
 
-// 3 of the used nodes, which are all held or not, and of the used marks; and 4.
+// 3 of the used nodes, which are all on the sheet or not, and of the used marks; and 4.
 fn used_refusal(
     limits: Limits,
     own: usize,
-    held: bool,
+    on_sheet: bool,
     rims: &[u8],
     node_count: usize,
-    free: Places,
+    free: FreePlaces,
 ) -> Result<(), Refusal>
     requires { (node_count ≤ length rims.now) × (3 ≤ own) × (own ≤ most_points) }
-    ensures { code_of result ≡ cond (not held || any (λ i. ltb 1 (get_or rims.now i 0)) node_count) 3
+    ensures { code_of result ≡ cond (not on_sheet || any (λ i. ltb 1 (get_or rims.now i 0)) node_count) 3
         (cond (Call.room_out_of limits own free.nodes free.cells) 4 0) }
 {
-    if !held || any_mark_out(rims, node_count) {
+    if !on_sheet || any_mark_out(rims, node_count) {
         return Err(Refusal::Lists);
     }
     if room_out(limits, own, free) {
@@ -105,7 +105,7 @@ pub fn points_refusal(limits: Limits, ring: &[i32], chain: &[i32], size: u32) ->
 }
 
 // The first refusal of the lists for a ring of `own` points, 3 and 4, or the nodes that were collected. Of the cell list only
-// the number of its places is looked at. Where the counts fit, the used nodes in the window are collected.
+// the number of its places is looked at. Where the counts fit, the used nodes in the box are collected.
 // Kept: of the node list, its count, the rim marks and the cells this reads the first three and lends none on, where the core
 // writes all. A struct of them would be borrowed here with cells that nothing looks at, and that `cell_records` has not.
 #[tactic(auto, using(crate::proofs::Tests::counts_hold, crate::proofs::Tests::over, crate::proofs::Tests::looked_all, crate::proofs::Tests::all, survey::proofs::Gathering::held))]
@@ -117,7 +117,7 @@ pub fn lists_refusal(
     rims: &[u8],
     cell_places: usize,
     cell_count: usize,
-    w: Window,
+    w: RingBox,
     numbers: &mut [NodeNumber],
     xs: &mut [f64],
 ) -> Result<Nearby, Refusal>
@@ -133,10 +133,10 @@ pub fn lists_refusal(
         return Err(Refusal::Lists);
     }
     let s = survey::used_nodes(nodes, node_count, w, numbers, xs);
-    let free = Places {
+    let free = FreePlaces {
         nodes: places - node_count,
         cells: cell_places - cell_count,
     };
-    used_refusal(limits, own, s.held, rims, node_count, free)?;
+    used_refusal(limits, own, s.on_sheet, rims, node_count, free)?;
     Ok(s.near)
 }

@@ -1,6 +1,6 @@
 // Extent: the box of a ring, in which nodes are collected for it.
 //
-// It stands between the tests of a ring and the survey of the used nodes, which asks it where to collect them. The box
+// It stands between the tests of a ring and the survey of the used nodes, which is handed the box to collect them in. The box
 // decides no answer, only where a node is looked for: of a point outside it the whole list is searched. So nothing is
 // promised of it but that it is one. The ring's points make it, as they were lent, and where its edges may snap to; middles and
 // means lie between them, up to rounding, for which it is a unit wider.
@@ -10,7 +10,7 @@
 ghost use Rattle.laws.specs.Within.{Within};
 ghost use Rattle.nodes.specs.Nearby.{Framed};
 
-use nodes::Window;
+use nodes::RingBox;
 use vector::{GridPoint, Point};
 
 // 1/8192 mm.
@@ -117,11 +117,11 @@ fn of_ring(ring: &[i32], share: f64) -> Extent {
     e
 }
 
-// The window over an extent.
-fn framed(e: Extent) -> Window
+// The box of an extent.
+fn framed(e: Extent) -> RingBox
     ensures { Framed result }
 {
-    Window::new(
+    RingBox::new(
         side(e.lo_x - UNIT),
         side(e.hi_x + UNIT),
         side(e.lo_y - UNIT),
@@ -129,17 +129,17 @@ fn framed(e: Extent) -> Window
     )
 }
 
-// The window over a ring and what of its chain is near: a snap point lies between two points of the chain, and one that is
+// The box of a ring and what of its chain is near: a snap point lies between two points of the chain, and one that is
 // farther than the widened box is taken by no edge.
-pub fn window(ring: &[i32], chain: &[i32]) -> Window
+pub fn ring_box(ring: &[i32], chain: &[i32]) -> RingBox
     ensures { Framed result }
 {
     let own = of_points(ring, Extent::SHEET, Extent::NONE);
     framed(of_points(chain, own.widened(), own))
 }
 
-// The window over a ring whose edges have given marks, and take snap points up to this share of their chord.
-pub fn window_with_marks(ring: &[i32], share: f64) -> Window
+// The box of a ring whose edges have given marks, and take snap points up to this share of their chord.
+pub fn ring_box_with_marks(ring: &[i32], share: f64) -> RingBox
     ensures { Framed result }
 {
     framed(of_ring(ring, share))

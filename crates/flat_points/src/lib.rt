@@ -6,15 +6,15 @@
 #![tactic(auto)]
 
 ghost use Rattle.std.specs.Prelude.{◌≡◌, drop};
-ghost use Rattle.clean_steps.specs.Choices.{bent_places};
-ghost use Rattle.clean_steps.specs.Chosen.{chosen, Leaves};
+ghost use Rattle.clean_steps.specs.Places.{bent_places};
+ghost use Rattle.clean_steps.specs.KeptPlaces.{kept_points, Leaves};
 
-use clean_steps::Choice;
+use clean_steps::KeptPlaces;
 
-// The choice without the points that are flat in it, each judged in the ring as it stands. A place after those kept is what it was.
-#[tactic(auto, unfolding(clean_steps::specs::Choices::bent_places))]
-pub fn bent<'a>(r: &Choice<'a>) -> Choice<'a>
-    ensures { Leaves r.now (bent_places r.now.tol (chosen r.now) r.now.count) result
+// What is kept without the points that are flat in it, each judged in the ring as it stands. A place after those kept is what it was.
+#[tactic(auto, unfolding(clean_steps::specs::Places::bent_places))]
+pub fn bent<'a>(r: &KeptPlaces<'a>) -> KeptPlaces<'a>
+    ensures { Leaves r.now (bent_places r.now.tol (kept_points r.now) r.now.count) result
         × (drop result.count result.places ≡ drop result.count r.now.places) }
 {
     let n = r.count;

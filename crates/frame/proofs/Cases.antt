@@ -6,11 +6,11 @@ use native.Mathlib.Nat.{pow-succ', pow-le-pow_right}
 use native.Mathlib.Omega.{arith}
 use native.Mathlib.Decide.{dec_le}
 use lib.ListN.{get_or, take, drop}
-use lib.Seq.{get_or-take, drop-drop}
+use lib.Seq.{get_or-take}
 use lib.IntN.{ℤ, pos}
 use Rattle.std.specs.Prelude.{Ok, Err}
 use Rattle.std.specs.Simd.{first_chunks}
-use Rattle.text.proofs.Chunks.{chunk_at}
+use Rattle.laws.proofs.Chunks.{chunk_is, chunk_at}
 use Rattle.svg.specs.Place.{point_place, unit_place}
 use borrow.Author.Tests.{lt-ltb, le-ltb}
 use Rattle.blocks.specs.declared.Reading.{Reading}
@@ -110,12 +110,7 @@ module _ (ps : List ℤ) (m n i : ℕ) (pairs : List (List ℤ)) (e : pairs ≡ 
 
 -- block i of a job, among its whole blocks
 block_of : (l : List ℕ) (n i : ℕ) → i < n → get_or (first_chunks 512 n l) i [] ≡ block_at l i
-block_of l zero i h = absurd (omega arith)
-block_of l (suc n) zero h = refl
-block_of l (suc n) (suc i) h =
-    let e : 512 + 512 * i ≡ 512 * suc i = omega arith in
-    block_of (drop 512 l) n i (omega arith)
-    ∙ ap (take 512) (drop-drop (512 * i) 512 l ∙ ap (λ (k : ℕ). drop k l) e)
+block_of l n i h = chunk_is 512 n i l h ∙ ap (λ (k : ℕ). take 512 (drop k l)) (omega arith)
 
 -- the walk over the blocks, at block i, which is read as r
 module _ (l : List ℕ) (n i : ℕ) (e : Reach) (h : i < n) (whole : List (List ℕ)) (f : whole ≡ first_chunks 512 n l) where

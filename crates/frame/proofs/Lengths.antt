@@ -5,7 +5,7 @@ use mathlib.Core.List.{List, [], ◌∷◌}
 use native.Mathlib.Omega.{arith}
 use lib.ListN.{length, length-append}
 use lib.Dec.{ltb}
-use Rattle.text.specs.Text.{bytes, marks}
+use Rattle.text.specs.Text.{bytes, slots}
 use Rattle.svg.specs.Form.{formed, takes}
 use Rattle.svg.proofs.Forms.{length-formed}
 use Rattle.frame.specs.Seen.{Layout}
@@ -17,17 +17,17 @@ use Rattle.frame.specs.Head.{box_text, looks_form, looks, axes_form, axes_text, 
 use Rattle.frame.specs.Head.{eastward, below_text, northward, beside_text, tick_text, ticks_text}
 
 pub box_length : (v : View) → length (box_text v) ≤ 298
-unfolding box_text bytes marks takes
+unfolding box_text bytes slots takes
 box_length v =
     length-formed (bytes "<svg xmlns='http://www.w3.org/2000/svg' width='@mm' height='@mm' viewBox='@ @ @ @' font-size='@' font-family='sans-serif'>\n")
     (v.wide ∷ v.tall ∷ v.x ∷ v.y ∷ v.wide ∷ v.tall ∷ v.letters ∷ [])
 
 looks-length : length looks ≤ 1055
-unfolding looks looks_form bytes marks takes
+unfolding looks looks_form bytes slots takes
 looks-length = length-formed looks_form []
 
 axes_length : (f : Layout) (a : Axes) → length (axes_text f a) ≤ 1299
-unfolding axes_text axes_form bytes marks takes
+unfolding axes_text axes_form bytes slots takes
 axes_length f a =
     length-formed axes_form
     (f.left ∷ a.under ∷ f.right ∷ a.beside ∷ f.low ∷ f.high
@@ -37,13 +37,13 @@ axes_length f a =
     ∷ a.key ∷ a.above ∷ [])
 
 pub ended-length : (f : Edges) (block code : ℕ) → length (ended_text f block code) ≤ 192
-unfolding ended_text bytes marks takes
+unfolding ended_text bytes slots takes
 ended-length f block code =
     length-formed (bytes "<text class='ended' transform='matrix(.01 0 0 -.01 @ @)' y='4.8em'>block # refused #</text>\n")
     (f.left ∷ f.bottom ∷ block ∷ code ∷ [])
 
 pub foot_length : length foot_text ≤ 12
-unfolding foot_text bytes marks takes
+unfolding foot_text bytes slots takes
 foot_length = length-formed (bytes "</g>\n</svg>\n") []
 
 -- ---- the numbers at the ticks
@@ -54,7 +54,7 @@ module _ (f : Layout) (i : ℕ) where
       (eastward f i ∷ (f.low + f.em) ∷ eastward f i ∷ [])
 
   below_length : length (below_text f i) ≤ 156
-  unfolding below_text bytes marks takes
+  unfolding below_text bytes slots takes
   below_length = go (ltb f.right (eastward f i))
     where
       go : (t : Bool) → length (cond t [] below_label) ≤ 156
@@ -69,7 +69,7 @@ module _ (f : Layout) (i : ℕ) where
       ((f.left - f.em) ∷ northward f i ∷ upside_down (northward f i) ∷ [])
 
   beside-length : length (beside_text f i) ≤ 167
-  unfolding beside_text bytes marks takes
+  unfolding beside_text bytes slots takes
   beside-length = go (ltb (northward f i) f.high)
     where
       go : (t : Bool) → length (cond t [] beside_label) ≤ 167

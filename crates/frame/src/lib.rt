@@ -59,9 +59,11 @@ impl Model for Frame {
 
     ghost view = { λ f. record { left = f.left; right = f.right; bottom = f.bottom; low = f.low; high = f.high; margin = f.margin; em = f.em; step = f.step } };
 
-    ghost invariant = { λ f. SmallFrame (record { left = f.left; right = f.right; bottom = f.bottom; low = f.low; high = f.high; margin = f.margin; em = f.em; step = f.step }) };
+    ghost invariant = { λ f.
+        SmallFrame (record { left = f.left; right = f.right; bottom = f.bottom; low = f.low; high = f.high; margin = f.margin; em = f.em; step = f.step }) };
 
-    ghost inverse = { λ l. record { left = l.left; right = l.right; bottom = l.bottom; low = l.low; high = l.high; margin = l.margin; em = l.em; step = l.step } };
+    ghost inverse = { λ l.
+        record { left = l.left; right = l.right; bottom = l.bottom; low = l.low; high = l.high; margin = l.margin; em = l.em; step = l.step } };
 }
 
 // The edges of a picture by which the line of a refused block stands, wherever they are.

@@ -1,4 +1,4 @@
--- Marks laid edge by edge into an array, and that those laid are the ones that survive: the next kept place decides it.
+-- Marks put edge by edge into an array (`MarkedTo`), and that they are the ones that survive: the next kept place decides it.
 use Prim.Native.Nat.{ℕ, suc, ◌+◌, ◌%◌, ◌≤◌, ◌<◌}
 use native.Mathlib.Nat.{mod-lt}
 use native.Mathlib.Omega.{arith}
@@ -31,7 +31,7 @@ use Rattle.outline.specs.Outline.{Segment}
 use Rattle.nodes.specs.Flat.{node_in_of}
 use Rattle.call.specs.Marked.{Marking, mark_of, lead_point, lead_line, given_mark, called_for}
 use Rattle.given.specs.declared.lead.LeadLine.{LeadLine}
-use Rattle.given.specs.Steps.{sought, OutlineRead, places_in, MarksOf, mark_left, Laid, Survive}
+use Rattle.given.specs.Steps.{sought, OutlineRead, places_in, MarksOf, mark_left, MarkedTo, Survive}
 
 -- a kept place is one of the ring's
 module _ (ring : Ring) (kinds : List ℕ) (snaps : List Float) (c : CleanedRing) (h : MarksOf ring kinds snaps c) where
@@ -44,13 +44,13 @@ module _ (ring : Ring) (kinds : List ℕ) (snaps : List Float) (c : CleanedRing)
       let b = h.kept.below j (omega (arith, l, places-many)) in
       omega (arith, e, b)
 
-pub laid_none : (f : ℕ → EdgeMark) → Laid f 0 (replicate 60 Straight)
+pub marked_to_none : (f : ℕ → EdgeMark) → MarkedTo f 0 (replicate 60 Straight)
 unfolding tab
-laid_none f = record { marks = refl; unused = λ k h. all_same (λ x. x ≡ Straight) Straight 60 Straight refl refl k; places = refl }
+marked_to_none f = record { marks = refl; unused = λ k h. all_same (λ x. x ≡ Straight) Straight 60 Straight refl refl k; places = refl }
 
-pub laid_more : (f : ℕ → EdgeMark) (i : ℕ) (es : List EdgeMark) (e : EdgeMark) → Laid f i es → i < 60 → e ≡ f i → Laid f (i + 1) (set es i e)
+pub marked_to_more : (f : ℕ → EdgeMark) (i : ℕ) (es : List EdgeMark) (e : EdgeMark) → MarkedTo f i es → i < 60 → e ≡ f i → MarkedTo f (i + 1) (set es i e)
 unfolding tab
-laid_more f i es e so l q =
+marked_to_more f i es e so l q =
     let m = take-set-le i es i e (omega arith) ∙ so.marks in
     let g = get_or-set_same es i e Straight (omega (arith, so.places)) ∙ q in
     record {
@@ -128,10 +128,11 @@ module _ (ring : Ring) (c : CleanedRing) (g : Marking) (o : LeadLine) (h : Marks
       survives-next ring.count ks h.kept j (omega (arith, l, many))
       ∙ (λ i. eqb ((ap (λ (x : ℕ). get_or ks x 0) d ∙ b) i) ((ap (λ (x : ℕ). suc x % ring.count) a ∙ ap (λ (x : ℕ). x % ring.count) (sym (add-one k))) i))
       in
-      let m : get_or ms (get_or ks j 0) Straight ≡ given_mark g r k = ap (λ (x : ℕ). get_or ms x Straight) a ∙ get_d_tab (given_mark g r) ring.count k Straight low in
+      let m : get_or ms (get_or ks j 0) Straight ≡ given_mark g r k =
+      ap (λ (x : ℕ). get_or ms x Straight) a ∙ get_d_tab (given_mark g r) ring.count k Straight low in
       λ i. cond (sym s i) ((given_is k low ∙ sym m) i) Straight
 
-  pub survive : (es : List EdgeMark) → Laid (mark_left ring c g.kinds g.snaps (sought o)) c.ring.count es → Survive g r ks es
+  pub survive : (es : List EdgeMark) → MarkedTo (mark_left ring c g.kinds g.snaps (sought o)) c.ring.count es → Survive g r ks es
   survive es so =
       let f = mark_left ring c g.kinds g.snaps (sought o) in
       let u : surviving Straight ring.count ks ms ≡ tab f c.ring.count =

@@ -46,7 +46,7 @@ mark_left ring c kinds snaps ss j =
     (mark_of (get_or kinds k 0) (node_in_of snaps k) (lead_point ss (get_or ring.points k origin) (get_or ring.points after origin))) Straight
 
 -- es has the first n of these marks, and the places after them are straight
-pub record Laid (f : ℕ → EdgeMark) (n : ℕ) (es : List EdgeMark) : Type 0 where
+pub record MarkedTo (f : ℕ → EdgeMark) (n : ℕ) (es : List EdgeMark) : Type 0 where
   pub marks : take n es ≡ tab f n
   pub unused : (k : ℕ) → n ≤ k → get_or es k Straight ≡ Straight
   pub places : length es ≡ most_points

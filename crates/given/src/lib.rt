@@ -12,7 +12,7 @@ ghost use Rattle.marks.specs.declared.EdgeMark.TheVariants.{Straight};
 ghost use Rattle.call.specs.Marked as Marked;
 ghost use Rattle.outline.specs.Outline.{nearest_boundary_point};
 ghost use Rattle.given_tests.specs.Lent.{lent_in};
-ghost use Rattle.given.specs.Steps.{sought, OutlineRead, places_in, MarksOf, mark_left, Laid, Survive};
+ghost use Rattle.given.specs.Steps.{sought, OutlineRead, places_in, MarksOf, mark_left, MarkedTo, Survive};
 
 mod lead;
 
@@ -105,7 +105,7 @@ fn marks_left(
     lead: &LeadLine,
 ) -> [EdgeMark; MOST_POINTS]
     requires { MarksOf ring.now marking.kinds.now marking.snaps.now clean.now }
-    ensures { Laid (mark_left ring.now clean.now marking.entry.kinds.now marking.entry.snaps.now (sought lead.now)) clean.now.ring.count result }
+    ensures { MarkedTo (mark_left ring.now clean.now marking.entry.kinds.now marking.entry.snaps.now (sought lead.now)) clean.now.ring.count result }
 {
     let places = &clean.places[..clean.ring.count];
     let mut edges = [EdgeMark::Straight; MOST_POINTS];

@@ -28,7 +28,7 @@ pub struct Marking<'a> {
 fn mark_out(kind: u8, p: Point) -> bool
     ensures { result ≡ Marked.mark_out kind p }
 {
-    2 < kind || kind == 1 && !(nodes::is_held(p.x) && nodes::is_held(p.y))
+    2 < kind || kind == 1 && !(nodes::is_on_sheet(p.x) && nodes::is_on_sheet(p.y))
 }
 
 // 13: the marks of a ring of n points. The given point of a mark that is not of kind 1 may be anything.

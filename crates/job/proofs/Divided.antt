@@ -18,7 +18,7 @@ use Rattle.told.specs.declared.Told.TheVariants as Told
 use Rattle.told.specs.Text.{Tells}
 use Rattle.state.specs.declared.State.{State}
 use Rattle.job.specs.Step.{no_cells, lent_by, divides, Steps}
-use Rattle.job.proofs.Rows.{shown}
+use Rattle.job.proofs.Rows.{printable}
 
 -- the empty cell list is no longer than what can be printed of it
 pub few-cells : (p : List ℕ) → p ≡ no_cells → length p ≤ 496
@@ -37,7 +37,8 @@ module _ (s : State) (ps : List ℤ) (l : List Float) (rs : List ℕ) where
       }) ps m y p
   unfolding divides
   divided chain k z a m y p q t n g e f =
-      let h : Promise delivered (lent_by s ps l rs chain) (values a) m y p = subst (λ (x : List ℕ). Promise delivered (lent_over chain x) (values a) m y p) z q in
+      let h : Promise delivered (lent_by s ps l rs chain) (values a) m y p =
+      subst (λ (x : List ℕ). Promise delivered (lent_over chain x) (values a) m y p) z q in
       let d : values a ≡ (divide_lent delivered (lent_by s ps l rs chain)).row = h.leaves.values in
       let u : n ≡ (divide_lent delivered (lent_by s ps l rs chain)).row.nodes = e ∙ ap (λ (v : Row). v.nodes) d in
       record {
@@ -49,7 +50,7 @@ module _ (s : State) (ps : List ℤ) (l : List Float) (rs : List ℕ) where
         told = λ i. Tells.Ring (f i) s.used (d i);
         tells =
             record {
-              shown = shown (lent_by s ps l rs chain) (values a) m y p h (t ∙ ap length z);
+              printable = printable (lent_by s ps l rs chain) (values a) m y p h (t ∙ ap length z);
               few = omega (arith, t, few-cells k z);
             };
       }

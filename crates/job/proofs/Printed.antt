@@ -10,7 +10,7 @@ use native.Mathlib.Omega.{arith}
 use native.Mathlib.Decide.{dec_le}
 use native.Mathlib.Numerals.{add-one}
 use lib.ListN.{length, length-drop, length-take}
-use Rattle.job.specs.Run.{Bytes, Course, onward, ran, block_at, read_to, whole_run, printed}
+use Rattle.job.specs.Run.{Bytes, RunSoFar, onward, ran, block_at, read_to, whole_run, printed}
 use Rattle.job.proofs.Runs.{known, stays, short-ends, numbered, block-bytes}
 
 module _ (l : List ℕ) where
@@ -33,7 +33,7 @@ module _ (l : List ℕ) where
     settled (suc k) =
         let q = settled k in
         let a : suc k + n ≡ suc (k + n) = omega arith in
-        ap (λ (m : ℕ). ran (read_to l m)) a ∙ one_more (k + n) ∙ ap (λ (r : Course). onward r (block_at l (k + n))) q
+        ap (λ (m : ℕ). ran (read_to l m)) a ∙ one_more (k + n) ∙ ap (λ (r : RunSoFar). onward r (block_at l (k + n))) q
         ∙ stays (ran (read_to l n)) (block_at l (k + n)) e
 
     later : (m : ℕ) → n ≤ m → ran (read_to l m) ≡ ran (read_to l n)
@@ -50,7 +50,7 @@ module _ (l : List ℕ) where
 
   pub prints : (n : ℕ) → (ran (read_to l n)).state.ended ≡ true → (ran (read_to l n)).text ≡ printed l
   unfolding printed
-  prints n e = ap (λ (r : Course). r.text) (settles n e)
+  prints n e = ap (λ (r : RunSoFar). r.text) (settles n e)
 
   first-number : (ran (read_to l 0)).state.block ≡ 0
   unfolding ran read_to
@@ -60,7 +60,7 @@ module _ (l : List ℕ) where
   pub counted : (n : ℕ) → (ran (read_to l n)).state.ended ≡ false → (ran (read_to l n)).state.block ≡ n
   counted zero e = first-number
   counted (suc n) e =
-      rw (one_more n) (numbered (ran (read_to l n)) (block_at l n) n (counted n) (subst (λ (r : Course). r.state.ended ≡ false) (one_more n) e)).0
+      rw (one_more n) (numbered (ran (read_to l n)) (block_at l n) n (counted n) (subst (λ (r : RunSoFar). r.state.ended ≡ false) (one_more n) e)).0
 
   pub in_time : Bytes l → (n : ℕ) → 65537 ≤ n → (ran (read_to l n)).state.ended ≡ true
   in_time f n h = go (known (ran (read_to l n)).state.ended)
@@ -70,7 +70,7 @@ module _ (l : List ℕ) where
       too_far (suc k) h e =
           omega (
             arith,
-            (numbered (ran (read_to l k)) (block_at l k) k (counted k) (subst (λ (r : Course). r.state.ended ≡ false) (one_more k) e)).1 (block-bytes l k f),
+            (numbered (ran (read_to l k)) (block_at l k) k (counted k) (subst (λ (r : RunSoFar). r.state.ended ≡ false) (one_more k) e)).1 (block-bytes l k f),
           )
 
       go : ((ran (read_to l n)).state.ended ≡ true) ⊎ ((ran (read_to l n)).state.ended ≡ false) → (ran (read_to l n)).state.ended ≡ true

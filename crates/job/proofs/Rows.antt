@@ -14,7 +14,7 @@ use Rattle.call.specs.Demand.{AcceptedCall}
 use Rattle.call.specs.Lent.{Lent, call_of, cell_in, divide_lent}
 use Rattle.table.specs.declared.Row.{Row}
 use Rattle.divider.specs.Promise.{Promise}
-use Rattle.told.specs.Text.{Shown}
+use Rattle.told.specs.Text.{PrintableRow}
 
 module _ (l : Lent) (v : Row) (m : List Float) (t : List ℕ) (p : List ℕ) (q : Promise delivered l v m t p) (e : length p ≡ length l.cells) where
   grown : v.code ≡ 0 → l.node_count_of ≤ v.nodes
@@ -37,5 +37,5 @@ module _ (l : Lent) (v : Row) (m : List Float) (t : List ℕ) (p : List ℕ) (q 
       let n = length_tab (cell_in l.cells) (length l.cells / 4) in
       omega arith
 
-  pub shown : Shown l.node_count_of v p
-  shown = record { grown = grown; listed = listed }
+  pub printable : PrintableRow l.node_count_of v p
+  printable = record { grown = grown; listed = listed }

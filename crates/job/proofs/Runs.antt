@@ -24,7 +24,7 @@ use Rattle.blocks.specs.Blocks.{read_block}
 use Rattle.state.specs.declared.State.{State}
 use Rattle.told.specs.Text.{Tells}
 use Rattle.job.specs.Step.{Step, text_of, ends, waits, divides, taken, answered, step_of}
-use Rattle.job.specs.Run.{Bytes, Course, onward, ran, block_at, read_to}
+use Rattle.job.specs.Run.{Bytes, RunSoFar, onward, ran, block_at, read_to}
 use Rattle.std.proofs.lemmas.Bool.{cond_both}
 
 -- ---- a step
@@ -106,7 +106,7 @@ known false = inr refl
 pub not-both : {A : Type 0} (t : Bool) → t ≡ true → t ≡ false → A
 not-both t e f = let z : ◌≡◌ {A = ℕ} 0 1 = cc in absurd (omega arith)
 
-module _ (r : Course) (b : List ℕ) where
+module _ (r : RunSoFar) (b : List ℕ) where
   -- a run that has ended stays as it is
   pub stays : r.state.ended ≡ true → onward r b ≡ r
   unfolding onward
@@ -125,12 +125,12 @@ module _ (r : Course) (b : List ℕ) where
   goes e = rw e
 
   goes-state : r.state.ended ≡ false → (onward r b).state ≡ (step_of r.state r.points r.nodes r.rims b).state
-  goes-state e = ap (λ (x : Course). x.state) (goes e)
+  goes-state e = ap (λ (x : RunSoFar). x.state) (goes e)
 
   onward-held : Held r.state r.points → Held (onward r b).state (onward r b).points
   unfolding onward
   onward-held h =
-      cond_both r.state.ended r _ (λ (e : Course). Held e.state e.points) (λ _. h)
+      cond_both r.state.ended r _ (λ (e : RunSoFar). Held e.state e.points) (λ _. h)
       (λ _. step-held r.state r.points r.nodes r.rims b h.few h.long)
 
   -- a short block ends it
@@ -144,7 +144,7 @@ module _ (r : Course) (b : List ℕ) where
       by (inr w) = absurd (omega (arith, w.whole))
 
       go : (r.state.ended ≡ true) ⊎ (r.state.ended ≡ false) → (onward r b).state.ended ≡ true
-      go (inl e) = ap (λ (x : Course). x.state.ended) (stays e) ∙ e
+      go (inl e) = ap (λ (x : RunSoFar). x.state.ended) (stays e) ∙ e
       go (inr e) = ap (λ (x : State). x.ended) (goes-state e) ∙ by (outcome r.state r.points r.nodes r.rims b)
 
   -- one that goes on has the next number, and that is no higher than 65,536
@@ -163,7 +163,7 @@ module _ (r : Course) (b : List ℕ) where
       )
 
       go : (r.state.ended ≡ true) ⊎ (r.state.ended ≡ false) → ((onward r b).state.block ≡ suc n) × (Bytes b → n < 65536)
-      go (inl e) = not-both _ e (ap (λ (x : Course). x.state.ended) (sym (stays e)) ∙ f)
+      go (inl e) = not-both _ e (ap (λ (x : RunSoFar). x.state.ended) (sym (stays e)) ∙ f)
       go (inr e) = by e (outcome r.state r.points r.nodes r.rims b)
 
 -- ---- a run over blocks

@@ -22,7 +22,7 @@ abbrev pub no_rims : List ℕ
 no_rims = replicate 1536 0
 
 -- a run up to here: the state, the points of the ring that waits, the nodes, their rim marks, and all that was printed
-pub record Course : Type 0 where
+pub record RunSoFar : Type 0 where
   pub state : State
   pub points : List ℤ
   pub nodes : List Float
@@ -30,13 +30,13 @@ pub record Course : Type 0 where
   pub text : List ℕ
 
 -- one block on; a run that has ended stays as it is
-unfoldable pub onward : Course → List ℕ → Course
+unfoldable pub onward : RunSoFar → List ℕ → RunSoFar
 onward r b =
     let e = step_of r.state r.points r.nodes r.rims b in
     cond r.state.ended r (record { state = e.state; points = e.points; nodes = e.nodes; rims = e.rims; text = r.text ++ text_of e })
 
 -- the run over some blocks, the latest first
-unfoldable pub ran : List (List ℕ) → Course
+unfoldable pub ran : List (List ℕ) → RunSoFar
 ran [] = record { state = start; points = no_points; nodes = no_nodes; rims = no_rims; text = [] }
 ran (b ∷ bs) = onward (ran bs) b
 
@@ -49,7 +49,7 @@ read_to l zero = []
 read_to l (suc i) = block_at l i ∷ read_to l i
 
 -- "blocks one at a time, each in full before the next is read", up to the first read that gives less than a block; and what is printed
-unfoldable pub whole_run : List ℕ → Course
+unfoldable pub whole_run : List ℕ → RunSoFar
 whole_run l = ran (read_to l (length l / 512 + 1))
 
 unfoldable pub printed : List ℕ → List ℕ

@@ -11,7 +11,7 @@ ghost use Rattle.vector.specs.Grid.{sub};
 ghost use Rattle.cosine.specs.Cosine.{cosine};
 ghost use Rattle.judge.specs.Judge as Judge;
 
-use cosine::Side;
+use cosine::Normed;
 use limits::Limits;
 use vector::GridPoint;
 
@@ -30,19 +30,19 @@ fn in_range(limits: Limits, c: f64) -> bool
     limits::between(limits.least, limits.greatest, c)
 }
 
-// The cosines of the diagonal from o to q with the two sides at o.
+// The cosines of the diagonal from o to q with the two steps from o.
 #[derive(Clone, Copy)]
-pub struct Cosines {
-    pub next: f64,
-    pub prev: f64,
+struct Cosines {
+    next: f64,
+    prev: f64,
 }
 
 impl Cosines {
-    pub fn of(o: GridPoint, q: GridPoint, next: Side, prev: Side) -> Cosines
+    fn of(o: GridPoint, q: GridPoint, next: Normed, prev: Normed) -> Cosines
         requires { OnSheet o × OnSheet q }
         ensures { result ≡ record { next = cosine next.step (sub q o); prev = cosine prev.step (sub q o) } }
     {
-        let d = Side::new(q.sub(o));
+        let d = Normed::new(q.sub(o));
         Cosines {
             next: cosine::cosine(next, d),
             prev: cosine::cosine(prev, d),
@@ -50,7 +50,7 @@ impl Cosines {
     }
 
     // The larger of the two, by which the best diagonal is chosen.
-    pub fn larger(self) -> f64
+    fn larger(self) -> f64
         ensures { result ≡ Judge.larger self.next self.prev }
     {
         larger(self.next, self.prev)
@@ -64,9 +64,9 @@ impl Cosines {
 }
 
 // The larger cosine of the diagonal from o to q, if it may be taken: its ends differ, and both cosines are between the limits.
-// The sides are the steps from o to the next corner and to the one before.
+// `next` and `prev` are the steps from o to the next corner and to the one before.
 #[tactic(auto, using(vector::proofs::Same::derived_same), unfolding(crate::specs::Judge::judged))]
-pub fn judge(limits: Limits, o: GridPoint, q: GridPoint, next: Side, prev: Side) -> Option<f64>
+pub fn judge(limits: Limits, o: GridPoint, q: GridPoint, next: Normed, prev: Normed) -> Option<f64>
     requires { OnSheet o × OnSheet q }
     ensures { result ≡ Judge.judged limits o q next.step prev.step }
 {

@@ -1,5 +1,7 @@
 -- A key grows with its coordinate, and a whole number is rounded to itself.
-use Rattle.std.proofs.Common.{◌≡◌, ℕ, zero, suc, ◌+◌, ◌*◌, ◌^◌, ◌<◌, ◌≤◌, true, false, T, ℤ, pos, negsuc, ◌+ℤ◌, ◌-ℤ◌, neg_ℤ, nat_abs, sym, refl, ap, subst, zero-le, mul-le-mul_right, mul-pos, le-div_iff_mul-le, div-mul-le_self, le_of_mul-le-mul_right, arith, le→leb, ltb→lt, lt→ltb, leb→le}
+use Rattle.std.proofs.Common.{◌≡◌, ℕ, zero, suc, ◌+◌, ◌*◌, ◌^◌, ◌<◌, ◌≤◌, true, false, T, ℤ, pos, negsuc, ◌+ℤ◌, ◌-ℤ◌}
+use Rattle.std.proofs.Common.{neg_ℤ, nat_abs, sym, refl, ap, subst, zero-le, mul-le-mul_right, mul-pos, le-div_iff_mul-le}
+use Rattle.std.proofs.Common.{div-mul-le_self, le_of_mul-le-mul_right, arith, le→leb, ltb→lt, lt→ltb, leb→le}
 use native.Mathlib.Nat.{div-eq_of_lt-le}
 use lib.Signed.{lt_z, le_z}
 use lib.Ieee.{Float, nan, inf, fin, binary64, up, down, mul, le, eq, of_int}

@@ -1,5 +1,6 @@
 -- The key as the code works it out: the library rounds half away from zero, and what it answers is whole.
-use Rattle.std.proofs.Common.{◌≡◌, ℕ, ◌+◌, ◌-◌, ◌*◌, ◌/◌, ◌^◌, ◌<◌, ◌≤◌, Bool, true, false, T, ℤ, pos, neg_ℤ, sym, refl, ap, ◌∙◌, le_trans, le_of_eq, le_of_lt, le_of_suc-le-suc, lt_of_le_of_lt, mul-one, mul-le-mul_right, arith, lit<, mul-div_cancel}
+use Rattle.std.proofs.Common.{◌≡◌, ℕ, ◌+◌, ◌-◌, ◌*◌, ◌/◌, ◌^◌, ◌<◌, ◌≤◌, Bool, true, false, T, ℤ, pos, neg_ℤ, sym, refl, ap, ◌∙◌, le_trans}
+use Rattle.std.proofs.Common.{le_of_eq, le_of_lt, le_of_suc-le-suc, lt_of_le_of_lt, mul-one, mul-le-mul_right, arith, lit<, mul-div_cancel}
 use native.Mathlib.Nat.{min-eq_left}
 use lib.Ieee.{Float, nan, inf, fin, binary64, up, down, le, lt, to_signed, round}
 use lib.Ieee.Exact.{HasValue}

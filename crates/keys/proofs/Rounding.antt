@@ -1,5 +1,6 @@
 -- Rounding half away from zero, by quotient and remainder; and how large the key of a coordinate is.
-use Rattle.std.proofs.Common.{◌≡◌, ℕ, zero, suc, ◌+◌, ◌*◌, ◌/◌, ◌%◌, ◌<◌, ◌≤◌, Bool, true, false, cond, not, T, leb, ℤ, pos, ◌+ℤ◌, ◌-ℤ◌, neg_ℤ, nat_abs, sym, refl, ap, ◌∙◌, le_trans, le_of_eq, le_of_suc-le-suc, mod-lt, div-lt_iff_lt-mul, div-add-mod', arith, lit≤, leb→le}
+use Rattle.std.proofs.Common.{◌≡◌, ℕ, zero, suc, ◌+◌, ◌*◌, ◌/◌, ◌%◌, ◌<◌, ◌≤◌, Bool, true, false, cond, not, T, leb, ℤ, pos, ◌+ℤ◌, ◌-ℤ◌, neg_ℤ, nat_abs}
+use Rattle.std.proofs.Common.{sym, refl, ap, ◌∙◌, le_trans, le_of_eq, le_of_suc-le-suc, mod-lt, div-lt_iff_lt-mul, div-add-mod', arith, lit≤, leb→le}
 use native.Mathlib.Nat.{mul-add-div, div-eq_of_lt, div-eq_of_lt-le}
 use lib.Dec.{nleb→lt}
 use lib.Ieee.{Float, nan, inf, fin, binary64, up, down, mul, of_int, round}

@@ -1,6 +1,7 @@
 -- The scan's quick test: a scaled coordinate is within 1 of its key, so of two that share a key the difference is at most 2.
 -- Where the square of the rounded difference is 8 or more, the key is another.
-use Rattle.std.proofs.Common.{◌≡◌, ℕ, ◌+◌, ◌*◌, ◌/◌, ◌%◌, ◌<◌, ◌≤◌, true, false, T, ℤ, pos, neg_ℤ, sym, ap, ◌∙◌, subst, mul-le-mul_right, mod-lt, mul-pos, div-add-mod', arith, lit≤}
+use Rattle.std.proofs.Common.{◌≡◌, ℕ, ◌+◌, ◌*◌, ◌/◌, ◌%◌, ◌<◌, ◌≤◌, true, false, T, ℤ, pos, neg_ℤ, sym, ap}
+use Rattle.std.proofs.Common.{◌∙◌, subst, mul-le-mul_right, mod-lt, mul-pos, div-add-mod', arith, lit≤}
 use lib.Ieee.{Float, fin, binary64, up, down, mul, sub, le, of_int, round, fits, inf, nan}
 use lib.Ieee.Fits.{down_pos}
 use lib.Ieee.Scale.{finite}

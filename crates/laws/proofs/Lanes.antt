@@ -1,10 +1,9 @@
 -- What a comparison of vectors tells: a bit for each lane, read as a number.
-use Prim.Native.Nat.{ℕ, ◌+◌, ◌*◌, ◌%◌, ◌<◌, ◌-◌, ◌^◌}
+use Prim.Native.Nat.{ℕ, ◌+◌, ◌*◌, ◌%◌, ◌-◌, ◌^◌}
 use native.Mathlib.Omega.{arith}
-use mathlib.Core.Path.{◌≡◌, refl, sym, ap, ◌∙◌}
-use mathlib.Core.Bool.{Bool, true, false, not, cond, ◌&&◌, ◌||◌}
+use mathlib.Core.Path.{◌≡◌, refl, ap, ◌∙◌}
+use mathlib.Core.Bool.{Bool, true, false, not, cond, ◌||◌}
 use mathlib.Core.List.{List, [], ◌∷◌, map}
-use lib.Bits.{bit_and}
 use lib.Dec.{eqb}
 use lib.ListN.{length, replicate, length-map}
 use lib.Lanes.{zip2, mask_l, top}
@@ -12,35 +11,8 @@ use lib.Ieee.{Float, le}
 use mir.Syntax.{w64}
 use Rattle.std.specs.List.{list_any}
 use Rattle.std.proofs.Math.Facts.{eqb_yes, yes_eqb}
-use Rattle.std.proofs.lemmas.Nat.{and_block}
 use Rattle.std.proofs.lemmas.Simd.{tops_compared, mask_l-mod, zip2-map, splat_is_map}
 use Rattle.laws.proofs.Booleans.{bool_ext}
-
--- ---- a bit before the rest
-turned : (b : Bool) (m : ℕ) → cond b 1 0 + 2 * m ≡ m * 2 ^ 1 + cond b 1 0
-turned true m = omega arith
-turned false m = omega arith
-
-small : (b : Bool) → cond b 1 0 < 2 ^ 1
-small true = omega arith
-small false = omega arith
-
-both : (b c : Bool) → bit_and (cond b 1 0) (cond c 1 0) ≡ cond (b && c) 1 0
-both true true = refl
-both true false = refl
-both false true = refl
-both false false = refl
-
--- the bits of two masks that are both set
-pub bits_and : (bs cs : List Bool) → length bs ≡ length cs → bit_and (mask_l bs) (mask_l cs) ≡ mask_l (zip2 (λ b c. b && c) bs cs)
-bits_and [] [] e = refl
-bits_and [] (c ∷ cs) e = absurd (omega (arith, e))
-bits_and (b ∷ bs) [] e = absurd (omega (arith, e))
-bits_and (b ∷ bs) (c ∷ cs) e =
-    (λ j. bit_and (turned b (mask_l bs) j) (turned c (mask_l cs) j))
-    ∙ and_block 1 (mask_l bs) (mask_l cs) (cond b 1 0) (cond c 1 0) (small b) (small c)
-    ∙ (λ j. bits_and bs cs (omega (arith, e)) j * 2 ^ 1 + both b c j)
-    ∙ sym (turned (b && c) (mask_l (zip2 (λ b c. b && c) bs cs)))
 
 -- not all of the bits are set: an element fails the test
 fails : (b : Bool) (m k : ℕ) → not (eqb (cond b 1 0 + 2 * m) (1 + 2 * k)) ≡ (not b || not (eqb m k))

@@ -12,7 +12,8 @@ the_item : (o : Option ℕ) (x : ℕ) → option_map (λ y. y) o ≡ Some x → 
 the_item None x e = cc
 the_item (Some y) x e = e
 
-module _ {S F : Type 0} {steps : S → Option ℕ → S → Type 0} {g : Mut F (ℕ × Unit {0}) (Option ℕ)} (f : F) (u : Run steps) (Hit : ℕ → ℕ → Type 0) (Miss : ℕ → Type 0)
+module _ {S F : Type 0} {steps : S → Option ℕ → S → Type 0}
+    {g : Mut F (ℕ × Unit {0}) (Option ℕ)} (f : F) (u : Run steps) (Hit : ℕ → ℕ → Type 0) (Miss : ℕ → Type 0)
     (hit : (x y : ℕ) → Called g f (x, tt) (Some y) f → Hit x y) (miss : (x : ℕ) → Called g f (x, tt) None f → Miss x) (keeps : CallKeepsClosure g f)
     (a b : ℕ) (w : ItemsCountUp u a b) where
   at : (i : ℕ) → i < u.len → u.at i ≡ Some (a + i)

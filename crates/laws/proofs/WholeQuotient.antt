@@ -151,7 +151,8 @@ module _ (f : Format) (z w : ℤ) (p : nat_abs z ≤ 2 ^ prec f) (q : nat_abs w 
             → T (eq (round f (unlike s (minus_sign w)) (nat_abs z) (nat_abs w)) (round f (unlike (minus_sign z) (minus_sign w)) (nat_abs z) (nat_abs w)))
         like z s e =
             subst (λ (t : Bool). T (eq (round f (unlike t (minus_sign w)) (nat_abs z) (nat_abs w))
-            (round f (unlike (minus_sign z) (minus_sign w)) (nat_abs z) (nat_abs w)))) (sym e) (self (unlike (minus_sign z) (minus_sign w)) (nat_abs z) (nat_abs w))
+            (round f (unlike (minus_sign z) (minus_sign w)) (nat_abs z) (nat_abs w))))
+            (sym e) (self (unlike (minus_sign z) (minus_sign w)) (nat_abs z) (nat_abs w))
 
         go : (z : ℤ) (s : Bool) (a : ℕ) → pl s a + negp z ≡ posp z + ls s a
             → T (eq (round f (unlike s (minus_sign w)) (nat_abs z) (nat_abs w)) (round f (unlike (minus_sign z) (minus_sign w)) (nat_abs z) (nat_abs w)))

@@ -7,7 +7,8 @@ use native.Mathlib.Omega.{arith}
 use mathlib.Core.Path.{◌≡◌, sym, ap, ◌∙◌}
 use mathlib.Core.List.{List, [], ◌∷◌, ◌++◌, append_assoc, append-nil}
 use lib.ListN.{length, take, drop, length-append, length-drop, take-append-drop, drop_of_length-le}
-use lib.Seq.{take-nil, drop-nil, take_all, take_at, drop_at, length-take-le, take-append-le, drop-append-le, take-append-add, drop-append-add, drop-drop, take-add}
+use lib.Seq.{take-nil, drop-nil, take_all, take_at, drop_at, length-take-le, take-append-le}
+use lib.Seq.{drop-append-le, take-append-add, drop-append-add, drop-drop, take-add}
 use borrow.Rule.Slice.PartMut.{put_mid}
 use Rattle.std.specs.List.{flat_map}
 use Rattle.std.proofs.lemmas.Grind.{flat_map-append}
@@ -113,7 +114,8 @@ module _ {A B : Type 0} (each : A → List B) (w : ℕ) (long : (a : A) → leng
         ap (λ (n : ℕ). flat_map each (put xs i vs) ++ drop (n * w) l) (length-put xs i vs h)
         ∙ ap (λ (r : List B). r ++ drop (length xs * w) l)
         (flat_map-append each (take i xs ++ vs) (drop m xs)
-        ∙ (λ j. (flat_map-append each (take i xs) vs ∙ ap (λ (r : List B). r ++ flat_map each vs) (out-take i xs ∙ first i (omega arith))) j ++ out-drop m xs j))
+        ∙ (λ j.
+        (flat_map-append each (take i xs) vs ∙ ap (λ (r : List B). r ++ flat_map each vs) (out-take i xs ∙ first i (omega arith))) j ++ out-drop m xs j))
         ∙ append_assoc (take (i * w) l ++ flat_map each vs) (drop (m * w) (flat_map each xs)) (drop (length xs * w) l)
         ∙ ap (λ (r : List B). (take (i * w) l ++ flat_map each vs) ++ r) (rest m h)
         ∙ append_assoc (take (i * w) l) (flat_map each vs) (drop (m * w) l)

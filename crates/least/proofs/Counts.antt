@@ -9,7 +9,8 @@ use Rattle.choice.proofs.Searching.{counts_hit, counts-pass, counts_end}
 
 -- ---- the search by rising count
 module _ (t : ℕ → ℕ) (w n r : ℕ) where
-  passed : (d : ℕ) → 3 + d ≤ r + 1 → ((j : ℕ) → 3 ≤ j → j < 3 + d → n ≤ first_of_count t w n j) → least_of t w n (r - 2) 3 ≡ least_of t w n (r + 1 - (3 + d)) (3 + d)
+  passed : (d : ℕ) → 3 + d ≤ r + 1 → ((j : ℕ) → 3 ≤ j → j < 3 + d → n ≤ first_of_count t w n j)
+      → least_of t w n (r - 2) 3 ≡ least_of t w n (r + 1 - (3 + d)) (3 + d)
   passed zero h m = let e : r + 1 - 3 ≡ r - 2 = omega arith in rw e
   passed (suc d) h m =
       let e : 3 + suc d ≡ 3 + d + 1 = omega arith in

@@ -48,10 +48,12 @@ impl Search<'_> {
     // The first choice of k points that gets the number.
     fn first_of_count(&self, k: u32) -> Option<u32>
         ensures { MatchOption result
-            (Rule.first_of_count (trial_of self.now.ring.now self.now.chain.now self.now.size (points self.now.ring.now)) self.now.wanted (2 ^ points self.now.ring.now) k
+            (Rule.first_of_count (trial_of self.now.ring.now self.now.chain.now self.now.size (points self.now.ring.now)) self.now.wanted
+            (2 ^ points self.now.ring.now) k
             ≡ 2 ^ points self.now.ring.now)
             (λ c. (c < 2 ^ points self.now.ring.now)
-            × (Rule.first_of_count (trial_of self.now.ring.now self.now.chain.now self.now.size (points self.now.ring.now)) self.now.wanted (2 ^ points self.now.ring.now) k ≡ c)) }
+            × (Rule.first_of_count (trial_of self.now.ring.now self.now.chain.now self.now.size (points self.now.ring.now)) self.now.wanted
+            (2 ^ points self.now.ring.now) k ≡ c)) }
     {
         (0..choice::power(self.points())).find(|c| self.hits(k, *c))
     }

@@ -6,7 +6,7 @@
 
 #![tactic(auto)]
 
-ghost use Rattle.std.specs.Prelude.{◌≡◌, ◌||◌, not, ◌++◌, ◌+◌, ◌-◌, ◌*◌, ◌/◌, ◌%◌, ◌≤◌, eqb, ltb, length, replicate};
+ghost use Rattle.std.specs.Prelude.{◌≡◌, ◌||◌, not, ◌++◌, ◌-◌, ◌*◌, ◌/◌, ◌%◌, ◌≤◌, eqb, ltb, length, replicate};
 ghost use Rattle.vector.specs.Grid.{origin};
 ghost use Rattle.vector.specs.Size.{AllOnSheet};
 ghost use Rattle.vector.specs.Rings.{most_points, OnSheetRing};
@@ -56,7 +56,7 @@ pub fn any_outside(l: &[i32]) -> bool
 }
 
 // The sheet size is out of limits.
-pub fn size_out(size: u32) -> bool
+fn size_out(size: u32) -> bool
     ensures { result ≡ (eqb size 0 || ltb 2048 size) }
 {
     size == 0 || 2048 < size

@@ -56,7 +56,7 @@ impl Limits {
 }
 
 // A value is between two, ends allowed. A NaN is not.
-#[tactic(auto, using(crate::proofs::Literals::contains_is), unfolding(crate::specs::Sets::between))]
+#[tactic(auto, using(laws::proofs::Ranges::contains_is), unfolding(crate::specs::Sets::between))]
 pub fn between(low: f64, high: f64, x: f64) -> bool
     ensures { result ≡ Sets.between low high x }
 {

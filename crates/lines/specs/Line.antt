@@ -1,6 +1,7 @@
 -- A line of a drawing: "A ring is `ring SIZE`, then a line `x y` for each point in mm, .. then, if it has one, `chain` and its points; blank lines .. are
 -- skipped". A line is the list of its bytes, its comment taken off. Definitions only.
-use Rattle.std.specs.Prelude.{ℕ, ◌+◌, ◌-◌, ◌≤◌, Bool, ◌&&◌, ◌||◌, not, cond, Option, Some, None, Ok, Err, List, length, take, drop, ltb, leb, eqb, ℤ, unsigned_abs}
+use Rattle.std.specs.Prelude.{ℕ, ◌+◌, ◌-◌, ◌≤◌, Bool, ◌&&◌, ◌||◌, not, cond, Option, Some, None}
+use Rattle.std.specs.Prelude.{Ok, Err, List, length, take, drop, ltb, leb, eqb, ℤ, unsigned_abs}
 use Rattle.std.specs.List.{take_while}
 use Rattle.std.specs.declared.result.Result.{Result}
 use Rattle.text.specs.Text.{bytes}

@@ -22,11 +22,11 @@ use Rattle.decimals.proofs.Value.{shown-le}
 use Rattle.decimals.proofs.NearestDecimal.{shown-nearest}
 use Rattle.decimals.proofs.Texts.{sign, decimals-is, shown-most}
 use Rattle.listing.specs.Read.{is_digit_of, read_from, RightAligned}
-use Rattle.listing.specs.Sheet.{right, line, lines, answer, left, nodes_out}
+use Rattle.listing.specs.Sheet.{right_aligned, line, lines, answer, left, nodes_out}
 use Rattle.listing.specs.Claim.{ShownAs, LineOf, SheetIs}
-use Rattle.listing.proofs.Texts.{spaces, number_most, right-long, line-long, lines_long}
+use Rattle.listing.proofs.Texts.{spaces, number_most, right_aligned-long, line-long, lines_long}
 use Rattle.listing.proofs.Tests.{usable}
-use Rattle.listing.proofs.Reading.{is_digit, read-decimal, read_right, has_right, aligned, read-decimals, has-decimals, no_space}
+use Rattle.listing.proofs.Reading.{is_digit, read-decimal, read_right_aligned, has_right_aligned, aligned, read-decimals, has-decimals, no_space}
 
 -- ---- where the point and the four decimals stand
 abbrev tail : ℕ → List ℕ
@@ -36,8 +36,8 @@ module _ (m : Bool) (n : ℕ) where
   abbrev front : List ℕ
   front = spaces (28 - length (decimals m n)) ++ (sign m ++ decimal (n / 10000))
 
-  parted : right 28 (decimals m n) ≡ front ++ 46 ∷ tail n
-  unfolding right
+  parted : right_aligned 28 (decimals m n) ≡ front ++ 46 ∷ tail n
+  unfolding right_aligned
   parted =
       let e : decimals m n ≡ (sign m ++ decimal (n / 10000)) ++ 46 ∷ tail n = decimals-is m n ∙ simp append_assoc in
       ap (λ (t : List ℕ). spaces (28 - length (decimals m n)) ++ t) e
@@ -45,12 +45,12 @@ module _ (m : Bool) (n : ℕ) where
 
   front_long : length (decimals m n) ≤ 28 → length front ≡ 23
   front_long h =
-      let a = right-long 28 (decimals m n) h in
+      let a = right_aligned-long 28 (decimals m n) h in
       let b = ap length parted in
       let c = length-append front (46 ∷ tail n) in
       omega arith
 
-  pub at-point : length (decimals m n) ≤ 28 → get_or (right 28 (decimals m n)) 23 0 ≡ 46
+  pub at-point : length (decimals m n) ≤ 28 → get_or (right_aligned 28 (decimals m n)) 23 0 ≡ 46
   at-point h = ap (λ (t : List ℕ). get_or t 23 0) parted ∙ get_or_at front 46 (tail n) 0 23 (front_long h)
 
   at-digit : (k : ℕ) → k < 4 → T (is_digit_of (get_or (tail n) k 0))
@@ -60,28 +60,29 @@ module _ (m : Bool) (n : ℕ) where
   at-digit (suc (suc (suc zero))) h = subst T (sym (is_digit (n % 10) (omega arith))) tt
   at-digit (suc (suc (suc (suc k)))) h = absurd (omega arith)
 
-  pub at-decimals : length (decimals m n) ≤ 28 → (k : ℕ) → k < 4 → T (is_digit_of (get_or (right 28 (decimals m n)) (24 + k) 0))
+  pub at-decimals : length (decimals m n) ≤ 28 → (k : ℕ) → k < 4 → T (is_digit_of (get_or (right_aligned 28 (decimals m n)) (24 + k) 0))
   at-decimals h k l =
       let e : 24 + k ≡ length front + suc k = omega (arith, front_long h) in
       subst (λ (b : ℕ). T (is_digit_of b))
-      (sym (ap (λ (t : List ℕ). get_or t (24 + k) 0) parted ∙ ap (λ (i : ℕ). get_or (front ++ 46 ∷ tail n) i 0) e ∙ get_or-append-add front (46 ∷ tail n) (suc k) 0))
+      (sym (ap (λ (t : List ℕ). get_or t (24 + k) 0) parted
+      ∙ ap (λ (i : ℕ). get_or (front ++ 46 ∷ tail n) i 0) e ∙ get_or-append-add front (46 ∷ tail n) (suc k) 0))
       (at-digit k l)
 
 -- ---- a coordinate in its 28 columns
-pub shown_as : (x : Float) → Within 1024 x → ShownAs x (right 28 (shown x))
+pub shown_as : (x : Float) → Within 1024 x → ShownAs x (right_aligned 28 (shown x))
 unfolding shown minus
 shown_as x w =
     let n = ten_thousandths x in
     let m = minus x in
     let few = shown-most x in
-    let r : read_from 0 (right 28 (decimals m n)) ≡ n = read_right 28 (decimals m n) ∙ read-decimals m n (shown-le x w) in
+    let r : read_from 0 (right_aligned 28 (decimals m n)) ≡ n = read_right_aligned 28 (decimals m n) ∙ read-decimals m n (shown-le x w) in
     record {
-      columns = right-long 28 (decimals m n) few;
+      columns = right_aligned-long 28 (decimals m n) few;
       aligned = aligned 28 (decimals m n) (no_space m n (shown-le x w));
       point = at-point m n few;
       decimals = at-decimals m n few;
       nearest = subst (NearestShown x) (sym r) (shown-nearest x w.0);
-      sign = has_right 28 (decimals m n) ∙ has-decimals m n (shown-le x w) ∙ ap (λ (k : ℕ). negative x && ltb 0 k) (sym r);
+      sign = has_right_aligned 28 (decimals m n) ∙ has-decimals m n (shown-le x w) ∙ ap (λ (k : ℕ). negative x && ltb 0 k) (sym r);
     }
 
 -- ---- a line
@@ -100,17 +101,17 @@ unfolding line
 line_of l i h u v =
     let x = get_or l (i * 2) nan in
     let y = get_or l (i * 2 + 1) nan in
-    let a = right-long 8 (decimal i) (number_most i h) in
-    let b = right-long 28 (shown x) (shown-most x) in
-    let c = right-long 28 (shown y) (shown-most y) in
-    let k = cut-three (right 8 (decimal i)) (right 28 (shown x)) (right 28 (shown y)) (10 ∷ []) 8 28 28 a b c in
+    let a = right_aligned-long 8 (decimal i) (number_most i h) in
+    let b = right_aligned-long 28 (shown x) (shown-most x) in
+    let c = right_aligned-long 28 (shown y) (shown-most y) in
+    let k = cut-three (right_aligned 8 (decimal i)) (right_aligned 28 (shown x)) (right_aligned 28 (shown y)) (10 ∷ []) 8 28 28 a b c in
     record {
       long = line-long l i h;
-      number = ap (read_from 0) k.0 ∙ read_right 8 (decimal i) ∙ (read-decimal 5 i (omega arith) (omega arith)).0;
+      number = ap (read_from 0) k.0 ∙ read_right_aligned 8 (decimal i) ∙ (read-decimal 5 i (omega arith) (omega arith)).0;
       aligned = subst RightAligned (sym k.0) (aligned 8 (decimal i) ((read-decimal 5 i (omega arith) (omega arith)).1 32 (omega arith)));
       x = subst (ShownAs x) (sym k.1) (shown_as x u);
       y = subst (ShownAs y) (sym k.2) (shown_as y v);
-      feed = get_or_at (right 8 (decimal i) ++ right 28 (shown x) ++ right 28 (shown y)) 10 [] 0 64 (simp length-append (omega arith));
+      feed = get_or_at (right_aligned 8 (decimal i) ++ right_aligned 28 (shown x) ++ right_aligned 28 (shown y)) 10 [] 0 64 (simp length-append (omega arith));
     }
 
 -- ---- the sheet: line i stands after the lines of the first i nodes

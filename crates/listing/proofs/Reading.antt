@@ -15,7 +15,7 @@ use Rattle.text.proofs.Decimal.{one-digit, more-digits}
 use Rattle.decimals.specs.Shown.{decimals}
 use Rattle.decimals.proofs.Texts.{sign, point, digit, decimals-is}
 use Rattle.listing.specs.Read.{is_digit_of, read_from, has, RightAligned}
-use Rattle.listing.specs.Sheet.{right}
+use Rattle.listing.specs.Sheet.{right_aligned}
 use Rattle.listing.proofs.Texts.{spaces}
 use Rattle.std.proofs.Math.Bool.{or-false}
 
@@ -104,16 +104,16 @@ space true = refl
 space false = refl
 
 -- ---- a text in its columns
-pub read_right : (w : ℕ) (t : List ℕ) → read_from 0 (right w t) ≡ read_from 0 t
-unfolding right
-read_right w t = read-append 0 (spaces (w - length t)) t ∙ ap (λ (k : ℕ). read_from k t) (read-spaces 0 (w - length t))
+pub read_right_aligned : (w : ℕ) (t : List ℕ) → read_from 0 (right_aligned w t) ≡ read_from 0 t
+unfolding right_aligned
+read_right_aligned w t = read-append 0 (spaces (w - length t)) t ∙ ap (λ (k : ℕ). read_from k t) (read-spaces 0 (w - length t))
 
-pub has_right : (w : ℕ) (t : List ℕ) → has 45 (right w t) ≡ has 45 t
-unfolding right
-has_right w t = has-append 45 (spaces (w - length t)) t ∙ ap (λ (b : Bool). b || has 45 t) (no_minus-spaces (w - length t))
+pub has_right_aligned : (w : ℕ) (t : List ℕ) → has 45 (right_aligned w t) ≡ has 45 t
+unfolding right_aligned
+has_right_aligned w t = has-append 45 (spaces (w - length t)) t ∙ ap (λ (b : Bool). b || has 45 t) (no_minus-spaces (w - length t))
 
-pub aligned : (w : ℕ) (t : List ℕ) → has 32 t ≡ false → RightAligned (right w t)
-unfolding right
+pub aligned : (w : ℕ) (t : List ℕ) → has 32 t ≡ false → RightAligned (right_aligned w t)
+unfolding right_aligned
 aligned w t h = record {
   blanks = w - length t;
   before = take_at (spaces (w - length t)) t (w - length t) (length-replicate {A = ℕ} (w - length t) 32);

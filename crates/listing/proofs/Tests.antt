@@ -13,23 +13,23 @@ use Rattle.laws.proofs.Booleans.{neither, not-not, is_true}
 use Rattle.laws.proofs.Search.{any_none}
 use Rattle.text.specs.Text.{Written}
 use Rattle.nodes.specs.Nodes.{most_places}
-use Rattle.nodes.specs.Flat.{Usable, held, all_held}
-use Rattle.nodes.proofs.Ranged.{held-within}
+use Rattle.nodes.specs.Flat.{Usable, on_sheet, all_on_sheet}
+use Rattle.nodes.proofs.Ranged.{on_sheet-within}
 use Rattle.listing.specs.Sheet.{nodes_out, answer, left, lines}
 
-each : (l : List Float) (n : ℕ) → T (all_held l n) → (k : ℕ) → k < n → Within 1024 (get_or l k nan)
-unfolding all_held
-each l n t k h = held-within (get_or l k nan) (not-not (held (get_or l k nan)) (any_none (λ i. not (held (get_or l i nan))) n t k h))
+each : (l : List Float) (n : ℕ) → T (all_on_sheet l n) → (k : ℕ) → k < n → Within 1024 (get_or l k nan)
+unfolding all_on_sheet
+each l n t k h = on_sheet-within (get_or l k nan) (not-not (on_sheet (get_or l k nan)) (any_none (λ i. not (on_sheet (get_or l i nan))) n t k h))
 
 -- what 3 does not refuse
 pub usable : (l : List Float) (n : ℕ) → nodes_out l n ≡ false → Usable l n
 unfolding nodes_out
 usable l n e =
-    let f = neither (ltb (length l / 2) n || ltb most_places (length l / 2)) (not (all_held l (n * 2))) e in
+    let f = neither (ltb (length l / 2) n || ltb most_places (length l / 2)) (not (all_on_sheet l (n * 2))) e in
     let g = neither (ltb (length l / 2) n) (ltb most_places (length l / 2)) f.0 in
     let a = ltb-false (length l / 2) n g.0 in
     let b = ltb-false most_places (length l / 2) g.1 in
-    let t = subst T (sym (is_true (all_held l (n * 2)) f.1)) tt in
+    let t = subst T (sym (is_true (all_on_sheet l (n * 2)) f.1)) tt in
     record {
       room = omega arith;
       few = omega arith;

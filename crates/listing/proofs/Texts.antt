@@ -13,7 +13,7 @@ use Rattle.text.specs.Text.{decimal}
 use Rattle.text.proofs.Decimal.{one-digit, more-digits, at_most}
 use Rattle.decimals.specs.Shown.{shown}
 use Rattle.decimals.proofs.Texts.{shown-most}
-use Rattle.listing.specs.Sheet.{right, line, lines}
+use Rattle.listing.specs.Sheet.{right_aligned, line, lines}
 
 -- ---- digits
 pub one-long : (n : ℕ) → n < 10 → length (decimal n) ≡ 1
@@ -50,16 +50,16 @@ pub number_most : (i : ℕ) → i < 1000000 → length (decimal i) ≤ 8
 number_most i h = omega (arith, at_most 5 i h)
 
 -- ---- columns
-pub right-long : (w : ℕ) (t : List ℕ) → length t ≤ w → length (right w t) ≡ w
-unfolding right
-right-long w t h = length-append (spaces (w - length t)) t ∙ omega (arith, length-replicate {A = ℕ} (w - length t) 32)
+pub right_aligned-long : (w : ℕ) (t : List ℕ) → length t ≤ w → length (right_aligned w t) ≡ w
+unfolding right_aligned
+right_aligned-long w t h = length-append (spaces (w - length t)) t ∙ omega (arith, length-replicate {A = ℕ} (w - length t) 32)
 
 pub line-long : (l : List Float) (i : ℕ) → i < 1000000 → length (line l i) ≡ 65
 unfolding line
 line-long l i h =
-    let a = right-long 8 (decimal i) (number_most i h) in
-    let x = right-long 28 (shown (get_or l (i * 2) nan)) (shown-most (get_or l (i * 2) nan)) in
-    let y = right-long 28 (shown (get_or l (i * 2 + 1) nan)) (shown-most (get_or l (i * 2 + 1) nan)) in
+    let a = right_aligned-long 8 (decimal i) (number_most i h) in
+    let x = right_aligned-long 28 (shown (get_or l (i * 2) nan)) (shown-most (get_or l (i * 2) nan)) in
+    let y = right_aligned-long 28 (shown (get_or l (i * 2 + 1) nan)) (shown-most (get_or l (i * 2 + 1) nan)) in
     simp length-append (omega arith)
 
 pub lines_long : (l : List Float) (n : ℕ) → n ≤ 1000000 → length (lines l n) ≡ n * 65

@@ -36,8 +36,8 @@ fn put_spaces(page: &mut Page, n: usize)
 // A node's number, in 8 columns.
 #[tactic(auto, using(crate::proofs::Texts::number_most, crate::proofs::Aligned::right_spaces, crate::proofs::Aligned::right_room))]
 fn put_number(page: &mut Page, i: u64)
-    requires { (i < 1000000) × Room page.old (Sheet.right 8 (decimal i)) }
-    ensures { Wrote page.old (Sheet.right 8 (decimal i)) page.new }
+    requires { (i < 1000000) × Room page.old (Sheet.right_aligned 8 (decimal i)) }
+    ensures { Wrote page.old (Sheet.right_aligned 8 (decimal i)) page.new }
 {
     put_spaces(page, 8 - width(i));
     page.decimal(i);
@@ -52,8 +52,8 @@ fn columns(d: Decimal) -> usize
 
 // A coordinate, in 28 columns.
 fn put_coordinate(page: &mut Page, x: f64)
-    requires { Within 1024 x × Room page.old (Sheet.right 28 (Shown.shown x)) }
-    ensures { Wrote page.old (Sheet.right 28 (Shown.shown x)) page.new }
+    requires { Within 1024 x × Room page.old (Sheet.right_aligned 28 (Shown.shown x)) }
+    ensures { Wrote page.old (Sheet.right_aligned 28 (Shown.shown x)) page.new }
 {
     let d = Decimal::of(x);
     put_spaces(page, 28 - columns(d));
@@ -98,12 +98,12 @@ fn put_lines(out: &mut [u8], nodes: &[f64], count: usize) -> usize
 }
 
 // 3: the used count, the number of places, or a used node.
-#[tactic(auto, using(nodes::proofs::Ranged::front_held), unfolding(crate::specs::Sheet::nodes_out))]
+#[tactic(auto, using(nodes::proofs::Ranged::front_on_sheet), unfolding(crate::specs::Sheet::nodes_out))]
 pub fn nodes_out(nodes: &[f64], count: usize) -> bool
     ensures { result ≡ Sheet.nodes_out nodes.now count }
 {
     let places = nodes.len() / 2;
-    places < count || MOST_PLACES < places || !nodes::all_held(&nodes[..count * 2])
+    places < count || MOST_PLACES < places || !nodes::all_on_sheet(&nodes[..count * 2])
 }
 
 // The sheet of the first `node_count` nodes: 0, or 3 or 17 and no byte written. Kept: a number, which C reads.

@@ -139,7 +139,8 @@ anywhere_same l h e =
     let z = lists_of (call_of t) in
     let used : used_in y ≡ used_in z = none-used l e ∙ sym (none-used t f) in
     let same : first_of (tests_by all_cells delivered l) ≡ first_of (tests_by all_cells delivered t) = tests-of l e ∙ sym (tests-of t f) in
-    subst (λ (n : ℕ). SameCode (refused_or y (tests_by all_cells delivered l) (core delivered r p y)) (cond (eqb n 0) (core delivered r p z) (refused z n))) same
+    subst (λ (n : ℕ). SameCode (refused_or y (tests_by all_cells delivered l) (core delivered r p y)) (cond (eqb n 0) (core delivered r p z) (refused z n)))
+    same
     (by_tests-both y z (tests_by all_cells delivered l) (core delivered r p y) (core delivered r p z) SameCode tt
     (λ t. refused-same delivered r p y z used (first_of (tests_by all_cells delivered l)))
     (λ w. core-same delivered r p y z used))

@@ -26,7 +26,8 @@ module _ (L : Limits) (l : LentMarked) (v : Row) (m : List Float) (t p : List �
   promised : Leaves (divide_marked L l) v l.nodes m t l.cells p → MarkedPromise L l v m t p
   promised h = record { leaves = h; accepted = λ z. demand3_marked L l (sym (ap (λ (v : Row). v.code) h.values) ∙ z) }
 
-  pub by_marks : Leaves (divide_by L (early_refusal L l.ring l.marking l.size) (length l.ring / 2) (marked_start l) (marked_lists l) (marked_lists l)) v l.nodes m t l.cells p
+  pub by_marks : Leaves (divide_by L (early_refusal L l.ring l.marking l.size) (length l.ring / 2) (marked_start l) (marked_lists l) (marked_lists l))
+      v l.nodes m t l.cells p
       → MarkedPromise L l v m t p
   unfolding divide_marked
   by_marks h =

@@ -44,10 +44,15 @@ passing L ring g size z =
       cuts = p.cuts;
       from = p.from;
       few = p.few;
-      fewer = omega (arith, clean_length size r, n);
-      sheet = clean_each OnSheet size r p.sheet;
-      edged = marked-edges size g r;
-      snaps = snaps_in size g r p.sheet m p.outline;
+      prepared =
+          λ x y. record {
+            few = p.few;
+            fewer = omega (arith, clean_length size r, n);
+            sheet = clean_each OnSheet size r p.sheet;
+            edged = marked-edges size g r;
+            snaps = snaps_in size g r p.sheet m p.outline;
+            ready = y;
+          };
     }
 
 -- as many places are kept as points are left
@@ -85,7 +90,8 @@ module _ (L : Limits) (ring : List ℤ) (g : Marking) (size : ℕ) (h : Tested L
         kept = subst (λ (k : ℕ). Rising k (places_in c)) many (subst (Rising (length (points_of own))) (sym w.places) (kept-rising size (points_of own)));
       }
 
-  pub prepares : (es : List EdgeMark) → Survive g (points_of own) (places_in c) es → Prepares (marked_by size g (all_points ring)) (record { ring = c.ring; edges = es })
+  pub prepares : (es : List EdgeMark) → Survive g (points_of own) (places_in c) es
+      → Prepares (marked_by size g (all_points ring)) (record { ring = c.ring; edges = es })
   unfolding marked_by
   prepares es x =
       let k : length (places_in c) ≡ c.ring.count = ap length w.places ∙ left in

@@ -6,7 +6,7 @@
 
 #![tactic(auto)]
 
-ghost use Rattle.std.specs.Prelude.{◌≡◌, ◌/◌, length};
+ghost use Rattle.std.specs.Prelude.{◌/◌, length};
 ghost use Rattle.limits.specs.Limits.{delivered};
 ghost use Rattle.table.specs.Answers as Answers;
 ghost use Rattle.call.specs.Marked.{lent_marked, all_points, marked_by};
@@ -18,7 +18,7 @@ use divider::{CellRoom, Request};
 pub use given_tests::Marking;
 use limits::Limits;
 use marks::MarkedRing;
-use nodes::{NodeNumber, Window};
+use nodes::{NodeNumber, RingBox};
 use table::{Answer, Refusal};
 
 // A ring whose edges have given marks.
@@ -61,8 +61,8 @@ impl<'a> Request for ByMarks<'a> {
         self.ring.len() / 2
     }
 
-    fn window(self, limits: Limits) -> Window {
-        extent::window_with_marks(self.ring, limits.share)
+    fn ring_box(self, limits: Limits) -> RingBox {
+        extent::ring_box_with_marks(self.ring, limits.share)
     }
 
     fn prepared(self) -> MarkedRing {

@@ -19,7 +19,7 @@ use Rattle.vector.specs.declared.GridPoint.{GridPoint}
 use Rattle.vector.specs.Grid.{at}
 use Rattle.chain.specs.declared.Simplified.{Simplified}
 use Rattle.chain.specs.Chain.{Stretch, no_stretch}
-use Rattle.chain.specs.Kept.{stretch_in, stretches_in}
+use Rattle.chain.specs.Stretches.{stretch_in, stretches_in}
 use Rattle.laws.proofs.Search.{first_ext}
 use Rattle.marks.specs.declared.EdgeMark.{EdgeMark}
 use Rattle.marks.specs.declared.EdgeMark.TheVariants.{Straight, Snap}

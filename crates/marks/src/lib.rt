@@ -9,7 +9,7 @@ ghost use Rattle.std.specs.Prelude.{◌≡◌, [], ◌∷◌, ◌≤◌, ◌<◌
 ghost use Rattle.laws.specs.Bounded.{first, below};
 ghost use Rattle.vector.specs.declared.Point.{Point};
 ghost use Rattle.vector.specs.Rings.{OnSheetPoints};
-ghost use Rattle.chain.specs.Kept.{stretch_in, stretches_in};
+ghost use Rattle.chain.specs.Stretches.{stretch_in, stretches_in};
 ghost use Rattle.marks.specs.Part.{mark_count};
 ghost use Rattle.marks.specs.Marks as Marks;
 ghost use Rattle.marks.specs.Edges.{Marked, part_in, ValidMarkedRing};

@@ -28,7 +28,6 @@ use Rattle.marks.specs.Part.{Part, no_part}
 use Rattle.limits.specs.declared.Limits.{Limits}
 use Rattle.split.specs.Split.{Cut}
 use Rattle.cuts.specs.Counts.{Sound}
-use Rattle.cuts.specs.Provenance as Provenance
 use Rattle.cuts.specs.Provenance.{Side, no_side, sides, SameSide, same, turned, first_part_of, second_part_of, diagonal, Among, Beside, Carries}
 use Rattle.cuts.proofs.Counts.{counted}
 use Rattle.cuts.proofs.Sides.{diagonal-straight, side-count, side-at}
@@ -40,7 +39,7 @@ use Rattle.quads.specs.declared.Cell.{Cell}
 use Rattle.quads.specs.Quads.{middle, no_cell}
 use Rattle.cells.specs.Stages.{mark_at}
 use Rattle.cells.specs.Claims.{corners_to}
-use Rattle.cells.specs.Cover.{Ends}
+use Rattle.cells.specs.Cover.{SameEnds}
 use Rattle.cells.proofs.Bound.{middle_in}
 use Rattle.cells.proofs.Middles.{middle_comm}
 use Rattle.table.specs.Refusals.{Refusal, Passes, numbered}
@@ -49,14 +48,15 @@ use Rattle.limits.specs.Sets.{practice_set}
 use Rattle.call.specs.Call.{Lists, used_in, Call, lists_of, over24, no_test, tests}
 use Rattle.call.specs.Divide.{CallAnswer, put, refused_or, core, start_of, divide}
 use Rattle.call.specs.Demand.{Prepared, AcceptedCall, pieces_of, log_of, nodes_from, cells_from}
-use Rattle.call.specs.Lent.{LentOf, call_by, tests_for, divide_for, all_cells, Lent, call_of, divide_lent, divide_practice, LentRecords, call_of_records, divide_records}
+use Rattle.call.specs.Lent.{LentOf, call_by, tests_for, divide_for, all_cells, Lent, call_of}
+use Rattle.call.specs.Lent.{divide_lent, divide_practice, LentRecords, call_of_records, divide_records}
 use Rattle.call.proofs.Course.{Course, away, ran, course, refused-code, prepared_by, prepared_if}
 use Rattle.call.proofs.NodeList as NodeList
 use Rattle.call.proofs.Demand.{demand3_by}
 use Rattle.call.specs.Marked.{LentMarked, all_points, marked_lists, marked_start, marked_tests, divide_marked}
 use Rattle.call.proofs.Marked.{marked-prepared_if}
 use Rattle.middles.specs.Middles.{before, Joins, Along, Meets, onward, backward, listed_in, piece, cell_of, OneMiddle, NoLooseMiddle}
-use Rattle.middles.proofs.Numbers.{Shown, AlongBy, along_by, pieces-shown, cells-room}
+use Rattle.middles.proofs.Numbers.{NumberedCells, AlongBy, along_by, pieces-numbered, cells-room}
 
 -- ---- lists with values put over their places
 at-put : (l : List Point) (vs : List Point) (i : ℕ) → i < length vs → node_at (put l 0 vs) i ≡ node_at vs i
@@ -70,7 +70,7 @@ cell-put l n vs i h k =
     ∙ get_or-append-add (take n l) vs i no_cell
 
 -- ---- the side that a cut became, as an edge of a piece
-alike-ends : (s t : Side) (a b : GridPoint) → SameSide s t → t.a ≡ a → t.b ≡ b → Ends a b s.a s.b × (t.mark ≡ s.mark)
+alike-ends : (s t : Side) (a b : GridPoint) → SameSide s t → t.a ≡ a → t.b ≡ b → SameEnds a b s.a s.b × (t.mark ≡ s.mark)
 alike-ends s t a b same e f = (inl (sym e, sym f), refl)
 alike-ends s t a b turned e f = (inr (sym e, sym f), refl)
 
@@ -88,7 +88,7 @@ edge_of q d z s k =
     record { e = m.place; joins = record { of_piece = low; straight = sym (ap (λ (s : Side). s.mark) w) ∙ h.1 ∙ z; ends = h.0 } }
 
 -- ---- a piece whose cells have the numbers of the list ms: the three numbers of a side, and that the cells along each edge between its ends have them
-module _ (ms : List Point) (q : Part) (cell : ℕ → Cell) (shown : Shown ms q.points (mark_at q) cell) (s : Side) where
+module _ (ms : List Point) (q : Part) (cell : ℕ → Cell) (numbered_cells : NumberedCells ms q.points (mark_at q) cell) (s : Side) where
   abbrev u : ℕ
   u = number ms (in_mm s.a)
 
@@ -103,7 +103,7 @@ module _ (ms : List Point) (q : Part) (cell : ℕ → Cell) (shown : Shown ms q.
 
   module _ (e : ℕ) (j : Joins q s e) where
     by : AlongBy ms q.points cell e
-    by = along_by shown e j.of_piece j.straight
+    by = along_by numbered_cells e j.of_piece j.straight
 
     -- the two cells along the edge, which goes from b to c
     along : (b c : GridPoint) → at q.points e ≡ b → at q.points (suc e) ≡ c
@@ -120,7 +120,7 @@ module _ (ms : List Point) (q : Part) (cell : ℕ → Cell) (shown : Shown ms q.
     pub meets : Meets q cell s u m v e
     meets = go j.ends
       where
-        go : Ends (at q.points e) (at q.points (suc e)) s.a s.b → Meets q cell s u m v e
+        go : SameEnds (at q.points e) (at q.points (suc e)) s.a s.b → Meets q cell s u m v e
         go (inl h) = onward h.0 h.1 (along s.a s.b h.0 h.1)
         go (inr h) =
             backward h.0 h.1
@@ -138,7 +138,7 @@ module _ (ms : List Point) (q : Part) (cell : ℕ → Cell) (shown : Shown ms q.
     pub three : Three
     three = go j.ends
       where
-        go : Ends (at q.points e) (at q.points (suc e)) s.a s.b → Three
+        go : SameEnds (at q.points e) (at q.points (suc e)) s.a s.b → Three
         go (inl h) =
             record {
               u_low = low by.end_before (ap in_mm h.0);
@@ -197,14 +197,15 @@ module _ (L : Limits) (p : Part) (x : Lists) (a : CallAnswer) (sound : Sound p) 
       ∙ cell-put x.cells x.cell_count_of qs (corners_to ps i + k) (omega (arith, d.cell_count, d.cells_fit))
       (omega (arith, cells-room L.share ps (used_in x) i h)))
 
-  shown : (i : ℕ) → i < length ps → Shown ms (piece L p i).points (mark_at (piece L p i)) (new_cell i)
-  shown i h = pieces-shown L.share ps (used_in x) i h (all-weaken Sound (λ (p : Part). 0 < length p.points) (λ p s. omega (arith, s.three)) ps sounds)
+  numbered_cells : (i : ℕ) → i < length ps → NumberedCells ms (piece L p i).points (mark_at (piece L p i)) (new_cell i)
+  numbered_cells i h =
+      pieces-numbered L.share ps (used_in x) i h (all-weaken Sound (λ (p : Part). 0 < length p.points) (λ p s. omega (arith, s.three)) ps sounds)
 
   met : (s : Side) (i e : ℕ) → i < length ps → Joins (piece L p i) s e
       → Meets (piece L p i) (cell_of L p x a i) s (number ms (in_mm s.a)) (number ms (middle_in ms s.a s.b)) (number ms (in_mm s.b)) e
   met s i e h j =
-      meets_as (cell-is i (before (length (piece L p i).points) e) h (along_by (shown i h) e j.of_piece j.straight).low) (cell-is i e h j.of_piece)
-      (meets ms (piece L p i) (new_cell i) (shown i h) s e j)
+      meets_as (cell-is i (before (length (piece L p i).points) e) h (along_by (numbered_cells i h) e j.of_piece j.straight).low) (cell-is i e h j.of_piece)
+      (meets ms (piece L p i) (new_cell i) (numbered_cells i h) s e j)
 
   -- the edge of the piece that carries a cut
   carried : (t : Cut) (r : Part) (i : ℕ) → Carries (log_of L p) ps (diagonal t) r i → EdgeOf (piece L p i) (diagonal t)
@@ -218,7 +219,7 @@ module _ (L : Limits) (p : Part) (x : Lists) (a : CallAnswer) (sound : Sound p) 
       let u = number ms (in_mm s.a) in
       let m = number ms (middle_in ms s.a s.b) in
       let v = number ms (in_mm s.b) in
-      let w = three ms (piece L p b.i) (new_cell b.i) (shown b.i b.first.low) s g.e g.joins in
+      let w = three ms (piece L p b.i) (new_cell b.i) (numbered_cells b.i b.first.low) s g.e g.joins in
       let ends : middle_in ms s.a s.b ≡ middle (node_at a.nodes u) (node_at a.nodes v) =
       ap₂ middle (sym (node-is u w.u_low)) (sym (node-is v w.v_low)) in
       record {
@@ -276,7 +277,8 @@ no_loose_middle-of own read L l z =
     let c = call_by read l in
     no_loose_middle_by L (length c.ring) (start_of c) (lists_of c) (tests_for own read L l) tt (λ h. prepared_by own L c h.1) z
 
-pub no_loose_middle-lent : (L : Limits) (l : Lent) → (divide_lent L l).row.code ≡ 0 → NoLooseMiddle L (start_of (call_of l)) (lists_of (call_of l)) (divide_lent L l)
+pub no_loose_middle-lent : (L : Limits) (l : Lent)
+    → (divide_lent L l).row.code ≡ 0 → NoLooseMiddle L (start_of (call_of l)) (lists_of (call_of l)) (divide_lent L l)
 unfolding divide_lent
 no_loose_middle-lent L l z = no_loose_middle-of no_test all_cells L l z
 

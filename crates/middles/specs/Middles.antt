@@ -16,7 +16,7 @@ use Rattle.quads.specs.declared.Cell.{Cell}
 use Rattle.quads.specs.Quads.{middle, no_cell}
 use Rattle.cells.specs.Stages.{mark_at}
 use Rattle.cells.specs.Claims.{corners_to}
-use Rattle.cells.specs.Cover.{Ends}
+use Rattle.cells.specs.Cover.{SameEnds}
 use Rattle.call.specs.Call.{Lists}
 use Rattle.call.specs.Divide.{CallAnswer}
 use Rattle.call.specs.Demand.{pieces_of, log_of}
@@ -30,7 +30,7 @@ before n e = (e + (n - 1)) % n
 pub record Joins (q : Part) (s : Side) (e : ℕ) : Type 0 where
   pub of_piece : e < length q.points
   pub straight : mark_at q e ≡ Straight
-  pub ends : Ends (at q.points e) (at q.points (suc e)) s.a s.b
+  pub ends : SameEnds (at q.points e) (at q.points (suc e)) s.a s.b
 
 -- "Cell k is centre, middle k, corner k + 1, middle k + 1": so two cells of a piece of n corners lie along its edge e, the cell before and cell e. In these
 -- two the edge's first end has the number u, its middle m and its other end v

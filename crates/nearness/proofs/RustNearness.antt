@@ -87,7 +87,8 @@ none-or-less v = ap (λ (z : ℤ). le_z z (pos 0)) (dot-is v) ∙ bool_ext (leb 
     nought : (n : ℕ) → n ≤ 0 → n ≡ 0
     nought n h = omega arith
 
-pub no_segment : (a b : GridPoint) → OnSheet a → OnSheet b → (Plane.dot (Plane.sub (in_mm b) (in_mm a)) (Plane.sub (in_mm b) (in_mm a)) ≤f nat 0) ≡ Grid.same a b
+pub no_segment : (a b : GridPoint) → OnSheet a
+    → OnSheet b → (Plane.dot (Plane.sub (in_mm b) (in_mm a)) (Plane.sub (in_mm b) (in_mm a)) ≤f nat 0) ≡ Grid.same a b
 no_segment a b h k =
     ap (le (Plane.dot (Plane.sub (in_mm b) (in_mm a)) (Plane.sub (in_mm b) (in_mm a)))) (sym area-zero) ∙ (dots b a b a k h k h).at_most (pos 0) (lit≤ tt)
     ∙ none-or-less (Grid.sub b a) ∙ step-zero b a ∙ same_comm b a
@@ -155,17 +156,20 @@ module _ (p a b : GridPoint) (hp : OnSheet p) (ha : OnSheet a) (hb : OnSheet b) 
         let d = num_above (int length²) length² 1 apart (int_is_z length² length-small) in
         zero-over binary64 (int along) (int length²) 1 (zero-lt-suc 0) (subst (λ (v : ℤ). IsZ (int along) v 1) z (int_is_z along along-small)) d.0 d.1
 
-    same-foot : lerp (in_mm a) (in_mm b) (clamp (nat 0) (nat 1) (int along /f int length²)) ≡ lerp (in_mm a) (in_mm b) (clamp (nat 0) (nat 1) (along_mm /f length_mm))
+    same-foot : lerp (in_mm a) (in_mm b) (clamp (nat 0) (nat 1) (int along /f int length²))
+        ≡ lerp (in_mm a) (in_mm b) (clamp (nat 0) (nat 1) (along_mm /f length_mm))
     same-foot = go along refl
       where
         moved : (along ≡ pos 0 → ⊥)
-            → lerp (in_mm a) (in_mm b) (clamp (nat 0) (nat 1) (int along /f int length²)) ≡ lerp (in_mm a) (in_mm b) (clamp (nat 0) (nat 1) (along_mm /f length_mm))
+            → lerp (in_mm a) (in_mm b) (clamp (nat 0) (nat 1) (int along /f int length²))
+            ≡ lerp (in_mm a) (in_mm b) (clamp (nat 0) (nat 1) (along_mm /f length_mm))
         moved m =
             ap (λ (t : Float). lerp (in_mm a) (in_mm b) (clamp (nat 0) (nat 1) t))
             (sym ((quotient along_mm length_mm along length² along-small length-small apart (dots p a b a hp ha hb ha) (dots b a b a hb ha hb ha)).same m))
 
         go : (z : ℤ) → along ≡ z
-            → lerp (in_mm a) (in_mm b) (clamp (nat 0) (nat 1) (int along /f int length²)) ≡ lerp (in_mm a) (in_mm b) (clamp (nat 0) (nat 1) (along_mm /f length_mm))
+            → lerp (in_mm a) (in_mm b) (clamp (nat 0) (nat 1) (int along /f int length²))
+            ≡ lerp (in_mm a) (in_mm b) (clamp (nat 0) (nat 1) (along_mm /f length_mm))
         go (pos zero) e = start (int along /f int length²) a b (whole-zero e) ha hb ∙ sym (start (along_mm /f length_mm) a b (rust_zero e) ha hb)
         go (pos (suc m)) e = moved (λ z. omega (arith, ap nat_abs (sym e ∙ z)))
         go (negsuc m) e = moved (λ z. omega (arith, ap nat_abs (sym e ∙ z)))

@@ -25,7 +25,7 @@ use Rattle.nodes.specs.Flat.{node_in_of, nodes_in, over, Usable, has_at}
 use Rattle.keys.specs.Keys.{sought_key, key_of, Sought}
 use Rattle.nodes.proofs.Flat.{length_in, node_in, at-over}
 use Rattle.nodes.specs.declared.nearby.Span.{Span}
-use Rattle.nodes.specs.declared.nearby.Window.{Window}
+use Rattle.nodes.specs.declared.nearby.RingBox.{RingBox}
 use Rattle.nodes.specs.declared.nearby.Nearby.{Nearby}
 use Rattle.nodes.specs.Nearby.{most_nearby, Spans, Framed, inside_at, inside, xs_of, surrounds, CollectedOf, ValidNearby, NearbyLists, has_listed}
 use Rattle.nodes.specs.Nearby.{strictly, in_span, well_in}
@@ -50,11 +50,11 @@ map_ext f g [] h = refl
 map_ext f g (x ∷ l) h = λ i. h 0 (omega arith) i ∷ map_ext f g l (λ j k. h (suc j) (omega arith)) i
 
 -- ---- it stays true while the first places keep their nodes
-same-inside : (l m : List Float) (w : Window) (i : ℕ) → node_in_of l i ≡ node_in_of m i → inside_at w l i ≡ inside_at w m i
+same-inside : (l m : List Float) (w : RingBox) (i : ℕ) → node_in_of l i ≡ node_in_of m i → inside_at w l i ≡ inside_at w m i
 unfolding inside_at
 same-inside l m w i e = ap (λ (p : Point). in_span w.x p.x && in_span w.y p.y) e
 
-later : (l m : List Float) (w : Window) (n count : ℕ) (numbers : List ℕ) (xs : List Float) → ((i : ℕ) → i < n → node_in_of m i ≡ node_in_of l i)
+later : (l m : List Float) (w : RingBox) (n count : ℕ) (numbers : List ℕ) (xs : List Float) → ((i : ℕ) → i < n → node_in_of m i ≡ node_in_of l i)
     → CollectedOf l w n numbers xs count → CollectedOf m w n numbers xs count
 later l m w n count numbers xs h c =
     let k : (i : ℕ) → i < n → node_in_of l i ≡ node_in_of m i = (λ i u. sym (h i u)) in
@@ -77,7 +77,7 @@ held_grown l used ns c numbers xs g k =
     record {
       old = omega (arith, k.old, g.longer, h);
       framed = k.framed;
-      complete = λ u. later l (over l ns) c.window c.old c.count numbers xs
+      complete = λ u. later l (over l ns) c.ring_box c.old c.count numbers xs
           (λ i v. at-over l ns i (omega (arith, v, k.old, g.longer, h)) ∙ g.same i (omega (arith, v, k.old, h))
           ∙ node_in l used i (omega (arith, v, k.old)))
           (k.complete u);
@@ -90,7 +90,7 @@ held-over l m used v ns c numbers xs e f g k =
     (subst (λ (z : List Float). ValidNearby z (length ns) c numbers xs) (sym e) (held_grown l used ns c numbers xs g k))
 
 -- ---- what it holds
-module _ (l : List Float) (w : Window) (n count : ℕ) (numbers : List ℕ) (xs : List Float) (c : CollectedOf l w n numbers xs count) where
+module _ (l : List Float) (w : RingBox) (n count : ℕ) (numbers : List ℕ) (xs : List Float) (c : CollectedOf l w n numbers xs count) where
   size : length (inside w l n) ≡ count
   size = ap length (sym c.are) ∙ length-take-le count numbers (omega (arith, c.places, c.few))
 
@@ -110,8 +110,8 @@ module _ (l : List Float) (w : Window) (n count : ℕ) (numbers : List ℕ) (xs 
   lists = record { places = c.places; places_x = c.places_x; few = c.few; low = listed-low; same = listed-x }
 
 -- ---- what it decides
--- a node with keys strictly inside is in the window
-pub keyed_inside : (l : List Float) (w : Window) (kx ky : ℤ) (i : ℕ) → Framed w → InRange (node_in_of l i) → surrounds w kx ky ≡ true → has_at l kx ky i ≡ true
+-- a node with keys strictly inside is in the box
+pub keyed_inside : (l : List Float) (w : RingBox) (kx ky : ℤ) (i : ℕ) → Framed w → InRange (node_in_of l i) → surrounds w kx ky ≡ true → has_at l kx ky i ≡ true
     → inside_at w l i ≡ true
 unfolding inside_at
 keyed_inside l w kx ky i f r s h =
@@ -125,7 +125,7 @@ keyed_inside l w kx ky i f r s h =
     let q = in_span_lem w.y y f.1 (wider y r.1) (subst (λ (k : ℤ). T (strictly w.y k)) b (and_r (strictly w.x kx) (strictly w.y ky) v)) in
     T→true _ (and_i (in_span w.x x) (in_span w.y y) p q)
 
-module _ (l : List Float) (w : Window) (n used count : ℕ) (numbers : List ℕ) (xs : List Float) (kx ky : ℤ) (c : CollectedOf l w n numbers xs count)
+module _ (l : List Float) (w : RingBox) (n used count : ℕ) (numbers : List ℕ) (xs : List Float) (kx ky : ℤ) (c : CollectedOf l w n numbers xs count)
     (u : Usable l used) (le : n ≤ used) (f : Framed w) (s : surrounds w kx ky ≡ true)
     (j : ℕ) (e : j ≡ first (has_listed l numbers kx ky) count 0) where
   only : (k : ℕ) → k < n → has_at l kx ky k ≡ true → inside_at w l k ≡ true
@@ -154,20 +154,20 @@ module _ (l : List Float) (w : Window) (n used count : ℕ) (numbers : List ℕ)
 -- ---- the search of a point p, whose keys are those of a and b, where the collection decides
 module _ (l : List Float) (used : ℕ) (c : Nearby) (numbers : List ℕ) (xs : List Float) (p : Point) (a b : SoughtKey) (h : ValidNearby l used c numbers xs)
     (u : Usable l used) (e : a ≡ sought_key p.x) (f : b ≡ sought_key p.y) (v : Sought a) (w : Sought b)
-    (d : (leb c.count most_nearby && well_inside c.window a.scaled b.scaled) ≡ true) where
-  both : T (leb c.count most_nearby && well_inside c.window a.scaled b.scaled)
+    (d : (leb c.count most_nearby && well_inside c.ring_box a.scaled b.scaled) ≡ true) where
+  both : T (leb c.count most_nearby && well_inside c.ring_box a.scaled b.scaled)
   both = subst T (sym d) tt
 
-  all : CollectedOf l c.window c.old numbers xs c.count
-  all = h.complete (leb→le c.count most_nearby (and_l (leb c.count most_nearby) (well_inside c.window a.scaled b.scaled) both))
+  all : CollectedOf l c.ring_box c.old numbers xs c.count
+  all = h.complete (leb→le c.count most_nearby (and_l (leb c.count most_nearby) (well_inside c.ring_box a.scaled b.scaled) both))
 
   -- a sought coordinate is between the limits of a span, so its key is strictly between those of the ends
   strict : (s : Span) (k : SoughtKey) → Spans s → Sought k → T (well_in s k.scaled) → T (strictly s (key_of k))
   strict s k r o t = well_in_lem s k.own r (wider k.own o.ranged) (subst (λ (y : Float). T (well_in s y)) (scaled-of k o) t)
 
-  within : surrounds c.window (key_of a) (key_of b) ≡ true
+  within : surrounds c.ring_box (key_of a) (key_of b) ≡ true
   within =
-      let m = c.window in
+      let m = c.ring_box in
       let t = and_r (leb c.count most_nearby) (well_inside m a.scaled b.scaled) both in
       T→true (surrounds m (key_of a) (key_of b))
       (and_i (strictly m.x (key_of a)) (strictly m.y (key_of b))
@@ -175,12 +175,12 @@ module _ (l : List Float) (used : ℕ) (c : Nearby) (numbers : List ℕ) (xs : L
       (strict m.y b h.framed.1 w (and_r (well_in m.x a.scaled) (well_in m.y b.scaled) t)))
 
   pub searchable : Usable l c.old × NearbyLists l c.old numbers xs c.count
-  searchable = (fewer l c.old used h.old u, lists l c.window c.old c.count numbers xs all)
+  searchable = (fewer l c.old used h.old u, lists l c.ring_box c.old c.count numbers xs all)
 
   module _ (j : ℕ) (g : j ≡ first (has_listed l numbers (key_of a) (key_of b)) c.count 0) where
     pub found : j < c.count → get_or numbers j 0 ≡ number (nodes_in l used) p
-    found k = decided l c.window c.old used c.count numbers xs (key_of a) (key_of b) all u h.old h.framed within j g k ∙ found-is l used p a b e f
+    found k = decided l c.ring_box c.old used c.count numbers xs (key_of a) (key_of b) all u h.old h.framed within j g k ∙ found-is l used p a b e f
 
     pub not_found : (r : ℕ) → c.count ≤ j → r ≡ first (has_at l (key_of a) (key_of b)) (used - c.old) c.old → r ≡ number (nodes_in l used) p
     not_found r k s =
-        s ∙ undecided l c.window c.old used c.count numbers xs (key_of a) (key_of b) all u h.old h.framed within j g k ∙ found-is l used p a b e f
+        s ∙ undecided l c.ring_box c.old used c.count numbers xs (key_of a) (key_of b) all u h.old h.framed within j g k ∙ found-is l used p a b e f

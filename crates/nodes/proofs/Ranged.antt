@@ -1,6 +1,5 @@
--- Whether all numbers of a list are held, as a scan by blocks finds it out; and the same said of nodes, two numbers each.
-use Prim.Native.Nat.{ℕ, zero, suc, ◌+◌, ◌-◌, ◌*◌, ◌≤◌, ◌<◌}
-use native.Mathlib.Decide.{dec_le}
+-- Whether all numbers of a list are on the sheet, as a scan finds it out; and the same said of nodes, two numbers each.
+use Prim.Native.Nat.{ℕ, zero, suc, ◌+◌, ◌*◌, ◌≤◌}
 use native.Mathlib.Omega.{arith}
 use mathlib.Core.Path.{◌≡◌, refl, sym, ap, ◌∙◌, subst}
 use mathlib.Core.Bool.{Bool, true, false, not, ◌&&◌, ◌||◌}
@@ -8,10 +7,8 @@ use mathlib.Core.List.{List, [], ◌∷◌}
 use lib.IntN.{pos}
 use lib.Dec.{T}
 use lib.ListN.{length, get_or, take, drop}
-use Rattle.std.specs.Prelude.{Option}
 use Rattle.std.specs.List.{fold, list_any}
 use Rattle.std.proofs.Math.Bool.{or-false, or_assoc}
-use Rattle.std.specs.Iterator.Runs.{Run, ItemsCountUp}
 use Rattle.std.proofs.Common.{length-take, length-drop, get_or-take, get_or-drop}
 use lib.Ieee.{Float, nan, fin, le}
 use lib.Ieee.Fits.{and_l, and_r}
@@ -19,22 +16,22 @@ use Rattle.laws.specs.Bounded.{any}
 use Rattle.laws.specs.Within.{Within}
 use Rattle.laws.proofs.Between.{tested_1024}
 use Rattle.laws.proofs.Constants.{least_1024, most_1024}
-use Rattle.laws.proofs.Search.{any_at, any-fails, any_ext, any_listed}
-use Rattle.nodes.specs.Flat.{node_in_of, held, all_held}
+use Rattle.laws.proofs.Search.{any_ext, any_listed}
+use Rattle.nodes.specs.Flat.{node_in_of, on_sheet, all_on_sheet}
 
-pub held-is : (x : Float) → (le (fin true 1 (pos 10)) x && le x (fin false 1 (pos 10))) ≡ held x
-unfolding held
-held-is x = sym (λ j. le (least_1024 j) x && le x (most_1024 j))
+pub on_sheet-is : (x : Float) → (le (fin true 1 (pos 10)) x && le x (fin false 1 (pos 10))) ≡ on_sheet x
+unfolding on_sheet
+on_sheet-is x = sym (λ j. le (least_1024 j) x && le x (most_1024 j))
 
--- a number that is held is finite and within 1,024 mm
-pub held-within : (x : Float) → T (held x) → Within 1024 x
-held-within x h =
-    let k = subst T (sym (held-is x)) h in
+-- a number that is on the sheet is finite and within 1,024 mm
+pub on_sheet-within : (x : Float) → T (on_sheet x) → Within 1024 x
+on_sheet-within x h =
+    let k = subst T (sym (on_sheet-is x)) h in
     tested_1024 x (and_l (le (fin true 1 (pos 10)) x) (le x (fin false 1 (pos 10))) k) (and_r (le (fin true 1 (pos 10)) x) (le x (fin false 1 (pos 10))) k)
 
 -- the number in place i is not
 abbrev pub out : List Float → ℕ → Bool
-out l i = not (held (get_or l i nan))
+out l i = not (on_sheet (get_or l i nan))
 
 -- ---- passes
 -- a flag that gathers the tests of a list's elements, which are those of its places
@@ -44,21 +41,6 @@ listed p (x ∷ xs) b = listed p xs (b || p x) ∙ or_assoc b (p x) (list_any p 
 
 pub any_fold : {A : Type 0} (p : A → Bool) (d : A) (l : List A) (b : Bool) → fold (λ f x. f || p x) b l ≡ (b || any (λ j. p (get_or l j d)) (length l))
 any_fold p d l b = listed p l b ∙ ap (λ (c : Bool). b || c) (any_listed p d l)
-
--- a flag that gathers the tests of n numbers from a on
-pub any_run : {S : Type 0} {steps : S → Option ℕ → S → Type 0} (u : Run steps) (x y : ℕ) → ItemsCountUp u x y → u.whole ≡ true → (q : ℕ → Bool) (a n : ℕ) → x ≡ a → y ≡ a + n
-    → fold (λ f i. f || q i) false u.items ≡ any (λ j. q (a + j)) n
-any_run u x y w h q a n s e =
-    let z : u.len ≡ n = omega (arith, w.1 h, s, e) in
-    any_fold q 0 u.items false ∙ ap (any (λ j. q (get_or u.items j 0))) (sym u.long ∙ z) ∙ any_ext _ _ n (λ j t. ap q (item j t z))
-  where
-    item : (j : ℕ) → j < n → u.len ≡ n → get_or u.items j 0 ≡ a + j
-    item j t z =
-        let l : j < u.len = omega (arith, t, z) in
-        let b = u.reads j 0 l in
-        let d = w.3 j l in
-        let v : get_or u.items j 0 ≡ x + j = cc in
-        omega (arith, v, s)
 
 -- the tests of the m elements from place i on
 pub any_within : {A : Type 0} (p : A → Bool) (d : A) (l : List A) (i m : ℕ) → i + m ≤ length l
@@ -75,20 +57,9 @@ any_before p d l n h =
     ap (any (λ j. p (get_or (take n l) j d))) e ∙ any_ext _ _ n (λ j k. ap p (get_or-take n l j d k))
 
 -- all of a list's first n numbers, as a list of their own
-pub front_held : (l : List Float) (n : ℕ) → n ≤ length l → all_held (take n l) (length (take n l)) ≡ all_held l n
-unfolding all_held
-front_held l n h = ap not (any_before (λ x. not (held x)) nan l n h)
-
--- ---- blocks
--- all of them are, and those before place i
-pub go_on : (l : List Float) (d i t : ℕ) → d ≤ t → t ≤ i + d → any (out l) i ≡ false → any (λ j. out l (t - d + j)) d ≡ false → any (out l) t ≡ false
-go_on l d i t h k a b = any-fails (out l) t (λ m q. go m q (dec_le (suc m) i))
-  where
-    go : (m : ℕ) → m < t → Dec (m < i) → out l m ≡ false
-    go m q (yes y) = any_at (out l) i a m y
-    go m q (no z) =
-        let f : t - d + (m - (t - d)) ≡ m = omega (arith, q, h, k) in
-        subst (λ (u : ℕ). out l u ≡ false) f (any_at (λ j. out l (t - d + j)) d b (m - (t - d)) (omega (arith, q, h)))
+pub front_on_sheet : (l : List Float) (n : ℕ) → n ≤ length l → all_on_sheet (take n l) (length (take n l)) ≡ all_on_sheet l n
+unfolding all_on_sheet
+front_on_sheet l n h = ap not (any_before (λ x. not (on_sheet x)) nan l n h)
 
 -- ---- nodes
 both : (a b c : Bool) → (c || not (a && b)) ≡ ((c || not a) || not b)
@@ -96,13 +67,13 @@ both a b true = refl
 both true b false = refl
 both false b false = refl
 
-pub pairs : (l : List Float) (n : ℕ) → any (λ i. not (held (node_in_of l i).x && held (node_in_of l i).y)) n ≡ any (out l) (n * 2)
+pub pairs : (l : List Float) (n : ℕ) → any (λ i. not (on_sheet (node_in_of l i).x && on_sheet (node_in_of l i).y)) n ≡ any (out l) (n * 2)
 unfolding any
 pairs l zero = refl
 pairs l (suc n) =
     let e : suc n * 2 ≡ suc (suc (n * 2)) = omega arith in
     let f : n * 2 + 1 ≡ suc (n * 2) = omega arith in
-    (λ j. pairs l n j || not (held (node_in_of l n).x && held (node_in_of l n).y))
-    ∙ both (held (node_in_of l n).x) (held (node_in_of l n).y) (any (out l) (n * 2))
+    (λ j. pairs l n j || not (on_sheet (node_in_of l n).x && on_sheet (node_in_of l n).y))
+    ∙ both (on_sheet (node_in_of l n).x) (on_sheet (node_in_of l n).y) (any (out l) (n * 2))
     ∙ (λ j. (any (out l) (n * 2) || out l (n * 2)) || out l (f j))
     ∙ ap (any (out l)) (sym e)

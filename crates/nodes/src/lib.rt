@@ -10,11 +10,11 @@
 ghost use Rattle.std.specs.Prelude.{◌≡◌, ◌+◌, ◌*◌, ◌≤◌, length};
 ghost use Rattle.nodes.specs.Flat.{node_in_of};
 
-mod held;
 mod nearby;
+mod on_sheet;
 
-pub use held::{all_held, any_of_16_out, any_out, is_held};
-pub use nearby::{Collected, MOST_NEARBY, Nearby, Span, Window, block_end};
+pub use nearby::{Collected, MOST_NEARBY, Nearby, RingBox, Span, block_end};
+pub use on_sheet::{all_on_sheet, any_of_16_out, any_out, is_on_sheet};
 use vector::Point;
 
 // The number of a node: its place in the list.

@@ -5,7 +5,7 @@
 
 ghost use Rattle.std.specs.Prelude.{◌≡◌, ◌&&◌, ◌+◌, ◌≤◌, ◌<◌, leb};
 ghost use Rattle.laws.specs.Within.{Within};
-ghost use Rattle.nodes.specs.Nearby.{most_nearby, span, Spans, in_span, Framed, in_window, well_in, well_inside};
+ghost use Rattle.nodes.specs.Nearby.{most_nearby, span, Spans, in_span, Framed, in_box, well_in, well_inside};
 
 use super::NodeNumber;
 use keys::SoughtKey;
@@ -22,19 +22,20 @@ pub struct Span {
     pub most: f64,
 }
 
-// A box.
+// The box of a ring: a span of x and one of y.
 #[derive(Clone, Copy)]
-pub struct Window {
+pub struct RingBox {
     pub x: Span,
     pub y: Span,
 }
 
-// What was collected: of the nodes in the first `old` places those in the window, `count` of them. Where there are more
-// than MOST_NEARBY they are not all held, and `count` is one above that. Kept: no Option. The survey goes on with it
-// from block to block, by one definition, `counted`, and ValidNearby asks by `≤` whether all are held; both would be a match.
+// What was collected: of the nodes in the first `old` places those in the box, `count` of them. Where there are more
+// than MOST_NEARBY they are not all collected, and `count` is one above that. Kept: no Option. The survey goes on with it
+// from block to block, by one definition, `counted`, and ValidNearby asks by `≤` whether all are collected; both would be a
+// match.
 #[derive(Clone, Copy)]
 pub struct Nearby {
-    pub window: Window,
+    pub ring_box: RingBox,
     pub old: usize,
     pub count: usize,
 }
@@ -72,26 +73,26 @@ impl Span {
     }
 
     // Whether the key lies strictly between those of the ends: the scaled coordinate is rounded to no key beyond the two.
-    pub fn strict(self, k: SoughtKey) -> bool
+    fn strict(self, k: SoughtKey) -> bool
         ensures { result ≡ well_in self k.scaled }
     {
         (self.least <= k.scaled) & (k.scaled <= self.most)
     }
 }
 
-impl Window {
-    pub fn new(lo_x: f64, hi_x: f64, lo_y: f64, hi_y: f64) -> Window
+impl RingBox {
+    pub fn new(lo_x: f64, hi_x: f64, lo_y: f64, hi_y: f64) -> RingBox
         requires { Within 1025 lo_x × Within 1025 hi_x × Within 1025 lo_y × Within 1025 hi_y }
         ensures { (result ≡ record { x = span lo_x hi_x; y = span lo_y hi_y }) × Framed result }
     {
-        Window {
+        RingBox {
             x: Span::new(lo_x, hi_x),
             y: Span::new(lo_y, hi_y),
         }
     }
 
     pub fn holds(self, x: f64, y: f64) -> bool
-        ensures { result ≡ in_window self x y }
+        ensures { result ≡ in_box self x y }
     {
         let a = self.x;
         let b = self.y;
@@ -99,7 +100,7 @@ impl Window {
     }
 
     // Kept: two keys and no SoughtPoint, whose ghost field would ask what is not asked here.
-    pub fn strict(self, kx: SoughtKey, ky: SoughtKey) -> bool
+    fn strict(self, kx: SoughtKey, ky: SoughtKey) -> bool
         ensures { result ≡ well_inside self kx.scaled ky.scaled }
     {
         let a = self.x;
@@ -111,9 +112,9 @@ impl Window {
 impl Nearby {
     // Whether a point with these keys is among the collected nodes, if it is among the first `old` at all.
     pub fn decides(self, kx: SoughtKey, ky: SoughtKey) -> bool
-        ensures { result ≡ (leb self.count most_nearby && well_inside self.window kx.scaled ky.scaled) }
+        ensures { result ≡ (leb self.count most_nearby && well_inside self.ring_box kx.scaled ky.scaled) }
     {
-        let w = self.window;
+        let w = self.ring_box;
         self.count <= MOST_NEARBY && w.strict(kx, ky)
     }
 }

@@ -38,7 +38,8 @@ pub none_near : (w : SoughtPoint) (at : ℕ → Point) (i t : ℕ) → i ≤ t �
     → any (λ j. near w.x.scaled (at (t - 16 + j)).x) 16 ≡ false → None ≡ found (λ k. has_key (key_of w.x) (key_of w.y) (at k)) i t
 none_near w at i t a b d r e =
     let z : i + (t - i) ≡ t = omega arith in
-    below-none t _ (first-none (λ k. has_key (key_of w.x) (key_of w.y) (at k)) (t - i) i (λ k x y. far w (at k) (r k (omega (arith, y, z))) (clear k x (omega (arith, y, z)))) ∙ z)
+    below-none t _ (first-none (λ k. has_key (key_of w.x) (key_of w.y) (at k))
+    (t - i) i (λ k x y. far w (at k) (r k (omega (arith, y, z))) (clear k x (omega (arith, y, z)))) ∙ z)
   where
     clear : (k : ℕ) → i ≤ k → k < t → near w.x.scaled (at k).x ≡ false
     clear k x y =

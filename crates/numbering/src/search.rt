@@ -2,7 +2,7 @@
 //
 // The places are those of the node list, or those of the nodes that were collected.
 
-ghost use Rattle.std.specs.Prelude.{◌≡◌, ℕ, ◌+◌, ◌-◌, ◌*◌, ◌≤◌, ◌<◌, ◌||◌, get_or};
+ghost use Rattle.std.specs.Prelude.{◌≡◌, ℕ, ◌+◌, ◌-◌, ◌*◌, ◌≤◌, ◌<◌, get_or};
 ghost use Rattle.laws.specs.Bounded.{any};
 ghost use Rattle.vector.specs.declared.Point as Spot;
 ghost use Rattle.keys.specs.Keys.{key_of, near};

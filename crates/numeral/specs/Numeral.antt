@@ -1,5 +1,6 @@
 -- A drawing's number, "in mm, decimals allowed and rounded to the nearest 1/8192 mm (halves away from zero)". A word is a list of bytes. Definitions only.
-use Rattle.std.specs.Prelude.{ℕ, zero, suc, ◌+◌, ◌-◌, ◌*◌, ◌/◌, ◌^◌, ◌≤◌, ◌<◌, Bool, true, false, ◌&&◌, ◌||◌, not, cond, Option, Some, None, List, length, get_or, drop, ltb, eqb, ℤ, pos, negsuc}
+use Rattle.std.specs.Prelude.{ℕ, zero, suc, ◌+◌, ◌-◌, ◌*◌, ◌/◌, ◌^◌, ◌≤◌, ◌<◌, Bool, true, false, ◌&&◌, ◌||◌, not}
+use Rattle.std.specs.Prelude.{cond, Option, Some, None, List, length, get_or, drop, ltb, eqb, ℤ, pos, negsuc}
 use Rattle.numeral.specs.declared.Said.{Said}
 use Rattle.numeral.specs.declared.Met.{Met}
 

@@ -68,7 +68,7 @@ impl Met {
 
 // What was met in a word's bytes behind its sign, also where they are no number.
 #[tactic(auto, unfolding(crate::specs::Numeral::scan_to, crate::specs::Numeral::scanned), using(crate::proofs::Bounds::small))]
-pub fn scan(body: &[u8]) -> Met
+fn scan(body: &[u8]) -> Met
     requires { length body.now ≤ 19 }
     ensures { result ≡ Numeral.scanned body.now }
 {

@@ -20,7 +20,7 @@ use Rattle.segments.specs.declared.Segment.{Segment}
 use Rattle.segments.specs.Segments.{segments_cross}
 use Rattle.segments.specs.Meeting.{strictly_between}
 use Rattle.simple.specs.Simple.{point_in_polygon}
-use Rattle.obstacles.specs.Obstacles.{clear_of, blocks, runs_over, unobstructed}
+use Rattle.obstacles.specs.Obstacles.{clear_of, crosses_edge, runs_over, unobstructed}
 
 default : (l : List GridPoint) (k : ℕ) (d e : GridPoint) → k < length l → get_or l k d ≡ get_or l k e
 default [] k d e h = absurd (omega (arith, h))
@@ -39,8 +39,9 @@ module _ (l : List GridPoint) (k : ℕ) (lk : k < length l) where
 
   -- edge e, whose end is the place j
   module _ (e j : ℕ) (le : e < length l) (ej : j ≡ (e + 1) % length l) where
-    pub by_points : clear_of (length l) k e && segments_cross (get_or l 0 origin) (get_or l k origin) (get_or l e origin) (get_or l j origin) ≡ blocks l k e
-    unfolding blocks
+    pub by_points : clear_of (length l) k e && segments_cross (get_or l 0 origin) (get_or l k origin) (get_or l e origin) (get_or l j origin)
+        ≡ crosses_edge l k e
+    unfolding crosses_edge
     by_points =
         let c = at_place l e le in
         let d = at_following l e j ej in
@@ -48,7 +49,7 @@ module _ (l : List GridPoint) (k : ℕ) (lk : k < length l) where
 
     -- it and the diagonal as segments
     pub opened : (s t : Segment) → (s.a ≡ get_or l 0 origin) × (s.b ≡ get_or l k origin) → (t.a ≡ get_or l e origin) × (t.b ≡ get_or l j origin)
-        → clear_of (length l) k e && segments_cross s.a s.b t.a t.b ≡ blocks l k e
+        → clear_of (length l) k e && segments_cross s.a s.b t.a t.b ≡ crosses_edge l k e
     opened s t es et = (λ i. clear_of (length l) k e && segments_cross (es.0 i) (es.1 i) (et.0 i) (et.1 i)) ∙ by_points
 
   -- the corners
@@ -61,8 +62,8 @@ module _ (l : List GridPoint) (k : ℕ) (lk : k < length l) where
 
   -- the midpoint m
   pub all_three : (m : Point) → m ≡ lerp (in_mm (get_or l 0 origin)) (in_mm (get_or l k origin)) (lit 5 1)
-      → (point_in_polygon l m && not (any (blocks l k) (length l)) && not (any (runs_over l k) (length l))) ≡ unobstructed l k
+      → (point_in_polygon l m && not (any (crosses_edge l k) (length l)) && not (any (runs_over l k) (length l))) ≡ unobstructed l k
   unfolding unobstructed
   all_three m em =
-      ap (λ (q : Point). point_in_polygon l q && not (any (blocks l k) (length l)) && not (any (runs_over l k) (length l)))
+      ap (λ (q : Point). point_in_polygon l q && not (any (crosses_edge l k) (length l)) && not (any (runs_over l k) (length l)))
       (em ∙ (λ i. lerp (in_mm (sym first i)) (in_mm (sym last i)) (lit 5 1)))

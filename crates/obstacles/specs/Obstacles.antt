@@ -14,8 +14,8 @@ unfoldable pub clear_of : ℕ → ℕ → ℕ → Bool
 clear_of n k e = not (eqb e 0 || eqb (suc e) n || eqb e k || eqb (suc e) k)
 
 -- the diagonal crosses edge e, which touches neither end
-unfoldable pub blocks : List GridPoint → ℕ → ℕ → Bool
-blocks r k e = clear_of (length r) k e && segments_cross (at r 0) (at r k) (at r e) (at r (suc e))
+unfoldable pub crosses_edge : List GridPoint → ℕ → ℕ → Bool
+crosses_edge r k e = clear_of (length r) k e && segments_cross (at r 0) (at r k) (at r e) (at r (suc e))
 
 -- 02, Card 11: "a third corner of the part is strictly between its ends on the same line", corner j. No end is, by place or by position:
 -- `first-end` and `second-end` of crate segments
@@ -26,5 +26,5 @@ runs_over r k j = strictly_between (at r 0) (at r k) (at r j)
 unfoldable pub unobstructed : List GridPoint → ℕ → Bool
 unobstructed r k =
     point_in_polygon r (lerp (in_mm (at r 0)) (in_mm (at r k)) (lit 5 1))
-    && not (any (blocks r k) (length r))
+    && not (any (crosses_edge r k) (length r))
     && not (any (runs_over r k) (length r))

@@ -27,7 +27,7 @@ fn clear_of(n: usize, k: usize, e: usize) -> bool
 // Kept: a loop left by a label is the form that the specification names for the scan over pairs of edges, and for this one.
 fn blocked(part: &[GridPoint], k: usize) -> bool
     requires { OnSheetPoints part.now × (k < length part.now) }
-    ensures { result ≡ any (Obstacles.blocks part.now k) (length part.now) }
+    ensures { result ≡ any (Obstacles.crosses_edge part.now k) (length part.now) }
 {
     let n = part.len();
     let diagonal = Segment::new(part[0], part[k]);

@@ -76,14 +76,16 @@ module _ (L : Limits) (k : ℕ) (h : k ≤ L.cuts) (r : ℕ) (p : Part) (x : Lis
   pub core-alike : SameAnswer L fewer r x (core L r p x) (core fewer r p x)
   unfolding core
   core-alike =
-      by_tests-both x x (ring_tests p.points) (laid L r p x (split_bad_vertices L p)) (laid fewer r p x (split_bad_vertices fewer p)) (SameAnswer L fewer r x) tt
+      by_tests-both x x (ring_tests p.points) (laid L r p x (split_bad_vertices L p))
+      (laid fewer r p x (split_bad_vertices fewer p)) (SameAnswer L fewer r x) tt
       (λ t. refused-alike L fewer r p x (first_of (ring_tests p.points)) t)
       (λ w. subst (λ (s : Stack). SameAnswer L fewer r x (laid L r p x (split_bad_vertices L p)) (laid fewer r p x s)) (sym (same-split L k p h (few w)))
       (answered-alike L fewer r p x (asked-alike (few w)) (split_bad_vertices L p)
       (pieces_to L.share (split_bad_vertices L p).pieces (used_in x) (length (split_bad_vertices L p).pieces))))
 
 -- ---- the tests
-room_free : (L : Limits) (r : ℕ) (x : Lists) → HoldsReserve L r x → room_out_of L r (length x.nodes - x.node_count_of) (length x.cells - x.cell_count_of) ≡ false
+room_free : (L : Limits) (r : ℕ) (x : Lists)
+    → HoldsReserve L r x → room_out_of L r (length x.nodes - x.node_count_of) (length x.cells - x.cell_count_of) ≡ false
 unfolding room_out_of
 room_free L r x h =
     let e = le-ltb (length x.nodes - x.node_count_of) (node_reserve L r) h.nodes in
@@ -166,7 +168,8 @@ module _ (l : List Cell) (u n : ℕ) (fits : u + n ≤ length l) where
   from_front : (i : ℕ) → u ≤ i → get_or z i no_cell ≡ get_or rest (i - u) no_cell
   from_front i g =
       let e : i ≡ length (take u l) + (i - u) = omega (arith, g, front) in
-      ap (λ (s : List Cell). get_or s i no_cell) seam ∙ ap (λ (j : ℕ). get_or (take u l ++ rest) j no_cell) e ∙ get_or-append-add (take u l) rest (i - u) no_cell
+      ap (λ (s : List Cell). get_or s i no_cell) seam
+      ∙ ap (λ (j : ℕ). get_or (take u l ++ rest) j no_cell) e ∙ get_or-append-add (take u l) rest (i - u) no_cell
 
   zero-inside : (i : ℕ) → u ≤ i → i < u + n → get_or z i no_cell ≡ no_cell
   zero-inside i g h =

@@ -46,7 +46,8 @@ agree false x c k n h f = refl
 agree true x c k n h f = decide x c k n h (ltb c n) refl f
 
 module _ (L : Limits) (k : ℕ) (h : k ≤ L.cuts) where
-  at_same : (r : List GridPoint) (c v : ℕ) → ((j : ℕ) → split_polygon_at L r c v ≡ some j → c < k) → split_polygon_at (with_cuts k L) r c v ≡ split_polygon_at L r c v
+  at_same : (r : List GridPoint) (c v : ℕ) → ((j : ℕ) → split_polygon_at L r c v ≡ some j → c < k)
+      → split_polygon_at (with_cuts k L) r c v ≡ split_polygon_at L r c v
   unfolding split_polygon_at bad
   at_same r c v f =
       ap (λ (x : Option ℕ). cond (bad L (measure_at r v) && ltb c k) x none) (best-same L k (rotate v r) (length r - 3))
@@ -112,6 +113,7 @@ enough M p n h =
     ∙ ap (λ (d : ℕ). pops M d (start p)) e
 
 -- ---- the theorem
-pub same-split : (L : Limits) (k : ℕ) (p : Part) → k ≤ L.cuts → (split_bad_vertices L p).cuts ≤ k → split_bad_vertices (with_cuts k L) p ≡ split_bad_vertices L p
+pub same-split : (L : Limits) (k : ℕ) (p : Part)
+    → k ≤ L.cuts → (split_bad_vertices L p).cuts ≤ k → split_bad_vertices (with_cuts k L) p ≡ split_bad_vertices L p
 unfolding split_bad_vertices
 same-split L k p h g = enough (with_cuts k L) p L.cuts h ∙ pops_same L k h (2 * L.cuts + 1) (start p) g

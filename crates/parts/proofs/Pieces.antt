@@ -12,7 +12,7 @@ use lib.ListN.{get_or-eq_default, length, get_or, take, drop, length-drop}
 use lib.Seq.{get_or-take, get_or-drop, length-take-le}
 use Rattle.std.proofs.lemmas.List.{get_or_default}
 use Rattle.laws.specs.Table.{tab}
-use Rattle.laws.proofs.Table.{length_tab, get_d_tab, is_tab, tab_ext, map_tab}
+use Rattle.laws.proofs.Table.{length_tab, get_d_tab, is_tab, tab_ext}
 use Rattle.vector.specs.declared.GridPoint.{GridPoint}
 use Rattle.vector.specs.Grid.{origin}
 use Rattle.marks.specs.declared.EdgeMark.{EdgeMark}
@@ -47,7 +47,8 @@ module _ (p : PartList) (i : ℕ) (l : i < p.count) where
 
 -- ---- marks
 -- what the code reads of a corner's edge
-pub mark-read : (marks : List EdgeMark) (k : ℕ) (r : Option (Bor EdgeMark)) → IsItemAt marks k r → unwrap_or (option_copied r) Straight ≡ get_or marks k Straight
+pub mark-read : (marks : List EdgeMark) (k : ℕ) (r : Option (Bor EdgeMark))
+    → IsItemAt marks k r → unwrap_or (option_copied r) Straight ≡ get_or marks k Straight
 mark-read marks k None h = sym (get_or-eq_default marks Straight h.3)
 mark-read marks k (Some x) h = h.1 ∙ get_or_default marks k x.now Straight h.3.0
 

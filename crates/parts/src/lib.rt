@@ -14,7 +14,7 @@ ghost use Rattle.vector.specs.Size.{AllOnSheet};
 ghost use Rattle.vector.specs.Rings.{most_points, points_of, OnSheetRing};
 ghost use Rattle.marks.specs.declared.EdgeMark.{EdgeMark};
 ghost use Rattle.marks.specs.declared.EdgeMark.TheVariants.{Straight};
-ghost use Rattle.parts.specs.Vertices.{vertex, corner_point};
+ghost use Rattle.parts.specs.Vertices.{corner_point};
 ghost use Rattle.parts.specs.Layout as Layout;
 ghost use Rattle.parts.specs.Pieces.{piece_in};
 

@@ -1,6 +1,6 @@
 -- The parts of a picture, each of which stands at the front of all that comes after it (`Starts`), and so is owed when as
 -- many bytes were written as stand before it (`owes_head`, `due`, `owes_node`, `owes_foot`); and one more block of a job (`turned`, `drew`). Where the run has
--- ended, all rings are drawn (`rings-drawn`).
+-- ended, all rings are drawn (`rings-drawn`). What each part adds is what the writer gets (`drew_more`, `node_more`, `all_written`).
 use Prim.Native.Nat.{ℕ, zero, suc, ◌+◌, ◌-◌, ◌*◌, ◌/◌, ◌≤◌, ◌<◌}
 use mathlib.Core.Path.{◌≡◌, refl, sym, ap, subst, ◌∙◌}
 use mathlib.Core.Bool.{true, false}
@@ -13,6 +13,9 @@ use lib.ListN.{length, take, drop, length-append, length-take, length-drop}
 use lib.Seq.{take_at}
 use lib.IntN.{ℤ}
 use lib.Ieee.{Float}
+use Rattle.std.specs.declared.option.Option.{Option}
+use Rattle.std.specs.Io.KnownBytes.{Appends}
+use Rattle.std.proofs.KnownBytes.{Appends-nil, Appends-trans}
 use Rattle.text.specs.Text.{put, Written}
 use Rattle.text.specs.declared.Page.{Page}
 use Rattle.text.specs.Page.{Wrote as Wrote_on}
@@ -21,7 +24,7 @@ use Rattle.told.specs.Text.{tells_of}
 use Rattle.state.specs.declared.State.{State}
 use Rattle.job.specs.declared.Stepped.{Stepped}
 use Rattle.job.specs.Step.{Step, step_of, Steps, CanStep}
-use Rattle.job.specs.Run.{Course, start, no_points, no_nodes, no_rims, ran, read_to, whole_run, block_at}
+use Rattle.job.specs.Run.{RunSoFar, start, no_points, no_nodes, no_rims, ran, read_to, whole_run, block_at}
 use Rattle.job.proofs.Runs.{Went, outcome, not-both, stays, goes, ran-held}
 use Rattle.job.proofs.Printed.{one_more, settles}
 use Rattle.run.specs.declared.Job.{Job}
@@ -34,7 +37,7 @@ use Rattle.frame.specs.Head.{head_text, edges_of, foot_text}
 use Rattle.sketch.specs.Drawn.{drawn, lead_at}
 use Rattle.picture.specs.Picture.{on, step_drawn, drawn_to}
 use Rattle.picture.specs.Picture.{rings_drawn, nodes_drawn, all_drawn, pictured, most_rings, most_picture}
-use Rattle.picture.specs.Picture.{Wrote, Owed, Sends, Reached, Drew, Left}
+use Rattle.picture.specs.Picture.{Wrote, Owed, Sends, Grows, Reached, Drew, Left}
 use Rattle.picture.proofs.Listed.{few-nodes}
 
 -- a text that was written on an empty page is all that stands there
@@ -56,12 +59,12 @@ module _ {p q : Page} {t : List ℕ} (z : p.at ≡ 0) (h : q.at ≤ length p.out
 abbrev pub drawn_of : Frame → Step → List ℕ
 drawn_of f e = drawn (edges_of f) e.told e.state.count e.points e.nodes e.rims e.cells
 
-steps_drawn : (f : Frame) (r : Course) (b lead : List ℕ) → r.state.ended ≡ false
+steps_drawn : (f : Frame) (r : RunSoFar) (b lead : List ℕ) → r.state.ended ≡ false
     → step_drawn f r b lead ≡ drawn_of f (step_of r.state r.points r.nodes r.rims b) ++ lead
 unfolding step_drawn
 steps_drawn f r b lead e = rw e
 
-none-drawn : (f : Frame) (r : Course) (b lead : List ℕ) → r.state.ended ≡ true → step_drawn f r b lead ≡ []
+none-drawn : (f : Frame) (r : RunSoFar) (b lead : List ℕ) → r.state.ended ≡ true → step_drawn f r b lead ≡ []
 unfolding step_drawn
 none-drawn f r b lead e = rw e
 
@@ -94,6 +97,18 @@ owes {job} {before} {t} {sent} w q = record { before = before; after = q.rest; w
 
 pub owed_as : {job t u : List ℕ} {sent : ℕ} → t ≡ u → Owed job sent u → Owed job sent t
 owed_as {job} {t} {u} {sent} e o = subst (Owed job sent) (sym e) o
+
+-- ---- what was written, part by part
+pub grows_none : (a : Option (List ℕ)) (t : List ℕ) → Grows a a t t
+grows_none a t = record { part = []; whole = sym (append-nil t); bytes = Appends-nil a }
+
+pub grows_on : (a b c : Option (List ℕ)) (t u v : List ℕ) → Grows a b t u → Grows b c u v → Grows a c t v
+grows_on a b c t u v g h =
+    record {
+      part = g.part ++ h.part;
+      whole = h.whole ∙ ap (λ (z : List ℕ). z ++ h.part) g.whole ∙ append_assoc t g.part h.part;
+      bytes = Appends-trans a b c g.part h.part g.bytes h.bytes;
+    }
 
 -- ---- the parts of the picture of a job: the head and the rings
 module _ (job : List ℕ) where
@@ -131,11 +146,12 @@ module _ (job : List ℕ) where
     settled (suc k) =
         let a : suc k + i ≡ suc (k + i) = omega arith in
         let q = settled k in
-        let d : (ran (read_to job (k + i))).state.ended ≡ true = ap (λ (r : Course). r.state.ended) q.0 ∙ e in (
+        let d : (ran (read_to job (k + i))).state.ended ≡ true = ap (λ (r : RunSoFar). r.state.ended) q.0 ∙ e in (
           ap (λ (m : ℕ). ran (read_to job m)) a ∙ one_more job (k + i) ∙ stays (ran (read_to job (k + i))) (block_at job (k + i)) d ∙ q.0,
           ap (drawn_to frame job) a
               ∙ one-drawn (k + i)
-              ∙ ap (λ (z : List ℕ). drawn_to frame job (k + i) ++ z) (none-drawn frame (ran (read_to job (k + i))) (block_at job (k + i)) (lead_at job (k + i)) d)
+              ∙ ap (λ (z : List ℕ). drawn_to frame job (k + i) ++ z)
+              (none-drawn frame (ran (read_to job (k + i))) (block_at job (k + i)) (lead_at job (k + i)) d)
               ∙ append-nil (drawn_to frame job (k + i))
               ∙ q.1,
         )
@@ -168,6 +184,19 @@ module _ (job : List ℕ) where
   unfolding pictured
   foot-last sent n w e = omega (arith, e, w.count, length-append (all_drawn job) foot_text)
 
+  pub no_nodes_more : (a : Option (List ℕ)) → Grows a a (rings_drawn job) (nodes_drawn job 0)
+  unfolding nodes_drawn nodes_text
+  no_nodes_more a = record { part = []; whole = refl; bytes = Appends-nil a }
+
+  -- the head, the parts after it and the foot are the whole
+  pub all_written : (f : Frame) (a b c d : Option (List ℕ)) → Appends a b (head_text f) → Grows b c (head_text f) (all_drawn job) → Appends c d foot_text
+      → Appends a d (pictured job)
+  unfolding pictured
+  all_written f a b c d p g q =
+      let e : all_drawn job ++ foot_text ≡ head_text f ++ (g.part ++ foot_text) =
+      ap (λ (z : List ℕ). z ++ foot_text) g.whole ∙ append_assoc (head_text f) g.part foot_text in
+      subst (Appends a d) (sym e) (Appends-trans a b d (head_text f) (g.part ++ foot_text) p (Appends-trans b c d g.part foot_text g.bytes q))
+
   module _ (used : ℕ) (l : List Float) (rs : List ℕ) (h : Left job used l rs) where
     pub few-left : used ≤ 1536
     unfolding whole_run
@@ -185,20 +214,36 @@ module _ (job : List ℕ) where
     more-nodes i sent n t e d q =
         rw (add-one i) (omega (arith, q, e, ap length (d ∙ same-dot i), ap length (one-node i), length-append (nodes_drawn job i) (dot i)))
 
+    pub node_more : (i : ℕ) (t : List ℕ) → t ≡ node_text l rs i → (a b c : Option (List ℕ)) → Grows a b (rings_drawn job) (nodes_drawn job i) → Appends b c t
+        → Grows a c (rings_drawn job) (nodes_drawn job (i + 1))
+    node_more i t e a b c g w =
+        rw (add-one i)
+        (grows_on a b c _ _ _ g (record { part = t; whole = one-node i ∙ ap (λ (z : List ℕ). nodes_drawn job i ++ z) (sym (e ∙ same-dot i)); bytes = w }))
+
+    pub all_nodes_more : (i : ℕ) → i ≡ used → (a b : Option (List ℕ)) → Grows a b (rings_drawn job) (nodes_drawn job i)
+        → Grows a b (rings_drawn job) (all_drawn job)
+    unfolding all_drawn
+    all_nodes_more i e a b g = subst (λ (k : ℕ). Grows a b (rings_drawn job) (nodes_drawn job k)) (e ∙ h.count) g
+
     pub all-nodes : (i sent : ℕ) → i ≡ used → sent ≡ length (nodes_drawn job i) → sent ≤ most_picture → Wrote (all_drawn job) sent
     unfolding all_drawn
     all-nodes i sent e q b = record { count = q ∙ ap (λ (k : ℕ). length (nodes_drawn job k)) (e ∙ h.count); bound = b }
 
 -- ---- what the first i blocks of a job reach, and what is drawn of them
--- a run under way, or ended: so many blocks reach it, and they are drawn
-pub record At (job : List ℕ) (s : State) (ps : List ℤ) (l : List Float) (rs : List ℕ) (sent : ℕ) : Type 0 where
+-- a run under way, or ended: so many blocks reach it, and they are drawn behind the head
+pub record At (job : List ℕ) (s : State) (ps : List ℤ) (l : List Float) (rs : List ℕ) (sent : ℕ) (out cur : Option (List ℕ)) : Type 0 where
   pub blocks : ℕ
   pub reached : Reached job blocks s ps l rs
   pub drew : Drew job blocks sent
+  pub text : Grows out cur (head_text (frame job)) (drawn_to (frame job) job blocks)
 
 pub drew_head : (job : List ℕ) (f : Frame) (sent : ℕ) → f ≡ frame_of (extent_of job) → sent ≡ length (head_text f) → sent ≤ 8192 → Drew job 0 sent
 unfolding drawn_to
 drew_head job f sent e q b = record { count = q ∙ ap (λ (g : Frame). length (head_text g)) e; bound = omega (arith, b) }
+
+pub head_alone : (job : List ℕ) (a : Option (List ℕ)) → Grows a a (head_text (frame job)) (drawn_to (frame job) job 0)
+unfolding drawn_to
+head_alone job a = grows_none a (head_text (frame job))
 
 begun : (job : List ℕ) → Reached job 0 start no_points no_nodes no_rims
 unfolding ran read_to
@@ -221,19 +266,26 @@ module _ (job : List ℕ) (i : ℕ) (s : State) (ps : List ℤ) (l : List Float)
     left =
         let w = settles job i ended in
         record {
-          count = ap (λ (z : State). z.used) r.state ∙ ap (λ (c : Course). c.state.used) w;
-          nodes = r.nodes ∙ ap (λ (c : Course). c.nodes) w;
-          rims = r.rims ∙ ap (λ (c : Course). c.rims) w;
+          count = ap (λ (z : State). z.used) r.state ∙ ap (λ (c : RunSoFar). c.state.used) w;
+          nodes = r.nodes ∙ ap (λ (c : RunSoFar). c.nodes) w;
+          rims = r.rims ∙ ap (λ (c : RunSoFar). c.rims) w;
         }
 
     pub rings-drawn : (sent : ℕ) → Drew job i sent → length job < 4294967296 → (sent ≡ length (rings_drawn job)) × (sent ≤ most_rings)
     rings-drawn sent d h = (d.count ∙ ap length (all-rings job i ended r.turns), omega (arith, d.bound, r.turns, h))
 
+    -- the rings and the nodes were written behind the head
+    pub all_more : (f : Frame) → f ≡ frame job → (a b c : Option (List ℕ)) → Grows a b (head_text (frame job)) (drawn_to (frame job) job i)
+        → Grows b c (rings_drawn job) (all_drawn job) → Grows a c (head_text f) (all_drawn job)
+    all_more f q a b c g k =
+        subst (λ (x : Frame). Grows a c (head_text x) (all_drawn job)) (sym q)
+        (grows_on a b c _ _ _ (subst (Grows a b (head_text (frame job))) (all-rings job i ended r.turns) g) k)
+
   module _ (e : s.ended ≡ false) (b : List ℕ) (eb : b ≡ block_at job i) where
     going : (ran (read_to job i)).state.ended ≡ false
     going = ap (λ (z : State). z.ended) (sym r.state) ∙ e
 
-    abbrev now : Course
+    abbrev now : RunSoFar
     now = ran (read_to job i)
 
     same : step_of s ps l rs b ≡ step_of now.state now.points now.nodes now.rims (block_at job i)
@@ -271,6 +323,15 @@ module _ (job : List ℕ) (i : ℕ) (s : State) (ps : List ℤ) (l : List Float)
             }
             )
 
+        pub drew_more : (a b : Option (List ℕ)) → Appends a b text
+            → Grows a b (drawn_to (frame_of (extent_of job)) job i) (drawn_to (frame_of (extent_of job)) job (i + 1))
+        drew_more a b w =
+            rw (add-one i) (record {
+              part = text;
+              whole = one-drawn job i ∙ ap (λ (z : List ℕ). drawn_to (frame_of (extent_of job)) job i ++ z) (sym its-text);
+              bytes = w;
+            })
+
       next_block : x.state.ended ≡ false → (x.state.block ≡ suc i) × (512 * suc i ≤ length job)
       next_block h = by (outcome s ps l rs b)
         where
@@ -285,10 +346,10 @@ module _ (job : List ℕ) (i : ℕ) (s : State) (ps : List ℤ) (l : List Float)
       turned =
           let n = one_more job i ∙ goes (ran (read_to job i)) (block_at job i) going in
           record {
-            state = p.state ∙ ap (λ (y : Step). y.state) same ∙ sym (ap (λ (y : Course). y.state) n);
-            points = p.points ∙ ap (λ (y : Step). y.points) same ∙ sym (ap (λ (y : Course). y.points) n);
-            nodes = p.nodes ∙ ap (λ (y : Step). y.nodes) same ∙ sym (ap (λ (y : Course). y.nodes) n);
-            rims = p.rims ∙ ap (λ (y : Step). y.rims) same ∙ sym (ap (λ (y : Course). y.rims) n);
+            state = p.state ∙ ap (λ (y : Step). y.state) same ∙ sym (ap (λ (y : RunSoFar). y.state) n);
+            points = p.points ∙ ap (λ (y : Step). y.points) same ∙ sym (ap (λ (y : RunSoFar). y.points) n);
+            nodes = p.nodes ∙ ap (λ (y : Step). y.nodes) same ∙ sym (ap (λ (y : RunSoFar). y.nodes) n);
+            rims = p.rims ∙ ap (λ (y : Step). y.rims) same ∙ sym (ap (λ (y : RunSoFar). y.rims) n);
             numbered = λ h. (next_block h).0;
             within = λ h. (next_block h).1;
             turns = omega (arith, r.within e);

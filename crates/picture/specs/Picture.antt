@@ -1,12 +1,13 @@
--- The picture of a job as one definition, `pictured`, from the bytes that go in to those that come out; and what is owed of it after so many bytes. Of what the
--- operating system takes no contract can speak, so it stands for its length. Definitions only.
-use Rattle.std.specs.Prelude.{ℕ, zero, suc, ◌+◌, ◌*◌, ◌/◌, ◌%◌, ◌≤◌, ◌<◌, ◌≡◌, false, cond, List, [], ◌++◌, length, take, eqb, ℤ, Float, Option, IfSome, Result, Ok, Err, IfOk, IfErr}
-use Rattle.std.specs.Io.KnownBytes.{Consumes}
+-- The picture of a job as one definition, `pictured`, from the bytes that go in to those that come out; what is owed of it after so many bytes; and what a
+-- writer has got of it, where its bytes are known. Of what the operating system takes no contract can speak, so it stands for its length. Definitions only.
+use Rattle.std.specs.Prelude.{ℕ, zero, suc, ◌+◌, ◌*◌, ◌/◌, ◌%◌, ◌≤◌, ◌<◌, ◌≡◌, false, cond, List, [], ◌++◌, length, take, eqb, ℤ, Float}
+use Rattle.std.specs.Prelude.{Option, IfSome, Result, Ok, Err, IfOk, IfErr}
+use Rattle.std.specs.Io.KnownBytes.{Consumes, Appends}
 use Rattle.text.specs.Text.{bytes}
 use Rattle.text.specs.declared.Page.{Page}
 use Rattle.state.specs.declared.State.{State}
 use Rattle.job.specs.Step.{step_of}
-use Rattle.job.specs.Run.{Course, ran, read_to, whole_run, block_at}
+use Rattle.job.specs.Run.{RunSoFar, ran, read_to, whole_run, block_at}
 use Rattle.scene.specs.Scene.{nodes_text}
 use Rattle.frame.specs.declared.Frame.{Frame}
 use Rattle.frame.specs.Bounds.{extent_of, frame_of}
@@ -18,7 +19,7 @@ use Rattle.picture.specs.declared.End.{End}
 use Rattle.picture.specs.declared.End.TheVariants.{Drawn, TooLong}
 
 -- of the run r, one block on, the lead line over its ring; of a run that has ended, nothing
-unfoldable pub step_drawn : Frame → Course → List ℕ → List ℕ → List ℕ
+unfoldable pub step_drawn : Frame → RunSoFar → List ℕ → List ℕ → List ℕ
 step_drawn f r b lead =
     let e = step_of r.state r.points r.nodes r.rims b in
     cond r.state.ended [] (drawn (edges_of f) e.told e.state.count e.points e.nodes e.rims e.cells ++ lead)
@@ -71,6 +72,12 @@ pub record Sends (sent : ℕ) (t : List ℕ) (n : ℕ) : Type 0 where
   pub count : n ≡ sent + length t
   pub short : length t ≤ most_step
 
+-- what the text u has more than t was written
+pub record Grows (old new : Option (List ℕ)) (t u : List ℕ) : Type 0 where
+  pub part : List ℕ
+  pub whole : u ≡ t ++ part
+  pub bytes : Appends old new part
+
 -- what the first i blocks of a job reach
 pub record Reached (job : List ℕ) (i : ℕ) (s : State) (ps : List ℤ) (l : List Float) (rs : List ℕ) : Type 0 where
   pub state : s ≡ (ran (read_to job i)).state
@@ -106,12 +113,14 @@ abbrev pub Ends : List ℕ → End → Type 0
 Ends l (Drawn read sent) = (sent ≡ length (pictured (take (counted read) l))) × (counted read ≤ 262144) × IfErr read (λ failed. 0 < counted read % 512)
 Ends l (TooLong count) = 262144 < count
 
--- of a reader whose bytes are known, where no read failed, it is the picture of all of them; and a failed read came after those that were read. What is too
--- long has more than 256 rings, or a read failed after them
-abbrev pub Own : Option (List ℕ) → Option (List ℕ) → List ℕ → End → Type 0
-Own old new l (Drawn read sent) =
-    IfOk read (λ n. IfSome old (λ xs. sent ≡ length (pictured xs))) × IfErr read (λ failed. Consumes old new (take failed.done l))
-Own old new l (TooLong count) = IfSome old (λ xs. 262144 ≤ length xs)
+-- of a reader and a writer whose bytes are known: the picture of what was read was written, and that is all that the reader had, where no read failed; a failed
+-- read came after the bytes that were read. What is too long has more than 256 rings, or a read failed after them, and nothing was written
+abbrev pub Own : Option (List ℕ) → Option (List ℕ) → Option (List ℕ) → Option (List ℕ) → List ℕ → End → Type 0
+Own old new out end l (Drawn read sent) =
+    Appends out end (pictured (take (counted read) l))
+    × IfOk read (λ n. IfSome old (λ xs. xs ≡ take n l))
+    × IfErr read (λ failed. Consumes old new (take failed.done l))
+Own old new out end l (TooLong count) = IfSome old (λ xs. 262144 ≤ length xs) × Appends out end []
 
 -- and what it says of that, or of a write that failed
 unfoldable pub said : Result End WriteFailed → List ℕ

@@ -4,17 +4,20 @@
 //
 // The box of the drawing stands in front, so the whole job is read first, 256 rings at most. Then the blocks are stepped over
 // by `run::Job`. specs/Picture says what comes out as one definition, `pictured`: each text that is handed over is what it has
-// next after the bytes written so far, and a run that ends has written as many as it has. `draw_job` is the whole program, and
-// what it has read is all that the reader had, where no read failed, by `Own`; `main` only says how it ended. What is left to the operating system's calls is said in stream.
+// next after the bytes written so far, and the writer gets it. `draw_job` is the whole program: a run that ends has written
+// `pictured` of what it has read, and that is all that the reader had, where no read failed, by `Own`; `main` only says how it
+// ended. What is left to the operating system's calls is said in stream.
 
 #![tactic(auto)]
 
 ghost use Rattle.std.specs.Prelude.{◌≡◌, false, ◌++◌, ◌+◌, ◌*◌, ◌%◌, ◌≤◌, ◌<◌, length, IfOk, IfErr, OnOk};
+ghost use Rattle.std.specs.Io.KnownBytes.{Appends};
 ghost use Rattle.told.specs.Text.{tells_of, CanTell};
 ghost use Rattle.sketch.specs.Drawn.{told_drawn, lead_at, most_step};
 ghost use Rattle.frame.specs.Bounds.{extent_of, frame_of};
 ghost use Rattle.frame.specs.Head.{head_text, most_head};
-ghost use Rattle.picture.specs.Picture.{on, rings_drawn, all_drawn, pictured, most_rings, Wrote, Owed, Sends, Reached, Drew, Left, torn, counted, Ends, Own, said};
+ghost use Rattle.picture.specs.Picture.{on, drawn_to, rings_drawn, all_drawn, pictured, most_rings, Wrote, Owed, Sends, Grows, Reached, Drew, Left};
+ghost use Rattle.picture.specs.Picture.{torn, counted, Ends, Own, said};
 
 use frame::{Edges, Frame, MOST_HEAD};
 use run::Job;
@@ -69,7 +72,8 @@ fn send<W: Write>(
     sent: &mut u64,
 ) -> Result<(), WriteFailed>
     requires { Owed job.now sent.old (on page.now) × (page.now.at ≤ length page.now.out.now) × (page.now.at ≤ most_step) }
-    ensures { OnOk result (sent.new ≡ sent.old + page.now.at) }
+    ensures count { OnOk result (sent.new ≡ sent.old + page.now.at) }
+    ensures bytes { OnOk result (Appends (W.contents output.old) (W.contents output.new) (on page.now)) }
 {
     let text = &page.out[..page.at];
     stream::write_counted(output, text, sent)
@@ -88,7 +92,9 @@ fn draw_step<W: Write>(
 ) -> Result<(), WriteFailed>
     requires { Owed job.now sent.old (told_drawn f (tells_of told) points.now lists.now ++ lead_at job.now i)
         × CanTell (tells_of told) lists.now.cells.now × (512 * i ≤ length job.now) × (i < 4294967296) }
-    ensures { OnOk result (Sends sent.old (told_drawn f (tells_of told) points.now lists.now ++ lead_at job.now i) sent.new) }
+    ensures sends { OnOk result (Sends sent.old (told_drawn f (tells_of told) points.now lists.now ++ lead_at job.now i) sent.new) }
+    ensures bytes { OnOk result (Appends (W.contents output.old) (W.contents output.new)
+        (told_drawn f (tells_of told) points.now lists.now ++ lead_at job.now i)) }
 {
     let mut text = [0u8; MOST_STEP];
     let mut page = Page {
@@ -112,6 +118,8 @@ fn turn<W: Write>(
         × (f ≡ frame_of (extent_of job.now)) × (length job.now < 4294967296) }
     ensures reached { Reached job.now (run.old.state.block + 1) run.new.state run.new.ring run.new.nodes run.new.rims }
     ensures drew { OnOk result (Drew job.now (run.old.state.block + 1) sent.new) }
+    ensures bytes { OnOk result (Grows (W.contents output.old) (W.contents output.new)
+        (drawn_to (frame_of (extent_of job.now)) job.now run.old.state.block) (drawn_to (frame_of (extent_of job.now)) job.now (run.old.state.block + 1))) }
 {
     let i = run.state.block as usize;
     let told = run.step(frame::block_at(job, i));
@@ -137,7 +145,8 @@ fn draw_nodes<W: Write>(
     sent: &mut u64,
 ) -> Result<(), WriteFailed>
     requires { Left job.now used nodes.now rims.now × (sent.old ≡ length (rings_drawn job.now)) × (sent.old ≤ most_rings) }
-    ensures { OnOk result (Wrote (all_drawn job.now) sent.new) }
+    ensures wrote { OnOk result (Wrote (all_drawn job.now) sent.new) }
+    ensures bytes { OnOk result (Grows (W.contents output.old) (W.contents output.new) (rings_drawn job.now) (all_drawn job.now)) }
 {
     // Kept: it goes over the numbers of nodes, which are drawn; over the list's pairs it would enumerate them and use the number
     // alone.
@@ -156,7 +165,8 @@ fn draw_nodes<W: Write>(
 // Runs the job over an empty node list, and draws each ring when it is told, then the nodes. The head stands before them.
 fn draw<W: Write>(output: &mut W, job: &[u8], f: Frame, sent: &mut u64) -> Result<(), WriteFailed>
     requires { (length job.now < 4294967296) × (f ≡ frame_of (extent_of job.now)) × (sent.old ≡ length (head_text f)) × (sent.old ≤ most_head) }
-    ensures { OnOk result (Wrote (all_drawn job.now) sent.new) }
+    ensures wrote { OnOk result (Wrote (all_drawn job.now) sent.new) }
+    ensures bytes { OnOk result (Grows (W.contents output.old) (W.contents output.new) (head_text f) (all_drawn job.now)) }
 {
     let mut run = Job::new();
     // Kept: the state says when the run ends; the job's chunks would lack the step without bytes after the last of them.
@@ -169,7 +179,8 @@ fn draw<W: Write>(output: &mut W, job: &[u8], f: Frame, sent: &mut u64) -> Resul
 // The whole picture of a job.
 fn picture<W: Write>(output: &mut W, job: &[u8], sent: &mut u64) -> Result<(), WriteFailed>
     requires { (length job.now < 4294967296) × (sent.old ≡ 0) }
-    ensures { OnOk result (sent.new ≡ length (pictured job.now)) }
+    ensures count { OnOk result (sent.new ≡ length (pictured job.now)) }
+    ensures bytes { OnOk result (Appends (W.contents output.old) (W.contents output.new) (pictured job.now)) }
 {
     let mut text = [0u8; MOST_HEAD];
     let mut head = Page {
@@ -197,7 +208,7 @@ fn draw_job<R: Read, W: Write>(
 ) -> Result<End, WriteFailed>
     requires { length bytes.old ≡ 262145 }
     ensures ends { IfOk result (Ends bytes.new) }
-    ensures own { IfOk result (Own (R.remaining input.old) (R.remaining input.new) bytes.new) }
+    ensures own { IfOk result (Own (R.remaining input.old) (R.remaining input.new) (W.contents output.old) (W.contents output.new) bytes.new) }
 {
     let read = stream::fill(input, bytes);
     let count = count_of(read);

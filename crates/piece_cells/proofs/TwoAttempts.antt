@@ -91,7 +91,7 @@ module _ {share : Float} {l : List Float} {u : ℕ} {p : Part} (f : CanSubdivide
   try_first =
       record {
         usable = f.usable;
-        fair = f.fair;
+        valid = f.valid;
         fits = omega (arith, once, f.fits);
         room = omega (arith, once, f.room);
       }
@@ -132,7 +132,7 @@ module _ {share : Float} {l : List Float} {u : ℕ} {p : Part} (f : CanSubdivide
   ranged =
       let a = nodes-ranged f.usable in
       grown-each {P = InRange} (nodes_in l u) T1.nodes
-      (attempt-ranged share (nodes_in l u) p (mark_at p) f.fair f.fair.snap a) a
+      (attempt-ranged share (nodes_in l u) p (mark_at p) f.valid f.valid.snap a) a
 
   -- the first attempt is made: r, m and q'
   module _ (q : List ℕ) (bs : List Bool) (rs : List ℕ) {r : Tried} {m : List Float} {q' rs' : List ℕ} (t : Answers T1 (A1 bs) l u q rs r m q' rs') where
@@ -186,11 +186,11 @@ module _ {share : Float} {l : List Float} {u : ℕ} {p : Part} (f : CanSubdivide
           let w : length m ≡ length l = ap length t.1 ∙ length_over l T1.nodes (omega (arith, once, f.room)) in
           record {
             usable = over-usable l T1.nodes t.1 used-is ranged (omega (arith, once, f.fits)) (omega (arith, once, f.room));
-            fair =
+            valid =
                 record {
-                  some = f.fair.some;
-                  few = f.fair.few;
-                  corner = f.fair.corner;
+                  some = f.valid.some;
+                  few = f.valid.few;
+                  corner = f.valid.corner;
                   snap = λ i q k e. absurd (straight≢snap q (sym (plain_at (length p.points) 60 i) ∙ e));
                 };
             fits = omega (arith, z, f.fits);

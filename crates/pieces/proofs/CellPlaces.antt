@@ -74,7 +74,8 @@ module _ (q : List ℕ) (a : ℕ) (cs ds : List Cell) (h : (a + length cs) * 4 �
       let p = parted in
       let t : take ((a + length cs) * 4) (over_from q a cs) ≡ front =
       ap (take ((a + length cs) * 4)) p ∙ take_at front rest ((a + length cs) * 4) length_front in
-      let d : drop ((a + length cs) * 4) (over_from q a cs) ≡ rest = ap (drop ((a + length cs) * 4)) p ∙ drop_at front rest ((a + length cs) * 4) length_front in
+      let d : drop ((a + length cs) * 4) (over_from q a cs) ≡ rest =
+      ap (drop ((a + length cs) * 4)) p ∙ drop_at front rest ((a + length cs) * 4) length_front in
       let e : length cs * 4 + length ds * 4 ≡ length (cs ++ ds) * 4 = omega (arith, length-append cs ds) in
       let z : drop (length ds * 4) rest ≡ drop (length (cs ++ ds) * 4) (drop (a * 4) q) =
       drop-drop (length ds * 4) (length cs * 4) (drop (a * 4) q) ∙ ap (λ (k : ℕ). drop k (drop (a * 4) q)) e in

@@ -145,7 +145,7 @@ module _ {share : Float} {l : List Float} {u : ℕ} {q : List ℕ} {first reserv
     usable h =
         over-usable l s.ns s.nodes s.used
         (subst (λ (o : Outcome). EachNode InRange (nodes_of o)) s.is
-        (pieces_in_range share ps (nodes_in l u) i (λ k a. f.fair k (omega arith)) (nodes-ranged f.usable)))
+        (pieces_in_range share ps (nodes_in l u) i (λ k a. f.valid k (omega arith)) (nodes-ranged f.usable)))
         (omega (arith, listed, rise i h, f.fits)) (omega (arith, listed, rise i h, f.room))
 
     -- what was collected of the nodes at first stays true of them
@@ -186,7 +186,7 @@ module _ {share : Float} {l : List Float} {u : ℕ} {q : List ℕ} {first reserv
           let z = ap (λ (t : Attempt). length t.nodes) divided-is in
           record {
             usable = usable (omega (arith, k.count));
-            fair = subst ValidPiece (sym k.is) (f.fair i k.count);
+            valid = subst ValidPiece (sym k.is) (f.valid i k.count);
             fits = omega (arith, z, grown, f.fits);
             room = omega (arith, z, grown, f.room, long-nodes (omega (arith, k.count)));
           }
@@ -314,7 +314,8 @@ module _ {share : Float} {l : List Float} {u : ℕ} {q : List ℕ} {first reserv
               (omega (arith, both, ahead, length-replicate reserve no_cell))
 
           pub after-failure : {j : ℕ} → t.fails ≡ Some j
-              → Left l u rs q first reserve (O p.count) (asks p.count) (Err (record { corners = n; k = j; nodes = t.used })) m' ts' (put_mid (first * 4) len r' y)
+              → Left l u rs q first reserve (O p.count) (asks p.count)
+              (Err (record { corners = n; k = j; nodes = t.used })) m' ts' (put_mid (first * 4) len r' y)
           after-failure {j} g =
               let z = below-given (length S.cells) S.fails j (sym g ∙ fails-is) in
               let b : i + 1 + (p.count - (i + 1)) ≡ p.count = omega (arith, k.count) in

@@ -40,12 +40,12 @@ abbrev pub asks_in : Float → List Float → ℕ → List GridPoint → List Ed
 asks_in share l u ring es p = asks_to share (pieces_in ring es p) (labelled_in ring p) (nodes_in l u) p.count
 
 -- ---- what is asked
--- the pieces are fair, and there is room for all their nodes, and for a cell a corner in the reserve of places from `first` on
+-- the pieces are valid, and there is room for all their nodes, and for a cell a corner in the reserve of places from `first` on
 pub record CanSubdivide (share : Float) (l : List Float) (u : ℕ) (q : List ℕ) (first reserve : ℕ) (ring : List GridPoint) (es : List EdgeMark) (p : PartList) :
     Type 0 where
   pub usable : Usable l u
   pub sheet : AllOnSheet ring
-  pub fair : (i : ℕ) → i < p.count → ValidPiece (piece_in ring es p i)
+  pub valid : (i : ℕ) → i < p.count → ValidPiece (piece_in ring es p i)
   pub fits : length (nodes_of (outcome_in share l u ring es p)) ≤ most_places
   pub room : length (nodes_of (outcome_in share l u ring es p)) * 2 ≤ length l
   pub corners : corners_to (pieces_in ring es p) p.count ≤ reserve

@@ -93,8 +93,8 @@ pub fn subdivide_all(
         let start = at * 4;
         let t = piece_cells::subdivide(nodes, u, rims, &mut cells[start..], &piece, share, found);
         if let Some(k) = t.fails {
-            let window = first * 4;
-            cells[window..window + reserve * 4].fill(0);
+            let from = first * 4;
+            cells[from..from + reserve * 4].fill(0);
             return Err(FailedPiece {
                 corners: n,
                 k,

@@ -1,13 +1,12 @@
 -- Cells in the lent list, four numbers each: cells written over its first places, one after the other through the part
 -- that starts where the next one goes.
 use mathlib.Core.Path.{◌≡◌, refl, sym, ap, ◌∙◌, subst}
-use mathlib.Core.List.{List, [], ◌∷◌, ◌++◌, append_assoc, append-nil}
+use mathlib.Core.List.{List, [], ◌∷◌, ◌++◌}
 use Prim.Native.Nat.{ℕ, zero, suc, ◌+◌, ◌-◌, ◌*◌, ◌%◌, ◌≤◌, ◌<◌}
 use native.Mathlib.Nat.{mod-lt}
 use native.Mathlib.Numerals.{add-one}
 use native.Mathlib.Omega.{arith}
-use lib.ListN.{length, get_or, take, drop, length-append, length-drop, drop_of_length-le}
-use lib.Seq.{take_all, drop-drop, take_at, drop-append-add}
+use lib.ListN.{length, get_or, take, drop}
 use borrow.Rule.Slice.PartMut.{put_mid}
 use Rattle.laws.specs.Table.{tab}
 use Rattle.laws.proofs.WrittenOut as written

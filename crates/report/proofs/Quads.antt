@@ -6,14 +6,15 @@ use native.Mathlib.Omega.{arith}
 use lib.ListN.{length, get_or}
 use Rattle.std.specs.Simd.{first_chunks}
 use Rattle.text.specs.Text.{bytes, filled}
-use Rattle.text.proofs.Chunks.{chunk_at}
+use Rattle.laws.proofs.Chunks.{chunk_at}
 use Rattle.report.specs.Report as Report
 
 module _ (cs : List ℕ) (qs : List (List ℕ)) (e : qs ≡ first_chunks 4 (length cs / 4) cs) (i : ℕ) (h : i < length cs / 4) where
   number : (j a : ℕ) → j < 4 → a ≡ get_or (get_or qs i []) j 0 → a ≡ get_or cs (i * 4 + j) 0
   number j a l g = g ∙ ap (λ (x : List (List ℕ)). get_or (get_or x i []) j 0) e ∙ chunk_at 4 (length cs / 4) i j cs 0 h l
 
-  pub line-of : (a b c d : ℕ) → a ≡ get_or (get_or qs i []) 0 0 → b ≡ get_or (get_or qs i []) 1 0 → c ≡ get_or (get_or qs i []) 2 0 → d ≡ get_or (get_or qs i []) 3 0
+  pub line-of : (a b c d : ℕ) → a ≡ get_or (get_or qs i []) 0 0 → b ≡ get_or (get_or qs i []) 1 0
+      → c ≡ get_or (get_or qs i []) 2 0 → d ≡ get_or (get_or qs i []) 3 0
       → filled (bytes "quad # # # #\n") (a ∷ b ∷ c ∷ d ∷ []) ≡ Report.quad_line cs i
   unfolding Report.quad_line
   line-of a b c d p q r s =

@@ -9,14 +9,14 @@ use lib.ListN.{get_or}
 use Rattle.laws.specs.Table.{tab}
 use Rattle.laws.proofs.Table.{get_d_tab}
 use Rattle.reserve.specs.Reserve.{node_places, cell_places}
-use Rattle.reserve.specs.Sheet.{sheet, node_sheet, cell_sheet, nodes_at, cells_at_of}
+use Rattle.reserve.specs.Sheet.{sheet, node_column, cell_column, nodes_at, cells_at_of}
 
-pub node-rows : node_sheet ≡ tab (λ i. node_places 32 (3 + i)) 58
-unfolding sheet node_sheet tab
+pub node-rows : node_column ≡ tab (λ i. node_places 32 (3 + i)) 58
+unfolding sheet node_column tab
 node-rows = refl
 
-pub cell-rows : cell_sheet ≡ tab (λ i. cell_places 32 (3 + i)) 58
-unfolding sheet cell_sheet tab
+pub cell-rows : cell_column ≡ tab (λ i. cell_places 32 (3 + i)) 58
+unfolding sheet cell_column tab
 cell-rows = refl
 
 -- the row of r points in a list whose rows, from 3 points on, are f
@@ -28,4 +28,4 @@ at_row l f e r h k =
 
 pub sheet-rows : (r : ℕ) → 3 ≤ r → r ≤ 60 → (nodes_at r ≡ node_places 32 r) × (cells_at_of r ≡ cell_places 32 r)
 unfolding nodes_at cells_at_of
-sheet-rows r h k = (at_row node_sheet (node_places 32) node-rows r h k, at_row cell_sheet (cell_places 32) cell-rows r h k)
+sheet-rows r h k = (at_row node_column (node_places 32) node-rows r h k, at_row cell_column (cell_places 32) cell-rows r h k)

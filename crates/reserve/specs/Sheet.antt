@@ -13,15 +13,15 @@ sheet =
     ∷ (236, 121) ∷ (239, 122) ∷ (242, 123) ∷ (245, 124) ∷ []
 
 -- the two columns
-unfoldable pub node_sheet : List ℕ
-node_sheet = map (λ (row : ℕ × ℕ). row.0) sheet
+unfoldable pub node_column : List ℕ
+node_column = map (λ (row : ℕ × ℕ). row.0) sheet
 
-unfoldable pub cell_sheet : List ℕ
-cell_sheet = map (λ (row : ℕ × ℕ). row.1) sheet
+unfoldable pub cell_column : List ℕ
+cell_column = map (λ (row : ℕ × ℕ). row.1) sheet
 
 -- the row of a ring of r points
 unfoldable pub nodes_at : ℕ → ℕ
-nodes_at r = get_or node_sheet (r - 3) 0
+nodes_at r = get_or node_column (r - 3) 0
 
 unfoldable pub cells_at_of : ℕ → ℕ
-cells_at_of r = get_or cell_sheet (r - 3) 0
+cells_at_of r = get_or cell_column (r - 3) 0

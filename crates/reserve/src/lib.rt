@@ -73,26 +73,26 @@ const SHEET: [(u8, u8); 58] = [
 
 // The places of nodes and of cells that a ring may take.
 #[derive(Clone, Copy, PartialEq, Eq)]
-pub struct Places {
+pub struct FreePlaces {
     pub nodes: usize,
     pub cells: usize,
 }
 
 // Those of a ring of r points: by the sheet at 32 cuts, and worked out otherwise.
-pub fn places_for(cuts: usize, r: usize) -> Places
+pub fn places_for(cuts: usize, r: usize) -> FreePlaces
     requires { (3 ≤ r) × (r ≤ 60) }
     ensures nodes { result.nodes ≡ Reserve.node_places cuts r }
     ensures cells { result.cells ≡ Reserve.cell_places cuts r }
 {
     if cuts == 32 {
         let (nodes, cells) = SHEET[r - 3];
-        return Places {
+        return FreePlaces {
             nodes: usize::from(nodes),
             cells: usize::from(cells),
         };
     }
     let most = cuts.min(r - 3);
-    Places {
+    FreePlaces {
         nodes: 3 * r + 2 * most + 1,
         cells: r + 2 * most,
     }

@@ -17,7 +17,7 @@ use Rattle.split.specs.Split.{Cut, split_bad_vertices}
 use Rattle.cuts.specs.Counts.{Sound}
 use Rattle.cuts.specs.Provenance.{Side, diagonal}
 use Rattle.cells.specs.Stages.{mark_at}
-use Rattle.cells.specs.Cover.{Ends, CutLine, no_cut_line, EdgeFrom, side, across}
+use Rattle.cells.specs.Cover.{SameEnds, CutLine, no_cut_line, EdgeFrom, side, across}
 use Rattle.call.proofs.PiecesFrom.{diagonals_of, cut-from}
 use Rattle.cells.specs.Asks.{label, all_marked, is_marked, of_ring}
 use Rattle.rims.specs.Edges as Edges
@@ -102,7 +102,7 @@ module _ (L : Limits) (ring : Part) (s : Sound ring) where
       → Source ring (split_bad_vertices L ring).log p q (mark_at (piece_of L ring i) k) b
   told i k p q true e (side j h u m) =
       Edges.side j (subst (λ (r : List GridPoint). j < length r) marked-points h)
-      (subst (λ (r : List GridPoint). Ends p q (at r j) (at r (suc j))) marked-points u)
+      (subst (λ (r : List GridPoint). SameEnds p q (at r j) (at r (suc j))) marked-points u)
   told i k p q false e (side j h u m) =
       let z : true ≡ false = sym (ring-is j (subst (λ (r : List GridPoint). j < length r) marked-points h)) ∙ ap is_marked (sym m) ∙ e in
       let y : ◌≡◌ {A = ℕ} 0 1 = cc in
@@ -114,8 +114,8 @@ module _ (L : Limits) (ring : Part) (s : Sound ring) where
   told i k p q false e (across j h u m) =
       let w = cutting Plain (split_bad_vertices L (all_marked ring)).log (split_bad_vertices L ring).log twin.log j h in
       Edges.across w.c w.one
-      (subst (λ (x : GridPoint). Ends p q x (diagonal w.c).b) (sym w.a)
-      (subst (λ (x : GridPoint). Ends p q (get_or (diagonals_of (split_bad_vertices L (all_marked ring)).log) j no_cut_line).a x) (sym w.b) u))
+      (subst (λ (x : GridPoint). SameEnds p q x (diagonal w.c).b) (sym w.a)
+      (subst (λ (x : GridPoint). SameEnds p q (get_or (diagonals_of (split_bad_vertices L (all_marked ring)).log) j no_cut_line).a x) (sym w.b) u))
       (plain i k e)
 
   pub labelled : Labelled L ring

@@ -11,13 +11,13 @@ use Rattle.limits.specs.declared.Limits.{Limits}
 use Rattle.split.specs.Split.{Cut, split_bad_vertices}
 use Rattle.cuts.specs.Provenance.{diagonal}
 use Rattle.cells.specs.Stages.{mark_at}
-use Rattle.cells.specs.Cover.{Ends}
+use Rattle.cells.specs.Cover.{SameEnds}
 use Rattle.cells.specs.Asks.{all_marked, of_ring}
 
 -- the edge from p to q, marked e, by what is told of it: an edge of the ring, in one sense or the other; or the diagonal of a cut, and straight
 pub data Source (ring : Part) (log : List Cut) (p q : GridPoint) (e : EdgeMark) : Bool → Type 0 where
-  side : (j : ℕ) → j < length ring.points → Ends p q (at ring.points j) (at ring.points (suc j)) → Source ring log p q e true
-  across : (c : Cut) → Memᴰ c log → Ends p q (diagonal c).a (diagonal c).b → e ≡ Straight → Source ring log p q e false
+  side : (j : ℕ) → j < length ring.points → SameEnds p q (at ring.points j) (at ring.points (suc j)) → Source ring log p q e true
+  across : (c : Cut) → Memᴰ c log → SameEnds p q (diagonal c).a (diagonal c).b → e ≡ Straight → Source ring log p q e false
 
 -- piece i of the ring, and the same piece of the ring with each edge marked
 abbrev pub piece_of : Limits → Part → ℕ → Part

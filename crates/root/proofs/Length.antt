@@ -21,7 +21,7 @@ use Rattle.laws.proofs.Signed.{product, diff-small}
 use Rattle.laws.proofs.Units.{mm²-is}
 use Rattle.vector.specs.declared.GridPoint.{GridPoint}
 use Rattle.vector.specs.Grid as Grid
-use Rattle.vector.specs.Size.{OnSheet, Step}
+use Rattle.vector.specs.Size.{OnSheet, SheetStep}
 use Rattle.root.specs.Root.{whole_root, nearest_root, dropped, round_root, root_of}
 use Rattle.root.specs.Norm.{grid_norm, grid_dist}
 
@@ -93,7 +93,7 @@ in_square-mm-within z p h =
           (scaled_value binary64 z 26 (omega arith) (lit≤ tt)) (omega arith)),
     )
 
-pub grid_norm-within : (v : GridPoint) → Step v → Within (2 ^ 14) (grid_norm v)
+pub grid_norm-within : (v : GridPoint) → SheetStep v → Within (2 ^ 14) (grid_norm v)
 unfolding grid_norm Grid.dot
 grid_norm-within v s =
     let x = v.x in

@@ -12,7 +12,7 @@ use Rattle.laws.proofs.Integers.{size-zero}
 use Rattle.vector.specs.declared.GridPoint.{GridPoint}
 use Rattle.vector.specs.Grid as Grid
 use Rattle.vector.specs.Plane as Plane
-use Rattle.vector.specs.Size.{OnSheet, Step}
+use Rattle.vector.specs.Size.{OnSheet, SheetStep}
 use Rattle.vector.proofs.RustDoubles as exact
 use Rattle.vector.proofs.Sheet.{step}
 use Rattle.root.specs.Root.{root_of}
@@ -34,7 +34,7 @@ pub dot-is : (v : GridPoint) → Grid.dot v v ≡ pos (square_sum v)
 unfolding Grid.dot
 dot-is v = λ i. square v.x i +ℤ square v.y i
 
-pub dot-small : (v : GridPoint) → Step v → square_sum v ≤ 2 ^ 53
+pub dot-small : (v : GridPoint) → SheetStep v → square_sum v ≤ 2 ^ 53
 dot-small v s = omega (arith, mul-le-mul s.x s.x, mul-le-mul s.y s.y)
 
 pub dot-zero : (v : GridPoint) → Grid.dot v v ≡ pos 0 → v ≡ Grid.origin
@@ -49,7 +49,7 @@ at-origin : Plane.dot (Plane.in_mm Grid.origin) (Plane.in_mm Grid.origin) ≡ Un
 unfolding Plane.dot Plane.in_mm Units.mm Units.mm² Grid.dot of_int round div mul add sum
 at-origin = refl
 
-pub square_in_mm : (v : GridPoint) → Step v → Plane.dot (Plane.in_mm v) (Plane.in_mm v) ≡ Units.mm² (Grid.dot v v)
+pub square_in_mm : (v : GridPoint) → SheetStep v → Plane.dot (Plane.in_mm v) (Plane.in_mm v) ≡ Units.mm² (Grid.dot v v)
 square_in_mm v s = go (square_sum v) (dot-is v)
   where
     go : (n : ℕ) → Grid.dot v v ≡ pos n → Plane.dot (Plane.in_mm v) (Plane.in_mm v) ≡ Units.mm² (Grid.dot v v)
@@ -59,7 +59,7 @@ square_in_mm v s = go (square_sum v) (dot-is v)
     go (suc n) e = (exact.dot v v s s).same (λ z. omega (arith, ap nat_abs (sym e ∙ z)))
 
 -- ---- the claim
-pub norm_in_mm : (v : GridPoint) → Step v → grid_norm v ≡ norm (Plane.in_mm v)
+pub norm_in_mm : (v : GridPoint) → SheetStep v → grid_norm v ≡ norm (Plane.in_mm v)
 unfolding grid_norm norm
 norm_in_mm v s = ap root_of (sym (square_in_mm v s))
 

@@ -22,7 +22,7 @@ use Rattle.laws.proofs.Units.{mm²-is, mm²-fits}
 use Rattle.vector.specs.declared.GridPoint.{GridPoint}
 use Rattle.vector.specs.Grid as Grid
 use Rattle.vector.specs.Plane as Plane
-use Rattle.vector.specs.Size.{OnSheet, Step}
+use Rattle.vector.specs.Size.{OnSheet, SheetStep}
 use Rattle.vector.proofs.Same.{same→, →same, step-zero}
 use Rattle.vector.proofs.Sheet.{step}
 use Rattle.root.specs.Root.{root_of}
@@ -65,7 +65,7 @@ dot-origin = refl
 
 -- ---- the claim
 module _ (t : Float) (low : T (le naught t)) (high : T (lt t unit)) where
-  pub short-is-zero : (v : GridPoint) → Step v → (grid_norm v ≤f t) ≡ Grid.same v Grid.origin
+  pub short-is-zero : (v : GridPoint) → SheetStep v → (grid_norm v ≤f t) ≡ Grid.same v Grid.origin
   unfolding grid_norm
   short-is-zero v s = go (square_sum v) (dot-is v) (dot-small v s)
     where
@@ -83,14 +83,14 @@ module _ (t : Float) (low : T (le naught t)) (high : T (lt t unit)) where
   unfolding grid_dist
   near-is-same a b h k = short-is-zero (Grid.sub a b) (step a b h k) ∙ step-zero a b
 
-  pub rust_short-is-zero : (v : GridPoint) → Step v → (norm (Plane.in_mm v) ≤f t) ≡ Grid.same v Grid.origin
+  pub rust_short-is-zero : (v : GridPoint) → SheetStep v → (norm (Plane.in_mm v) ≤f t) ≡ Grid.same v Grid.origin
   rust_short-is-zero v s = ap (λ (d : Float). le d t) (sym (norm_in_mm v s)) ∙ short-is-zero v s
 
   pub rust_near-is-same : (a b : GridPoint) → OnSheet a → OnSheet b → (dist (Plane.in_mm a) (Plane.in_mm b) ≤f t) ≡ Grid.same a b
   rust_near-is-same a b h k = ap (λ (d : Float). le d t) (sym (dist_in_mm a b h k)) ∙ near-is-same a b h k
 
 -- a step that is not zero is one unit long or longer
-pub unit-or-more : (v : GridPoint) → Step v → Grid.same v Grid.origin ≡ false → T (le unit (grid_norm v))
+pub unit-or-more : (v : GridPoint) → SheetStep v → Grid.same v Grid.origin ≡ false → T (le unit (grid_norm v))
 unfolding grid_norm is_nan
 unit-or-more v s n = go (square_sum v) (dot-is v) (dot-small v s)
   where
@@ -115,7 +115,7 @@ unfolding lit round le lt eq
 from_9 = (tt, tt)
 
 -- as data: a zero step has the length +0, and no other step has it
-pub zero-length : (v : GridPoint) → Step v → (T (Grid.same v Grid.origin) → grid_norm v ≡ naught) × (grid_norm v ≡ naught → T (Grid.same v Grid.origin))
+pub zero-length : (v : GridPoint) → SheetStep v → (T (Grid.same v Grid.origin) → grid_norm v ≡ naught) × (grid_norm v ≡ naught → T (Grid.same v Grid.origin))
 unfolding grid_norm
 zero-length v s = (
   λ t. ap (λ (u : GridPoint). root_of (Units.mm² (Grid.dot u u))) (same→ v Grid.origin t) ∙ ap (λ (z : ℤ). root_of (Units.mm² z)) dot-origin ∙ at_zero,

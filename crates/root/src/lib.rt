@@ -8,7 +8,7 @@ ghost use Rattle.std.specs.Prelude.{◌≡◌, ◌*◌, ◌^◌, ◌≤◌, ◌<
 ghost use Rattle.std.specs.Float.{binary64};
 ghost use Rattle.std.specs.Float.Ieee.{of_bits};
 ghost use Rattle.laws.specs.Double.{◌≤f◌};
-ghost use Rattle.vector.specs.Size.{OnSheet, Step};
+ghost use Rattle.vector.specs.Size.{OnSheet, SheetStep};
 ghost use Rattle.root.specs.Root.{IsRoot, root_of, root_bits};
 ghost use Rattle.root.specs.Norm as Norm;
 
@@ -91,7 +91,7 @@ pub fn root_bits(b: u64) -> u64
 }
 
 // Over doubles. The logic has one NaN, whose bits no promise over f64 can name; `root_bits` names them.
-pub fn root(x: f64) -> f64
+fn root(x: f64) -> f64
     ensures { result ≡ root_of x }
 {
     if x > 0.0 {
@@ -109,7 +109,7 @@ pub fn root(x: f64) -> f64
 
 // The length of v, and the distance of two points, in mm.
 #[tactic(auto, unfolding(crate::specs::Norm::norm))]
-pub fn norm(v: Point) -> f64
+fn norm(v: Point) -> f64
     ensures { result ≡ Norm.norm v }
 {
     root(v.dot(v))
@@ -127,7 +127,7 @@ pub fn dist(a: Point, b: Point) -> f64
 // lengths ask, a step of the sheet, one for the square and one for the difference, and two impls of three methods.
 #[tactic(auto, using(laws::proofs::Signed::back), unfolding(crate::specs::Norm::grid_norm))]
 pub fn grid_norm(v: GridPoint) -> f64
-    requires { Step v }
+    requires { SheetStep v }
     ensures { result ≡ Norm.grid_norm v }
 {
     root(vector::in_square_mm(v.dot(v)))

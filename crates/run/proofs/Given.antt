@@ -20,13 +20,13 @@ use Rattle.told.specs.declared.Told.{Told}
 use Rattle.state.specs.declared.State.{State}
 use Rattle.job.specs.declared.Stepped.{Stepped}
 use Rattle.job.specs.Step.{step_of, Steps}
-use Rattle.job.specs.Run.{Bytes, start, no_points, no_nodes, no_rims, Course, ran, read_to, whole_run, printed}
+use Rattle.job.specs.Run.{Bytes, start, no_points, no_nodes, no_rims, RunSoFar, ran, read_to, whole_run, printed}
 use Rattle.job.proofs.Runs.{Went, outcome, not-both, read_more}
 use Rattle.job.proofs.Printed.{settles, prints}
 use Rattle.telling.specs.Reached.{Reached, Sends}
 use Rattle.run.specs.declared.Job.{Job}
 use Rattle.run.specs.Onward.{Begins, Reading}
-use Rattle.run.specs.Given.{Whole, Broken, Gives, From, Under}
+use Rattle.run.specs.Given.{Whole, Broken, Gives, From, UnderWay}
 use Rattle.run.proofs.Reaching.{begun, none_written, turned, wrote, wrote_onward, after, same_text}
 
 -- a run that has ended within l is that of any bytes that begin with l
@@ -72,18 +72,18 @@ module _ (s : State) (ps : List ℤ) (l : List Float) (rs : List ℕ) (r : Reach
       }
 
 -- before the first block
-begun_under : (old out : Option (List ℕ)) → Under old old out out start no_points no_nodes no_rims 0
+begun_under : (old out : Option (List ℕ)) → UnderWay old old out out start no_points no_nodes no_rims 0
 unfolding ran read_to begun none_written
 begun_under old out =
     record { wrote = none_written; read = record { going = λ e. Consumes-nil old; done = λ e. not-both false e refl }; text = Appends-nil out }
 
-pub begins_under : (j : Job) → Begins j → (old out : Option (List ℕ)) → Under old old out out j.state j.ring j.nodes j.rims 0
+pub begins_under : (j : Job) → Begins j → (old out : Option (List ℕ)) → UnderWay old old out out j.state j.ring j.nodes j.rims 0
 begins_under j b old out = rw (b.state, b.points, b.nodes, b.rims) (begun_under old out)
 
 -- one block on
-pub under_on : (j k : Job) (t : Told) (old now new out cur end : Option (List ℕ)) (sent m : ℕ) → Under old now out cur j.state j.ring j.nodes j.rims sent
+pub under_on : (j k : Job) (t : Told) (old now new out cur end : Option (List ℕ)) (sent m : ℕ) → UnderWay old now out cur j.state j.ring j.nodes j.rims sent
     → Reading now new j k t → Sends sent (told_text (tells_of t) k.cells) m → Appends cur end (told_text (tells_of t) k.cells)
-    → Under old new out end k.state k.ring k.nodes k.rims m
+    → UnderWay old new out end k.state k.ring k.nodes k.rims m
 unfolding turned wrote wrote_onward
 under_on j k t old now new out cur end sent m u n d a =
     let o = n.onward in
@@ -95,7 +95,7 @@ under_on j k t old now new out cur end sent m u n d a =
     record {
       wrote = wrote_onward j k t o sent u.wrote m d;
       read = from_on j.state j.ring j.nodes j.rims r o.going o.block o.bytes o.few x k.ring k.nodes k.rims k.cells o.steps old now new u.read n.read;
-      text = subst (Appends out end) (ap (λ (ys : List ℕ). (ran (read_to r.input r.blocks)).text ++ ys) told ∙ ap (λ (q : Course). q.text) (sym grown)) all;
+      text = subst (Appends out end) (ap (λ (ys : List ℕ). (ran (read_to r.input r.blocks)).text ++ ys) told ∙ ap (λ (q : RunSoFar). q.text) (sym grown)) all;
     }
 
 -- where the run has ended
@@ -105,9 +105,9 @@ whole_printed old new l w = record { bytes = w.bytes; same = same old w.same }
   where
     same : (a : Option (List ℕ)) → IfSome a (λ xs. whole_run xs ≡ whole_run l) → IfSome a (λ xs. printed xs ≡ printed l)
     same None q = tt
-    same (Some xs) q = ap (λ (c : Course). c.text) q
+    same (Some xs) q = ap (λ (c : RunSoFar). c.text) q
 
-pub gives : (s : State) (ps : List ℤ) (l : List Float) (rs : List ℕ) (old now out cur : Option (List ℕ)) (sent : ℕ) → Under old now out cur s ps l rs sent
+pub gives : (s : State) (ps : List ℤ) (l : List Float) (rs : List ℕ) (old now out cur : Option (List ℕ)) (sent : ℕ) → UnderWay old now out cur s ps l rs sent
     → s.ended ≡ true → Gives printed old now out cur sent
 gives s ps l rs old now out cur sent u e =
     let r = u.wrote.reached in

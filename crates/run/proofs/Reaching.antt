@@ -16,7 +16,7 @@ use Rattle.told.specs.Text.{tells_of, told_text}
 use Rattle.state.specs.declared.State.{State}
 use Rattle.job.specs.declared.Stepped.{Stepped}
 use Rattle.job.specs.Step.{text_of, step_of, Steps, CanStep}
-use Rattle.job.specs.Run.{Bytes, start, no_points, no_nodes, no_rims, Course, onward, ran, read_to}
+use Rattle.job.specs.Run.{Bytes, start, no_points, no_nodes, no_rims, RunSoFar, onward, ran, read_to}
 use Rattle.job.proofs.Runs.{Went, outcome, number-below, not-both, goes, ran-held, read_more, read-added, joined_bytes}
 use Rattle.job.proofs.Printed.{one_more, prints, counted, in_time}
 use Rattle.told.specs.declared.Told.{Told}
@@ -120,10 +120,10 @@ module _ (s : State) (ps : List ℤ) (l : List Float) (rs : List ℕ) (r : Reach
             record {
               input = r.input ++ b;
               blocks = suc r.blocks;
-              state = t.state ∙ ap (λ (q : Course). q.state) (sym after);
-              points = t.points ∙ ap (λ (q : Course). q.points) (sym after);
-              nodes = t.nodes ∙ ap (λ (q : Course). q.nodes) (sym after);
-              rims = t.rims ∙ ap (λ (q : Course). q.rims) (sym after);
+              state = t.state ∙ ap (λ (q : RunSoFar). q.state) (sym after);
+              points = t.points ∙ ap (λ (q : RunSoFar). q.points) (sym after);
+              nodes = t.nodes ∙ ap (λ (q : RunSoFar). q.nodes) (sym after);
+              rims = t.rims ∙ ap (λ (q : RunSoFar). q.rims) (sym after);
               bytes = joined_bytes r.input r.bytes b f;
               whole = still-whole;
             }
@@ -170,7 +170,7 @@ module _ (s : State) (ps : List ℤ) (l : List Float) (rs : List ℕ) (sent : �
           reached = turned s ps l rs g e b f h x qs m w p t;
           text =
               let k = length-append (ran (read_to g.input g.blocks)).text (text_of (step_of s ps l rs b)) in
-              omega (arith, r.text, d.count, ap length c, k, ap (λ (q : Course). length q.text) a);
+              omega (arith, r.text, d.count, ap length c, k, ap (λ (q : RunSoFar). length q.text) a);
           bound = omega (arith, r.bound, d.count, d.short);
         }
 
@@ -181,11 +181,14 @@ module _ (j k : Job) (t : Told) (n : Onward j k t) where
     falls_onward = falls j.state j.ring j.nodes j.rims r n.going n.block n.bytes k.state n.steps.state
 
     pub reached_onward : Reached k.state k.ring k.nodes k.rims
-    reached_onward = turned j.state j.ring j.nodes j.rims r n.going n.block n.bytes n.few (record { state = k.state; told = t }) k.ring k.nodes k.rims k.cells n.steps
+    reached_onward =
+        turned j.state j.ring j.nodes j.rims r n.going n.block n.bytes n.few (record { state = k.state; told = t }) k.ring k.nodes k.rims k.cells n.steps
 
   module _ (sent : ℕ) (w : Wrote j.state j.ring j.nodes j.rims sent) where
     pub owes_onward : Owed sent (told_text (tells_of t) k.cells)
-    owes_onward = owes j.state j.ring j.nodes j.rims sent w n.going n.block n.bytes n.few (record { state = k.state; told = t }) k.ring k.nodes k.rims k.cells n.steps
+    owes_onward =
+        owes j.state j.ring j.nodes j.rims sent w n.going n.block n.bytes n.few (record { state = k.state; told = t }) k.ring k.nodes k.rims k.cells n.steps
 
     unfoldable pub wrote_onward : (m : ℕ) → Sends sent (told_text (tells_of t) k.cells) m → Wrote k.state k.ring k.nodes k.rims m
-    wrote_onward = wrote j.state j.ring j.nodes j.rims sent w n.going n.block n.bytes n.few (record { state = k.state; told = t }) k.ring k.nodes k.rims k.cells n.steps
+    wrote_onward =
+        wrote j.state j.ring j.nodes j.rims sent w n.going n.block n.bytes n.few (record { state = k.state; told = t }) k.ring k.nodes k.rims k.cells n.steps

@@ -1,5 +1,5 @@
--- The bytes that a reader gave to a run, and what was written of them. What a reader or a writer over memory holds is known; of those of the operating system it is
--- not, and nothing is said of them here. Definitions only.
+-- The bytes that a reader gave to a run, and what was written of them. What a reader or a writer over memory holds is known; of those of the operating system
+-- it is not, and nothing is said of them here. Definitions only.
 use Rattle.std.specs.Prelude.{ℕ, ◌*◌, ◌≡◌, ◌⊎◌, true, false, Bool, List, ◌++◌, length, Float, ℤ, Option, IfSome}
 use Rattle.std.specs.Io.KnownBytes.{Consumes, Appends}
 use Rattle.stream.specs.Reads.{Torn}
@@ -37,7 +37,7 @@ pub record From (old now : Option (List ℕ)) (ended : Bool) (l : List ℕ) : Ty
   pub done : ended ≡ true → Whole whole_run old now l ⊎ Broken old now l
 
 -- and the text of it was written
-pub record Under (old now out cur : Option (List ℕ)) (s : State) (ps : List ℤ) (l : List Float) (rs : List ℕ) (sent : ℕ) : Type 0 where
+pub record UnderWay (old now out cur : Option (List ℕ)) (s : State) (ps : List ℤ) (l : List Float) (rs : List ℕ) (sent : ℕ) : Type 0 where
   pub wrote : Wrote s ps l rs sent
   pub read : From old now s.ended wrote.reached.input
   pub text : Appends out cur (ran (read_to wrote.reached.input wrote.reached.blocks)).text

@@ -79,7 +79,7 @@ impl Job {
             return None;
         }
         let mut bytes = [0u8; 512];
-        let got = stream::read_block(input, &mut bytes);
+        let got = stream::fill_block(input, &mut bytes);
         Some(self.step(&bytes[..got]))
     }
 }

@@ -14,7 +14,7 @@ use Rattle.std.specs.Option.{MatchOption, option_map}
 use Rattle.std.specs.List.{find}
 use Rattle.std.specs.Simd.{first_chunks}
 use Rattle.std.proofs.Math.Seq.{take-suc, take-length}
-use Rattle.text.proofs.Chunks.{chunk_at}
+use Rattle.laws.proofs.Chunks.{chunk_at}
 use Rattle.scene.specs.Scene.{followed, follows, across, quad_with, quad_of}
 
 -- the corner of a cell that was found

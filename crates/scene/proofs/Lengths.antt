@@ -10,7 +10,7 @@ use lib.Dec.{eqb}
 use lib.IntN.{ℤ}
 use lib.Ieee.{Float}
 use borrow.Author.Tests.{ne_eqb}
-use Rattle.text.specs.Text.{bytes, marks}
+use Rattle.text.specs.Text.{bytes, slots}
 use Rattle.table.specs.declared.Row.{Row}
 use Rattle.svg.specs.Place.{point_place}
 use Rattle.svg.specs.Form.{formed, takes}
@@ -31,7 +31,7 @@ module _ (rim : Bool) (a b : Spot) where
   half-cut e = rw e
 
   half_length : length (half_text rim a b) ≤ 133
-  unfolding half_text bytes marks takes
+  unfolding half_text bytes slots takes
   half_length = go rim
     where
       ns : List ℕ
@@ -42,7 +42,7 @@ module _ (rim : Bool) (a b : Spot) where
       go false = length-formed (bytes "<path class='cut' d='M@ @L@ @'/>\n") ns
 
 cell-length : (a b c d : Spot) → length (cell_text a b c d) ≤ 249
-unfolding cell_text bytes marks takes
+unfolding cell_text bytes slots takes
 cell-length a b c d = length-formed (bytes "<polygon class='cell' points='@,@ @,@ @,@ @,@'/>\n") (a.x ∷ a.y ∷ b.x ∷ b.y ∷ c.x ∷ c.y ∷ d.x ∷ d.y ∷ [])
 
 -- ---- the sign of a snapped middle
@@ -55,7 +55,7 @@ module _ (q : Quad) where
   snap-sign e = rw e
 
   snap-length : length (snap_text q) ≤ 99
-  unfolding snap_text bytes marks takes
+  unfolding snap_text bytes slots takes
   snap-length = go (snapped q)
     where
       go : (t : Bool) → length (cond t sign []) ≤ 99
@@ -80,7 +80,7 @@ quads-length l rs cs zero = omega arith
 quads-length l rs cs (suc n) = rw length-append (omega (arith, quads-length l rs cs n, quad_length (quad_of l rs cs n)))
 
 placed-length : (x y : ℕ) → length (placed x y) ≤ 54
-unfolding placed bytes marks takes
+unfolding placed bytes slots takes
 placed-length x y = length-formed (bytes "@,@ ") (x ∷ y ∷ [])
 
 points-length : (ps : List ℤ) (n : ℕ) → length (points_text ps n) ≤ 54 * n
@@ -98,7 +98,7 @@ module _ (ps : List ℤ) (count : ℕ) where
   lead_some e = rw (ne_eqb count 0 e)
 
   pub lead_length : count ≤ 60 → length (lead_text ps count) ≤ 3275
-  unfolding lead_text bytes marks takes
+  unfolding lead_text bytes slots takes
   lead_length h = go (eqb count 0)
     where
       go : (t : Bool) → length (cond t [] lead_line) ≤ 3275
@@ -123,14 +123,14 @@ module _ (rim : Bool) (p : Spot) (n : ℕ) where
       (p.x ∷ p.y ∷ n ∷ [])
 
   inside-length : length inside_dot ≤ most_node
-  unfolding bytes marks takes
+  unfolding bytes slots takes
   inside-length =
       let h = length-formed (bytes "<g class='inside' transform='matrix(.01 0 0 -.01 @ @)'><circle r='.22em'/><text x='.3em' y='-.3em'>#</text></g>\n")
       (p.x ∷ p.y ∷ n ∷ []) in
       omega (arith, h)
 
   rim-length : length rim_dot ≤ most_node
-  unfolding bytes marks takes
+  unfolding bytes slots takes
   rim-length =
       let h = length-formed (bytes "<g class='node' transform='matrix(.01 0 0 -.01 @ @)'><circle r='.22em'/><text x='.3em' y='-.3em'>#</text></g>\n")
       (p.x ∷ p.y ∷ n ∷ []) in
@@ -142,7 +142,8 @@ module _ (rim : Bool) (p : Spot) (n : ℕ) where
     where
       go : (t : Bool) → length (formed (cond t
           (bytes "<g class='node' transform='matrix(.01 0 0 -.01 @ @)'><circle r='.22em'/><text x='.3em' y='-.3em'>#</text></g>\n")
-          (bytes "<g class='inside' transform='matrix(.01 0 0 -.01 @ @)'><circle r='.22em'/><text x='.3em' y='-.3em'>#</text></g>\n")) (p.x ∷ p.y ∷ n ∷ [])) ≤ most_node
+          (bytes "<g class='inside' transform='matrix(.01 0 0 -.01 @ @)'><circle r='.22em'/><text x='.3em' y='-.3em'>#</text></g>\n")) (p.x ∷ p.y ∷ n ∷ []))
+          ≤ most_node
       go true = rim-length
       go false = inside-length
 
@@ -153,7 +154,7 @@ node-length l rs i = dot-length _ _ _
 -- ---- a ring
 module _ (n : ℕ) (ps : List ℤ) (count : ℕ) (h : count ≤ 60) where
   divided-length : (corners cuts : ℕ) (l : List Float) (rs cs : List ℕ) → length cs ≤ 496 → length (divided_text n corners cuts ps count l rs cs) ≤ most_ring
-  unfolding divided_text outline_text bytes marks takes
+  unfolding divided_text outline_text bytes slots takes
   divided-length corners cuts l rs cs k =
       let ns : List ℕ = n ∷ corners ∷ cuts ∷ [] in
       let a : length (formed (bytes "<g class='ring'><title>ring #: corners #, cuts #</title>\n<polygon class='outline' points='") ns) ≤ 165 =
@@ -164,7 +165,7 @@ module _ (n : ℕ) (ps : List ℤ) (count : ℕ) (h : count ≤ 60) where
       (omega (arith, a, b, d, points-length ps count, quads-length l rs cs (length cs / 4)))
 
   refused-length : (code corners k : ℕ) → length (refused_text n code corners k ps count) ≤ most_ring
-  unfolding refused_text bytes marks takes
+  unfolding refused_text bytes slots takes
   refused-length code corners k =
       let ns : List ℕ = n ∷ code ∷ corners ∷ k ∷ [] in
       let ms : List ℕ = halfway ps count 0 ∷ halfway ps count 1 ∷ code ∷ [] in

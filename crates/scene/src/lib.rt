@@ -5,7 +5,7 @@
 
 #![tactic(auto)]
 
-ghost use Rattle.std.specs.Prelude.{◌≡◌, ◌*◌, ◌/◌, ◌≤◌, ◌<◌, length, get_or};
+ghost use Rattle.std.specs.Prelude.{◌≡◌, ◌*◌, ◌/◌, ◌<◌, length};
 ghost use Rattle.table.specs.Answers as Answers;
 ghost use Rattle.text.specs.Page.{Room, Wrote};
 ghost use Rattle.scene.specs.Scene as Scene;
@@ -17,9 +17,6 @@ use nodes::NodeNumber;
 pub use points::Points;
 use table::{Answer, Row};
 use text::Page;
-
-// No ring's text is longer.
-pub const MOST_RING: usize = 80000;
 
 // Where a node is, as places of a picture.
 #[derive(Clone, Copy)]
@@ -224,14 +221,7 @@ fn put_outline(page: &mut Page, ring: u64, corners: u64, cuts: u64, points: &Poi
 
 // An accepted ring: its outline, its cells and their edges.
 #[tactic(auto, using(crate::proofs::Turns::in_turn), unfolding(text::specs::Text::bytes, crate::specs::Scene::divided_text))]
-pub fn put_divided(
-    page: &mut Page,
-    ring: u64,
-    corners: u64,
-    cuts: u64,
-    points: &Points,
-    lists: &Lists,
-)
+fn put_divided(page: &mut Page, ring: u64, corners: u64, cuts: u64, points: &Points, lists: &Lists)
     requires { Room page.old (Handed.divided ring corners cuts points.now lists.now) }
     ensures { Wrote page.old (Handed.divided ring corners cuts points.now lists.now) page.new }
 {
@@ -243,7 +233,7 @@ pub fn put_divided(
 // A refused ring: its outline, and its number in it.
 // Kept: its number, which is what is drawn, and may be any; 8, of a failing cell, is no `Refusal`.
 #[tactic(auto, using(crate::proofs::Turns::in_turn), unfolding(text::specs::Text::bytes, crate::specs::Scene::refused_text))]
-pub fn put_refused(page: &mut Page, ring: u64, code: u64, corners: u64, k: u64, points: &Points)
+fn put_refused(page: &mut Page, ring: u64, code: u64, corners: u64, k: u64, points: &Points)
     requires { Room page.old (Handed.refused ring code corners k points.now) }
     ensures { Wrote page.old (Handed.refused ring code corners k points.now) page.new }
 {

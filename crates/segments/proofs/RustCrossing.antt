@@ -27,7 +27,7 @@ use Rattle.vector.specs.declared.GridPoint.{GridPoint}
 use Rattle.vector.specs.declared.Point.{Point}
 use Rattle.vector.specs.Grid as Grid
 use Rattle.vector.specs.Plane as Plane
-use Rattle.vector.specs.Size.{OnSheet, Step}
+use Rattle.vector.specs.Size.{OnSheet, SheetStep}
 use Rattle.vector.proofs.RustDoubles as exact
 use Rattle.vector.proofs.Sheet.{step}
 use Rattle.segments.specs.Segments.{interior, ratio, segments_cross}
@@ -50,7 +50,7 @@ rust_crosses a b c d =
     && (lit 1 9 <f t) && (t <f nat 1 -f lit 1 9) && (lit 1 9 <f u) && (u <f nat 1 -f lit 1 9)
 
 -- ---- a cross product of steps
-cross-fits : (u v : GridPoint) → Step u → Step v → nat_abs (Grid.cross u v) ≤ 2 ^ 53
+cross-fits : (u v : GridPoint) → SheetStep u → SheetStep v → nat_abs (Grid.cross u v) ≤ 2 ^ 53
 unfolding Grid.cross
 cross-fits u v h k = le_trans (cross-small u.x v.y u.y v.x h.x k.y h.y k.x) (lit≤ tt)
 
@@ -97,9 +97,11 @@ module _ (a b c d : GridPoint) (ha : OnSheet a) (hb : OnSheet b) (hc : OnSheet c
 
     pub first_parameter_lem : Over (first_parameter (Plane.in_mm a) (Plane.in_mm b) (Plane.in_mm c) (Plane.in_mm d)) (Grid.cross (Grid.sub c a) (Grid.sub d c))
         (Grid.cross (Grid.sub b a) (Grid.sub d c))
-    first_parameter_lem = quotient _ _ _ _ (small c a d c hc ha hd hc) (small b a d c hb ha hd hc) apart (crosses c a d c hc ha hd hc) (crosses b a d c hb ha hd hc)
+    first_parameter_lem =
+        quotient _ _ _ _ (small c a d c hc ha hd hc) (small b a d c hb ha hd hc) apart (crosses c a d c hc ha hd hc) (crosses b a d c hb ha hd hc)
 
-    pub second_parameter_lem : Over (second_parameter (Plane.in_mm a) (Plane.in_mm b) (Plane.in_mm c) (Plane.in_mm d)) (Grid.cross (Grid.sub c a) (Grid.sub b a))
+    pub second_parameter_lem :
+        Over (second_parameter (Plane.in_mm a) (Plane.in_mm b) (Plane.in_mm c) (Plane.in_mm d)) (Grid.cross (Grid.sub c a) (Grid.sub b a))
         (Grid.cross (Grid.sub b a) (Grid.sub d c))
     second_parameter_lem =
         quotient _ _ _ _ (small c a b a hc ha hb ha) (small b a d c hb ha hd hc) apart (crosses c a b a hc ha hb ha) (crosses b a d c hb ha hd hc)

@@ -23,7 +23,7 @@ use Rattle.laws.proofs.Signed.{cross-small}
 use Rattle.laws.proofs.SignedTests.{eq_z→}
 use Rattle.vector.specs.declared.GridPoint.{GridPoint}
 use Rattle.vector.specs.Grid as Grid
-use Rattle.vector.specs.Size.{OnSheet, Step}
+use Rattle.vector.specs.Size.{OnSheet, SheetStep}
 use Rattle.vector.proofs.Sheet.{step}
 use Rattle.segments.specs.Segments.{interior, ratio, segments_cross}
 use Rattle.segments.specs.declared.Crossing.TheVariants as meets
@@ -62,7 +62,8 @@ module _ (n : ℕ) (z : ℤ) (e : nat_abs z ≡ suc n) (h : nat_abs z ≤ 2 ^ pr
   unfolding ratio
   whole-ratio =
       ap interior
-      (div-at binary64 (of_int binary64 z) (of_int binary64 z) (minus_sign z) (nat_abs z) 1 (minus_sign z) (nat_abs z) 1 (zero-lt-suc 0) (zero-lt-suc 0) positive
+      (div-at binary64 (of_int binary64 z) (of_int binary64 z)
+      (minus_sign z) (nat_abs z) 1 (minus_sign z) (nat_abs z) 1 (zero-lt-suc 0) (zero-lt-suc 0) positive
       (of_int_value binary64 z h)
       (of_int_value binary64 z h)
       ∙ round_same binary64 (unlike (minus_sign z) (minus_sign z)) (nat_abs z * 1) (nat_abs z * 1) 1 1 (omega (arith, positive)) (zero-lt-suc 0) (omega arith)
@@ -98,7 +99,7 @@ on_line a b p t =
     let z = Grid.cross (Grid.sub a p) (Grid.sub b p) in
     eq_z→ z (pos 0) (and_l (eq_z z (pos 0)) (le_z (Grid.dot (Grid.sub a p) (Grid.sub b p)) (pos 0)) t)
 
-cross-size : (u v : GridPoint) → Step u → Step v → nat_abs (Grid.cross u v) ≤ 2 ^ 49
+cross-size : (u v : GridPoint) → SheetStep u → SheetStep v → nat_abs (Grid.cross u v) ≤ 2 ^ 49
 unfolding Grid.cross
 cross-size u v h k = cross-small u.x v.y u.y v.x h.x k.y h.y k.x
 

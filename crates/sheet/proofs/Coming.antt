@@ -1,5 +1,5 @@
--- The loop of `sheet`: it begins with no block read (`begins_came`), a block more is what the reader gave (`came_on`), and where the run has ended, the lines of its
--- nodes are `sheeted` of the reader's own bytes (`gives`).
+-- The loop of `sheet`: it begins with no block read (`begins_came`), a block more is what the reader gave (`came_on`), and where the run has ended, the lines
+-- of its nodes are `sheeted` of the reader's own bytes (`gives`).
 use Prim.Native.Nat.{ℕ}
 use mathlib.Core.Path.{◌≡◌, refl, sym, ap, ◌∙◌, subst}
 use mathlib.Core.Bool.{true, false}
@@ -14,7 +14,7 @@ use Rattle.std.specs.Io.KnownBytes.{Appends}
 use Rattle.std.proofs.KnownBytes.{Consumes-nil}
 use Rattle.told.specs.declared.Told.{Told}
 use Rattle.state.specs.declared.State.{State}
-use Rattle.job.specs.Run.{Course, start, no_points, no_nodes, no_rims, ran, read_to, whole_run}
+use Rattle.job.specs.Run.{RunSoFar, start, no_points, no_nodes, no_rims, ran, read_to, whole_run}
 use Rattle.job.proofs.Runs.{not-both}
 use Rattle.listing.specs.Sheet.{lines}
 use Rattle.sheet_lines.specs.Sheeted.{sheeted}
@@ -39,9 +39,11 @@ unfolding turned
 came_on j k t old now new u n =
     let o = n.onward in
     record {
-      reached = turned j.state j.ring j.nodes j.rims u.reached o.going o.block o.bytes o.few (record { state = k.state; told = t }) k.ring k.nodes k.rims k.cells o.steps;
+      reached = turned j.state j.ring j.nodes j.rims u.reached o.going o.block o.bytes o.few
+          (record { state = k.state; told = t }) k.ring k.nodes k.rims k.cells o.steps;
       read =
-          from_on j.state j.ring j.nodes j.rims u.reached o.going o.block o.bytes o.few (record { state = k.state; told = t }) k.ring k.nodes k.rims k.cells o.steps
+          from_on j.state j.ring j.nodes j.rims u.reached o.going o.block o.bytes o.few
+          (record { state = k.state; told = t }) k.ring k.nodes k.rims k.cells o.steps
           old now new u.read n.read;
     }
 
@@ -51,7 +53,7 @@ whole_sheeted old new l w = record { bytes = w.bytes; same = same old w.same }
   where
     same : (a : Option (List ℕ)) → IfSome a (λ xs. whole_run xs ≡ whole_run l) → IfSome a (λ xs. sheeted xs ≡ sheeted l)
     same None q = tt
-    same (Some xs) q = ap (λ (c : Course). lines c.nodes c.state.used) q
+    same (Some xs) q = ap (λ (c : RunSoFar). lines c.nodes c.state.used) q
 
 pub gives : (s : State) (ps : List ℤ) (l : List Float) (rs : List ℕ) (old now out cur : Option (List ℕ)) (n : ℕ) → Came old now s ps l rs → s.ended ≡ true
     → n ≡ length (lines l s.used) → Appends out cur (lines l s.used) → Gives sheeted old now out cur n
@@ -65,7 +67,8 @@ gives s ps l rs old now out cur n u e c a =
     own (inr b) = inr b
 
 -- a job that is left as it was
-pub came_still : (j k : Job) (old now new : Option (List ℕ)) → Came old now j.state j.ring j.nodes j.rims → k ≡ j → new ≡ now → Came old new k.state k.ring k.nodes k.rims
+pub came_still : (j k : Job) (old now new : Option (List ℕ))
+    → Came old now j.state j.ring j.nodes j.rims → k ≡ j → new ≡ now → Came old new k.state k.ring k.nodes k.rims
 came_still j k old now new u e f =
     subst (λ (m : Option (List ℕ)). Came old m k.state k.ring k.nodes k.rims) (sym f)
     (subst (λ (x : Job). Came old now x.state x.ring x.nodes x.rims) (sym e) u)

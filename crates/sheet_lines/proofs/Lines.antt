@@ -14,7 +14,7 @@ use Rattle.std.proofs.KnownBytes.{Appends-nil, Appends-trans}
 use Rattle.text.specs.Text.{put, Written}
 use Rattle.listing.specs.Sheet.{line, lines}
 use Rattle.listing.proofs.Texts.{line-long, lines_long}
-use Rattle.job.specs.Run.{Course}
+use Rattle.job.specs.Run.{RunSoFar}
 use Rattle.job.proofs.Printed.{settles}
 use Rattle.telling.specs.Reached.{EndedWith}
 use Rattle.sheet_lines.specs.Sheeted.{sheeted, Finished}
@@ -53,8 +53,8 @@ pub sheet_of : (used : ℕ) (l : List Float) (w : EndedWith used l) → lines l 
 unfolding sheeted
 sheet_of used l w =
     let s = settles w.input w.blocks w.ended in
-    let a = w.nodes ∙ ap (λ (r : Course). r.nodes) s in
-    let b = w.count ∙ ap (λ (r : Course). r.state.used) s in
+    let a = w.nodes ∙ ap (λ (r : RunSoFar). r.nodes) s in
+    let b = w.count ∙ ap (λ (r : RunSoFar). r.state.used) s in
     λ i. lines (a i) (b i)
 
 pub finished : (used : ℕ) (l : List Float) (sent : ℕ) → EndedWith used l → sent ≡ length (lines l used) → Finished sent

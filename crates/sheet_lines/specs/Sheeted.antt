@@ -1,6 +1,6 @@
 -- Card 9, "Cutters pin a paper list beside the table", of the nodes that a job lists: the program's sheet, from the bytes that go in to those that come out;
--- what it owes, and when it has ended. Of what the operating system reads and writes no contract can speak, so the input stands for the bytes that were stepped over, and
--- what was written for its length. Definitions only.
+-- what it owes, and when it has ended. Of what the operating system reads and writes no contract can speak, so the input stands for the bytes that were stepped
+-- over, and what was written for its length. Definitions only.
 use Rattle.std.specs.Prelude.{ℕ, ◌+◌, ◌<◌, ◌≤◌, ◌≡◌, List, length, Float}
 use Rattle.nodes.specs.Nodes.{most_places}
 use Rattle.listing.specs.Sheet.{line, lines}

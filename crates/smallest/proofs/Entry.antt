@@ -1,5 +1,5 @@
--- Card 13 (`shown`): of every ring that is answered 0, the choice gets the ring's own number, one of 5 to 8; it has at least 3 points; no choice with that
--- number has fewer, nor as many and a lower number. Before it the entry's tests in order.
+-- Card 13 (`is_smallest`): of every ring that is answered 0, the choice gets the ring's own number, one of 5 to 8; it has at least 3 points; no choice with
+-- that number has fewer, nor as many and a lower number. Before it the entry's tests in order.
 use Prim.Native.Nat.{ℕ, ◌*◌, ◌-◌, ◌%◌, ◌^◌, ◌≤◌, ◌<◌}
 use native.Mathlib.Nat.{mod-eq_of_lt}
 use native.Mathlib.Omega.{arith}
@@ -34,7 +34,7 @@ use Rattle.std.specs.Prelude.{Result, Ok, Err}
 use Rattle.smallest.specs.declared.Smallest.{Smallest}
 use Rattle.smallest.specs.declared.Refusal.{Refusal as Why}
 use Rattle.smallest.specs.declared.Refusal.TheVariants.{Counts, Units, Points, Other}
-use Rattle.smallest.specs.Smallest.{number_of_refusal, tested, refused, found, smallest_of, smallest_refused, Shown}
+use Rattle.smallest.specs.Smallest.{number_of_refusal, tested, refused, found, smallest_of, smallest_refused, IsSmallest}
 
 -- the tests in order, as the code has them: `cond` by `cond` the row of what they answer
 abbrev early : Bool → Bool → Bool → Bool → Result (Unit {0}) Why
@@ -182,10 +182,10 @@ module _ (ring chain : List ℤ) (size : ℕ) (given : (smallest_refused ring ch
       let n : length c ≡ ones e * 2 = chosen-length ring e (points ring) ∙ ap (λ (k : ℕ). ones k * 2) (mod-eq_of_lt l) in
       omega (arith, h.1, n)
 
-  pub shown : Shown ring chain size (smallest_refused ring chain size)
+  pub is_smallest : IsSmallest ring chain size (smallest_refused ring chain size)
   unfolding w choice
-  shown =
-      subst (Shown ring chain size) (sym is_found)
+  is_smallest =
+      subst (IsSmallest ring chain size) (sym is_found)
       (record {
         many = shape.1;
         few = limits.0;

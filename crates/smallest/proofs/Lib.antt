@@ -1,2 +1,2 @@
--- What is claimed of the smallest ring still refused (Entry.shown).
+-- What is claimed of the smallest ring still refused (Entry.is_smallest).
 pub mod Entry

@@ -48,7 +48,7 @@ unfoldable pub smallest_refused : List ℤ → List ℤ → ℕ → Smallest
 smallest_refused ring chain size = smallest_of ring chain size (number_of ring chain size)
 
 -- what is given of a ring with 0
-pub record Shown (ring chain : List ℤ) (size : ℕ) (s : Smallest) : Type 0 where
+pub record IsSmallest (ring chain : List ℤ) (size : ℕ) (s : Smallest) : Type 0 where
   -- the ring has 3 to 12 points, and is refused with this number, one of 5 to 8
   pub many : 3 ≤ points ring
   pub few : points ring ≤ 12

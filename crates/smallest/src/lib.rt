@@ -95,7 +95,7 @@ fn tested(own: Answer, points: usize) -> Result<Fault, Refusal>
 }
 
 // The smallest ring still refused. Where the ring has one of the four faults, the choice of all its points has it too.
-pub fn search(ring: &[i32], chain: &[i32], size: u32) -> Result<Found, Refusal>
+fn search(ring: &[i32], chain: &[i32], size: u32) -> Result<Found, Refusal>
     ensures { Rule.row_of result ≡ Rule.smallest_refused ring.now chain.now size }
 {
     let own = lone_ring::answer(ring, chain, size);

@@ -7,7 +7,7 @@
 
 mod text;
 
-ghost use Rattle.std.specs.Prelude.{◌≡◌, ◌/◌, ◌≤◌, ◌<◌, length, IfOk};
+ghost use Rattle.std.specs.Prelude.{◌/◌, ◌≤◌, ◌<◌, length, IfOk};
 ghost use Rattle.vector.specs.Rings.{most_points, OnSheetRing};
 
 use blocks::Refused;

@@ -10,7 +10,7 @@ ghost use Rattle.std.specs.Prelude.{◌≡◌, List, ℕ, ◌≤◌, ◌<◌, le
 ghost use Rattle.blocks.specs.Blocks.{points};
 ghost use Rattle.job.specs.Step.{no_cells, ends, waits, taken, step_of, Steps, CanStep};
 ghost use Rattle.job.specs.Run.{Bytes};
-ghost use Rattle.told.specs.Text.{tells_of, CanShow};
+ghost use Rattle.told.specs.Text.{tells_of, Printable};
 
 use blocks::{Block, Reading};
 use job::Stepped;
@@ -21,7 +21,7 @@ use told::Told;
 // The run ends, and this is the last that it tells: a refused block, or nothing.
 #[tactic(auto, unfolding(job::specs::Step::ends))]
 fn end(s: State, told: Told) -> Stepped
-    requires { CanShow (tells_of told) no_cells }
+    requires { Printable (tells_of told) no_cells }
     ensures { (ps : List ℤ) (l : List Float) (rs : List ℕ) → Steps (ends s ps l rs (tells_of told)) result ps l rs no_cells }
 {
     Stepped {

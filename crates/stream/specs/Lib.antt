@@ -1,3 +1,2 @@
--- What reads gave, and how a number is written.
+-- What reads gave.
 pub mod Reads
-pub mod Shown

@@ -15,11 +15,8 @@
 
 ghost use Rattle.std.specs.Prelude.{◌≡◌, ◌+◌, ◌^◌, ◌≤◌, ◌<◌, max, length, take, IfOk, IfErr, OnOk, OnErr};
 ghost use Rattle.std.specs.Io.KnownBytes.{Appends, Consumes, IsAtEnd};
-ghost use Rattle.std.specs.Fmt.{decimal};
 ghost use Rattle.stream.specs.Reads.{Reads};
-ghost use Rattle.stream.specs.Shown.{sixteen};
 
-use std::io;
 use std::io::{Cursor, Error, Read, Write};
 
 // A read failed; so many bytes had come.
@@ -56,7 +53,7 @@ pub fn fill<R: Read>(input: &mut R, bytes: &mut [u8]) -> Result<usize, ReadFaile
 }
 
 // Reads a block, and answers how many bytes there are. A failed read leaves part of a block, so one byte at least.
-pub fn read_block<R: Read>(input: &mut R, bytes: &mut [u8]) -> usize
+pub fn fill_block<R: Read>(input: &mut R, bytes: &mut [u8]) -> usize
     requires { length bytes.old ≡ 512 }
     ensures whole { result ≤ 512 }
     ensures ended { result ≡ 0 → IsAtEnd (R.remaining input.new) }
@@ -125,20 +122,6 @@ pub fn write_all<W: Write>(output: &mut W, text: &[u8]) -> Result<(), WriteFaile
 {
     let mut sent: u64 = 0;
     write_counted(output, text, &mut sent)
-}
-
-// Writes a number in decimal digits.
-pub fn print_decimal<W: Write>(output: &mut W, n: u64) -> io::Result<()>
-    ensures { OnOk result (Appends (W.contents output.old) (W.contents output.new) (decimal n)) }
-{
-    write!(output, "{n}")
-}
-
-// Writes a number in sixteen hexadecimal digits.
-pub fn print_hex<W: Write>(output: &mut W, n: u64) -> io::Result<()>
-    ensures { OnOk result (Appends (W.contents output.old) (W.contents output.new) (sixteen n)) }
-{
-    write!(output, "{n:016x}")
 }
 
 // How much of an error's text stands before its number in brackets.

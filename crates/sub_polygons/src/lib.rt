@@ -109,7 +109,8 @@ fn make_sub_polygon(
 // The part of the corners from corner v to the place k after it.
 pub fn first_part(part: &RingPart<'_>, v: usize, k: usize) -> SubPolygon
     requires { (v < length part.now.corners.now) × (2 ≤ k) × (k + 2 ≤ length part.now.corners.now) }
-    ensures { ((es : List EdgeMark) → length es ≡ most_points → part_of part.now.ring.now es result.corners (k + 1) ≡ Cut.first_part (part_with part.now es) v k)
+    ensures { ((es : List EdgeMark) → length es ≡ most_points
+        → part_of part.now.ring.now es result.corners (k + 1) ≡ Cut.first_part (part_with part.now es) v k)
         × (result.turned ≡ Cut.turned_area (Cut.first_points (Cut.rotate v (corner_points part.now)) k))
         × (result.turned ≤ 2 ^ 53) × (result.count ≡ k + 1)
         × (drop (k + 1) result.corners ≡ replicate (most_points - (k + 1)) blank) }
@@ -120,7 +121,8 @@ pub fn first_part(part: &RingPart<'_>, v: usize, k: usize) -> SubPolygon
 // The part from there on, back to corner v.
 pub fn second_part(part: &RingPart<'_>, v: usize, k: usize) -> SubPolygon
     requires { (v < length part.now.corners.now) × (2 ≤ k) × (k + 2 ≤ length part.now.corners.now) }
-    ensures { ((es : List EdgeMark) → length es ≡ most_points → part_of part.now.ring.now es result.corners (length part.now.corners.now - k + 1) ≡ Cut.second_part (part_with part.now es) v k)
+    ensures { ((es : List EdgeMark) → length es ≡ most_points
+        → part_of part.now.ring.now es result.corners (length part.now.corners.now - k + 1) ≡ Cut.second_part (part_with part.now es) v k)
         × (result.turned ≡ Cut.turned_area (Cut.second_points (Cut.rotate v (corner_points part.now)) k))
         × (result.turned ≤ 2 ^ 53) × (result.count ≡ length part.now.corners.now - k + 1)
         × (drop (length part.now.corners.now - k + 1) result.corners ≡ replicate (most_points - (length part.now.corners.now - k + 1)) blank) }

@@ -1,21 +1,21 @@
--- How a collection goes on (`Gathered`): past a place that is not in the window, or past several; over the next place that is;
--- and when it is full. What is held of all that are in the window is then what the search asks for.
+-- How a collection goes on (`Gathered`): past a place that is not in the box, or past several; over the next place that is;
+-- and when it is full. What is collected of them is then what the search asks for.
 use mathlib.Core.Path.{◌≡◌, refl, sym, ap, ◌∙◌, subst}
 use mathlib.Core.List.{List, [], ◌∷◌, ◌++◌, map-append, append_assoc}
 use Prim.Native.Nat.{ℕ, suc, ◌+◌, ◌-◌, ◌*◌, ◌≤◌, ◌<◌}
 use native.Mathlib.Nat.{le_refl, min-le_left}
 use native.Mathlib.Numerals.{add-one}
 use native.Mathlib.Omega.{arith}
-use mathlib.Core.Bool.{Bool, true, false, not}
+use mathlib.Core.Bool.{Bool, true, false}
 use borrow.Author.Tests.{le-leb, lt-leb, leb-false}
 use lib.Dec.{leb}
 use lib.ListN.{length, get_or, take, drop, set, length-append, length-take, length-drop, length-map}
-use lib.Seq.{get_or-take, get_or-drop, take_all, take_at, take-append-le, drop-cons, set_at}
+use lib.Seq.{take_all, take_at, take-append-le, drop-cons, set_at}
 use lib.Ieee.{Float, nan}
 use Rattle.nodes.specs.Flat.{node_in_of}
-use Rattle.nodes.specs.declared.nearby.Window.{Window}
+use Rattle.nodes.specs.declared.nearby.RingBox.{RingBox}
 use Rattle.nodes.specs.declared.nearby.Nearby.{Nearby}
-use Rattle.nodes.specs.Nearby.{most_nearby, chosen, Framed, in_window, inside_at, inside, xs_of, CollectedOf, ValidNearby}
+use Rattle.nodes.specs.Nearby.{most_nearby, chosen, Framed, in_box, inside_at, inside, xs_of, CollectedOf, ValidNearby}
 use Rattle.nodes.proofs.Chosen.{beyond, pass, hit, skip}
 use Rattle.survey.specs.Survey.{counted, laid, nearby, Gathered}
 
@@ -25,7 +25,7 @@ pub carried : (P : List ℕ → List Float → ℕ → Type 0) (numbers numbers'
 carried P numbers numbers' xs xs' k k' d e f p =
     subst (λ (z : List ℕ). P z xs' k') (sym d) (subst (λ (z : List Float). P numbers z k') (sym e) (subst (λ (z : ℕ). P numbers xs z) (sym f) p))
 
--- ---- how many are held
+-- ---- how many are collected
 low : (n : ℕ) → n ≤ most_nearby → counted n ≡ n
 unfolding counted
 low n h = rw (le-leb n most_nearby h)
@@ -91,7 +91,7 @@ module _ {ℓ} {A : Type ℓ} where
   laid-take u l h = ap (take (length u)) (laid-short u l h) ∙ take_at u (drop (length u) l) (length u) refl
 
 -- ---- one collection, over the lists a and b
-module _ (l : List Float) (w : Window) (a : List ℕ) (b : List Float) where
+module _ (l : List Float) (w : RingBox) (a : List ℕ) (b : List Float) where
   abbrev U : ℕ → List ℕ
   U n = inside w l n
 
@@ -113,7 +113,7 @@ module _ (l : List Float) (w : Window) (a : List ℕ) (b : List Float) where
         are_x = g.are_x ∙ ap (λ (u : List ℕ). laid (xs_of l u) b) (sym e);
       }
 
-  -- places that are not in the window
+  -- places that are not in the box
   pub past : (i k : ℕ) (numbers : List ℕ) (xs : List Float) → inside_at w l i ≡ false → G i numbers xs k → G (i + 1) numbers xs k
   past i k numbers xs h g = same i (i + 1) k numbers xs (pass (inside_at w l) i h) g
 
@@ -142,7 +142,7 @@ module _ (l : List Float) (w : Window) (a : List ℕ) (b : List Float) where
               ∙ ap (λ (u : List Float). laid u b) (sym e);
         }
 
-  -- more than are held: all that comes after changes nothing
+  -- more than the lists take: all that comes after changes nothing
   more : (m n r : ℕ) (numbers : List ℕ) (xs : List Float) → m ≤ n → most_nearby ≤ length (U m) → r ≡ counted (length (U n)) → numbers ≡ laid (U m) a
       → xs ≡ laid (xs_of l (U m)) b → G n numbers xs r
   more m n r numbers xs h k c e f =
@@ -167,7 +167,7 @@ module _ (l : List Float) (w : Window) (a : List ℕ) (b : List Float) where
       let c : counted (length (U m)) ≡ counted (length (U n)) = over_full (length (U m)) o ∙ sym (over_full (length (U n)) (omega (arith, o, up m n h))) in
       more m n r numbers xs h (omega (arith, o)) (g.count ∙ c) g.are g.are_x
 
-  -- one in the window, where the places are all taken
+  -- one in the box, where the places are all taken
   pub full : (i n k r : ℕ) (numbers : List ℕ) (xs : List Float) → inside_at w l i ≡ true → i < n → most_nearby ≤ k → k ≤ most_nearby → r ≡ suc most_nearby
       → G i numbers xs k → G n numbers xs r
   full i n k r numbers xs t h p q e g =
@@ -200,16 +200,15 @@ module _ (l : List Float) (w : Window) (a : List ℕ) (b : List Float) where
             (record { count = refl; are = c; are_x = d });
       })
 
--- ---- the 8 nodes before place n, of which none is in the window
-pub none-seen : (l : List Float) (w : Window) (m n : ℕ) (x : List Float) → n ≤ m + 8 → 8 ≤ n → x ≡ take 16 (drop ((n - 8) * 2) l)
-    → ((j : ℕ) → j < 8 → in_window w (get_or x (j * 2) nan) (get_or x (j * 2 + 1) nan) ≡ false) → (i : ℕ) → m ≤ i → i < n → inside_at w l i ≡ false
+-- ---- the 8 nodes from place m on, with numbers x, of which none is in the box
+pub none-seen : (l : List Float) (w : RingBox) (m : ℕ) (x : List Float) → ((j : ℕ) → j < 16 → get_or x j nan ≡ get_or l (m * 2 + j) nan)
+    → ((j : ℕ) → j < 8 → in_box w (get_or x (j * 2) nan) (get_or x (j * 2 + 1) nan) ≡ false)
+    → (i : ℕ) → m ≤ i → i < m + 8 → inside_at w l i ≡ false
 unfolding inside_at
-none-seen l w m n x g k e f i p q =
-    let j = i - (n - 8) in
+none-seen l w m x e f i p q =
+    let j = i - m in
     let b : j < 8 = omega arith in
-    sym (λ t. in_window w (at (j * 2) (i * 2) (omega arith) (omega arith) t) (at (j * 2 + 1) (i * 2 + 1) (omega arith) (omega arith) t)) ∙ f j b
+    sym (λ t. in_box w (at (j * 2) (i * 2) (omega arith) (omega arith) t) (at (j * 2 + 1) (i * 2 + 1) (omega arith) (omega arith) t)) ∙ f j b
   where
-    at : (h d : ℕ) → h < 16 → (n - 8) * 2 + h ≡ d → get_or x h nan ≡ get_or l d nan
-    at h d b z =
-        ap (λ (y : List Float). get_or y h nan) e ∙ get_or-take 16 (drop ((n - 8) * 2) l) h nan b ∙ get_or-drop ((n - 8) * 2) l h nan
-        ∙ ap (λ (k : ℕ). get_or l k nan) z
+    at : (h d : ℕ) → h < 16 → m * 2 + h ≡ d → get_or x h nan ≡ get_or l d nan
+    at h d b z = e h b ∙ ap (λ (k : ℕ). get_or l k nan) z

@@ -1,4 +1,4 @@
 -- How a collection goes on, and what a block of it says.
-pub mod Tested
+pub mod Reached
 pub mod Gathering
-pub mod Lanes
+pub mod Tested

@@ -1,45 +1,38 @@
--- Whether one of the numbers so far is not held, as a pass by blocks finds it out.
-use Prim.Native.Nat.{ℕ, ◌+◌, ◌-◌, ◌*◌, ◌≤◌}
+-- Whether one of the numbers so far is not on the sheet, as a pass by blocks finds it out.
+use Prim.Native.Nat.{ℕ, ◌+◌, ◌*◌, ◌≤◌}
 use native.Mathlib.Omega.{arith}
-use mathlib.Core.Path.{◌≡◌, refl, sym, ap, ◌∙◌}
-use mathlib.Core.Bool.{Bool, true, false, not, ◌||◌, true≢false}
-use mathlib.Core.List.{List}
+use mathlib.Core.Path.{◌≡◌, sym, ap, ◌∙◌}
+use mathlib.Core.Bool.{Bool, false, not, ◌||◌}
+use mathlib.Core.List.{List, ◌++◌}
 use lib.ListN.{length, take, drop}
+use lib.Seq.{take-add}
 use lib.Ieee.{Float, nan}
-use Rattle.std.specs.List.{fold}
-use Rattle.laws.specs.Bounded.{any}
-use Rattle.laws.proofs.Search.{any_at, any-fails}
-use Rattle.nodes.specs.Flat.{held, all_held}
-use Rattle.nodes.proofs.Ranged.{out, go_on, any_fold, any_within}
+use Rattle.std.specs.List.{fold, list_any}
+use Rattle.std.proofs.lemmas.List.{take-append-drop}
+use Rattle.std.proofs.lemmas.List.Folds.{list_any-append}
+use Rattle.nodes.specs.Flat.{on_sheet, all_on_sheet}
+use Rattle.nodes.proofs.Ranged.{listed, any_fold, front_on_sheet}
 
--- the d numbers before place t go after those before place i
-joined : (l : List Float) (d i t : ℕ) → d ≤ t → t ≤ i + d → i ≤ t → (b c : Bool) → b ≡ any (out l) i → c ≡ any (λ j. out l (t - d + j)) d
-    → (b || c) ≡ any (out l) t
-joined l d i t h k m b c e f = go b c e f (any (out l) t) refl
-  where
-    go : (b c : Bool) → b ≡ any (out l) i → c ≡ any (λ j. out l (t - d + j)) d → (v : Bool) → any (out l) t ≡ v → (b || c) ≡ any (out l) t
-    go false false e f v z = sym (go_on l d i t h k (sym e) (sym f))
-    go true c e f true z = sym z
-    go false true e f true z = sym z
-    go true c e f false z = absurd (true≢false (e ∙ any-fails (out l) i (λ j q. any_at (out l) t z j (omega arith))))
-    go false true e f false z =
-        absurd (true≢false (f ∙ any-fails (λ j. out l (t - d + j)) d (λ j q. any_at (out l) t z (t - d + j) (omega arith))))
+abbrev pub off_sheet : Float → Bool
+off_sheet x = not (on_sheet x)
 
--- the same of nodes, two numbers each: the 8 before place t after those before place i
-pub block : (l : List Float) (i t : ℕ) → 8 ≤ t → t ≤ i + 8 → i ≤ t → (b c : Bool) → b ≡ any (out l) (i * 2)
-    → c ≡ any (λ j. out l ((t - 8) * 2 + j)) 16 → (b || c) ≡ any (out l) (t * 2)
-block l i t h k m b c e f =
-    let a : (t - 8) * 2 ≡ t * 2 - 16 = omega arith in
-    joined l 16 (i * 2) (t * 2) (omega arith) (omega arith) (omega arith) b c e (f ∙ ap (λ (n : ℕ). any (λ j. out l (n + j)) 16) a)
+-- one list after another
+joined : (l m : List Float) (b c : Bool) → b ≡ list_any off_sheet l → c ≡ fold (λ b x. b || off_sheet x) false m → (b || c) ≡ list_any off_sheet (l ++ m)
+joined l m b c e f = (λ j. e j || (f ∙ listed off_sheet m false) j) ∙ sym (list_any-append off_sheet l m)
 
--- the 8 before place t, as a pass finds it out
-pub judged : (l : List Float) (t : ℕ) → 8 ≤ t → t * 2 ≤ length l
-    → fold (λ b x. b || not (held x)) false (take 16 (drop ((t - 8) * 2) l)) ≡ any (λ j. out l ((t - 8) * 2 + j)) 16
-judged l t h k =
-    any_fold (λ x. not (held x)) nan (take 16 (drop ((t - 8) * 2) l)) false
-    ∙ any_within (λ x. not (held x)) nan l ((t - 8) * 2) 16 (omega (arith, h, k))
+-- a block after those before it
+pub block : (l : List Float) (i : ℕ) (b c : Bool)
+    → b ≡ list_any off_sheet (take (i * 16) l) → c ≡ fold (λ b x. b || off_sheet x) false (take 16 (drop (i * 16) l))
+    → (b || c) ≡ list_any off_sheet (take ((i + 1) * 16) l)
+block l i b c e f =
+    let z : i * 16 + 16 ≡ (i + 1) * 16 = omega arith in
+    joined (take (i * 16) l) (take 16 (drop (i * 16) l)) b c e f ∙ ap (list_any off_sheet) (sym (take-add (i * 16) 16 l) ∙ ap (λ (k : ℕ). take k l) z)
 
--- so all are held
-pub told : (l : List Float) (n : ℕ) (b : Bool) → b ≡ any (out l) n → not b ≡ all_held l n
-unfolding all_held
-told l n b e = ap not e
+-- and the rest: all are on the sheet
+pub told : (l : List Float) (k n : ℕ) (b c : Bool) → k ≤ length l → b ≡ list_any off_sheet (take n (take k l))
+    → c ≡ fold (λ b x. b || off_sheet x) false (drop n (take k l)) → not (b || c) ≡ all_on_sheet l k
+unfolding all_on_sheet
+told l k n b c h e f =
+    ap not (joined (take n (take k l)) (drop n (take k l)) b c e f ∙ ap (list_any off_sheet) (take-append-drop n (take k l))
+    ∙ sym (listed off_sheet (take k l) false) ∙ any_fold off_sheet nan (take k l) false)
+    ∙ front_on_sheet l k h

@@ -141,7 +141,8 @@ module _ (n : ℕ) (ks : List ℕ) (h : Rising n ks) (j : ℕ) (l : j < length k
       go true e = sym (eq-eqb (get_or ks m 0) (suc q % n) (after (subst T (sym e) tt)))
       go false e =
           sym (ne_eqb (get_or ks m 0) (suc q % n)
-          (λ d. subst T e (and_i (is_in q ks) (is_in (suc q % n) ks) (is_in_lem q j ks l refl) (is_in_lem (suc q % n) m ks (mod-lt (suc j) (omega (arith, l))) d))))
+          (λ d. subst T e
+          (and_i (is_in q ks) (is_in (suc q % n) ks) (is_in_lem q j ks l refl) (is_in_lem (suc q % n) m ks (mod-lt (suc j) (omega (arith, l))) d))))
 
 -- ---- the edge
 module _ (size : ℕ) (r : List GridPoint) (j : ℕ) (l : j < length (kept_places size r)) where

@@ -1,4 +1,4 @@
--- What each byte of a form stands for, case by case, and how long a form is: 25 more for each mark than the mark itself, whatever the numbers.
+-- What each byte of a form stands for, case by case, and how long a form is: 25 more for each slot than the slot itself, whatever the numbers.
 use Prim.Native.Nat.{ℕ, suc, ◌+◌, ◌-◌, ◌*◌, ◌/◌, ◌%◌, ◌≤◌, ◌<◌}
 use mathlib.Core.Path.{◌≡◌, sym, ap, ◌∙◌}
 use mathlib.Core.Bool.{Bool, true, false, ◌||◌, cond}
@@ -8,13 +8,13 @@ use native.Mathlib.Decide.{dec_le}
 use lib.ListN.{length, get_or}
 use lib.Dec.{ltb, eqb}
 use borrow.Author.Tests.{eq-eqb, ne_eqb, lt-ltb, le-ltb}
-use Rattle.text.specs.Text.{decimal, marks}
+use Rattle.text.specs.Text.{decimal, slots}
 use Rattle.text.proofs.Decimal.{at-most_20}
 use Rattle.text.proofs.Forms.{length_by}
 use Rattle.decimals.specs.Shown.{decimals}
 use Rattle.decimals.proofs.Texts.{decimals-most}
 use Rattle.svg.specs.Place.{origin}
-use Rattle.svg.specs.Form.{exact, plain, part, takes, formed}
+use Rattle.svg.specs.Form.{exact, plain, stands_for, takes, formed}
 
 -- ---- by cases
 pub exact_below : (n : ℕ) → n < origin → exact n ≡ decimals true (origin - n)
@@ -53,23 +53,23 @@ module _ (n m : ℕ) (e : m ≡ (n - origin) + (origin - n)) where
   plain-high k h = ap (λ (x : ℕ). decimal (x / 10000)) (omega (arith, e, h)) ∙ sym (plain-above n k h)
 
 module _ (b n : ℕ) where
-  pub part-number : b ≡ 35 → part b n ≡ decimal n
-  unfolding part
-  part-number h = rw (eq-eqb b 35 h)
+  pub stands_for-number : b ≡ 35 → stands_for b n ≡ decimal n
+  unfolding stands_for
+  stands_for-number h = rw (eq-eqb b 35 h)
 
   module _ (h : b ≡ 35 → ⊥) where
-    pub part-exact : b ≡ 64 → part b n ≡ exact n
-    unfolding part
-    part-exact k = rw (ne_eqb b 35 h, eq-eqb b 64 k)
+    pub stands_for-exact : b ≡ 64 → stands_for b n ≡ exact n
+    unfolding stands_for
+    stands_for-exact k = rw (ne_eqb b 35 h, eq-eqb b 64 k)
 
     module _ (k : b ≡ 64 → ⊥) where
-      pub part-plain : b ≡ 126 → part b n ≡ plain n
-      unfolding part
-      part-plain d = rw (ne_eqb b 35 h, ne_eqb b 64 k, eq-eqb b 126 d)
+      pub stands_for-plain : b ≡ 126 → stands_for b n ≡ plain n
+      unfolding stands_for
+      stands_for-plain d = rw (ne_eqb b 35 h, ne_eqb b 64 k, eq-eqb b 126 d)
 
-      pub part-byte : (b ≡ 126 → ⊥) → part b n ≡ b ∷ []
-      unfolding part
-      part-byte d = rw (ne_eqb b 35 h, ne_eqb b 64 k, ne_eqb b 126 d)
+      pub stands_for-byte : (b ≡ 126 → ⊥) → stands_for b n ≡ b ∷ []
+      unfolding stands_for
+      stands_for-byte d = rw (ne_eqb b 35 h, ne_eqb b 64 k, ne_eqb b 126 d)
 
 -- ---- how long
 exact-most : (n : ℕ) → length (exact n) ≤ 26
@@ -90,9 +90,9 @@ plain-most n = go (eqb (n % 10000) 0) (ltb n origin)
     go false true = exact-most n
     go false false = exact-most n
 
-part-most : (b n : ℕ) → length (part b n) ≤ 1 + 25 * takes b
-unfolding part takes
-part-most b n = go (eqb b 35) (eqb b 64) (eqb b 126)
+stands_for-most : (b n : ℕ) → length (stands_for b n) ≤ 1 + 25 * takes b
+unfolding stands_for takes
+stands_for-most b n = go (eqb b 35) (eqb b 64) (eqb b 126)
   where
     go : (p q r : Bool) → length (cond p (decimal n) (cond q (exact n) (cond r (plain n) (b ∷ [])))) ≤ 1 + 25 * cond (p || q || r) 1 0
     go true q r = go₁ q r
@@ -103,5 +103,5 @@ part-most b n = go (eqb b 35) (eqb b 64) (eqb b 126)
     go false false true = omega (arith, plain-most n)
     go false false false = omega arith
 
-pub length-formed : (f ns : List ℕ) → length (formed f ns) ≤ length f + 25 * marks takes f (length f)
-length-formed f ns = length_by part takes f ns 25 (λ b k. part-most b (get_or ns k 0))
+pub length-formed : (f ns : List ℕ) → length (formed f ns) ≤ length f + 25 * slots takes f (length f)
+length-formed f ns = length_by stands_for takes f ns 25 (λ b k. stands_for-most b (get_or ns k 0))

@@ -9,9 +9,9 @@ use lib.Dec.{T, ltb}
 use lib.ListN.{length, get_or, get_or-eq_default}
 use lib.Ieee.{Float, nan, le}
 use borrow.Author.Tests.{ltb-true}
-use Rattle.nodes.proofs.Ranged.{held-is, held-within}
+use Rattle.nodes.proofs.Ranged.{on_sheet-is, on_sheet-within}
 use Rattle.laws.specs.Within.{Within}
-use Rattle.nodes.specs.Flat.{held}
+use Rattle.nodes.specs.Flat.{on_sheet}
 use Rattle.decimals.specs.Rounded.{ten_thousandths, negative, minus}
 use Rattle.decimals.specs.Shown.{decimals, shown}
 use Rattle.svg.specs.Place.{origin, place_of, rounded}
@@ -21,24 +21,24 @@ use Rattle.decimals.proofs.Value.{shown-le}
 use Rattle.decimals.proofs.Rounding.{half_le}
 
 -- ---- a listed coordinate
-pub within : (x : Float) → held x ≡ true → Within 1024 x
-within x e = held-within x (subst T (sym e) tt)
+pub within : (x : Float) → on_sheet x ≡ true → Within 1024 x
+within x e = on_sheet-within x (subst T (sym e) tt)
 
-pub out-place : (x : Float) → held x ≡ false → origin ≡ place_of x
+pub out-place : (x : Float) → on_sheet x ≡ false → origin ≡ place_of x
 unfolding place_of
 out-place x e = rw e
 
-pub low-place : (x : Float) → held x ≡ true → minus x ≡ true → origin - ten_thousandths x ≡ place_of x
+pub low-place : (x : Float) → on_sheet x ≡ true → minus x ≡ true → origin - ten_thousandths x ≡ place_of x
 unfolding place_of
 low-place x e m = rw (e, m)
 
-pub high-place : (x : Float) → held x ≡ true → minus x ≡ false → origin + ten_thousandths x ≡ place_of x
+pub high-place : (x : Float) → on_sheet x ≡ true → minus x ≡ false → origin + ten_thousandths x ≡ place_of x
 unfolding place_of
 high-place x e m = rw (e, m)
 
-nan_out : held nan ≡ false
+nan_out : on_sheet nan ≡ false
 unfolding le
-nan_out = sym (held-is nan)
+nan_out = sym (on_sheet-is nan)
 
 no_place : origin ≡ place_of nan
 unfolding place_of
@@ -62,7 +62,7 @@ some : (x : Float) → minus x ≡ true → 0 < ten_thousandths x
 unfolding minus
 some x d = ltb-true 0 (ten_thousandths x) (and_right (negative x) (ltb 0 (ten_thousandths x)) d)
 
-pub sheet-decimals : (x : Float) → held x ≡ true → exact (place_of x) ≡ shown x
+pub sheet-decimals : (x : Float) → on_sheet x ≡ true → exact (place_of x) ≡ shown x
 unfolding shown
 sheet-decimals x e = go (minus x) refl
   where

@@ -1,4 +1,4 @@
--- The marks of a picture's forms: a form is a text in which each mark stands for the next number of a list. Definitions only.
+-- The slots of a picture's forms: a form is a text in which each slot stands for the next number of a list. Definitions only.
 use Rattle.std.specs.Prelude.{ℕ, ◌-◌, ◌/◌, ◌%◌, true, false, ◌||◌, cond, List, [], ◌∷◌, ltb, eqb}
 use Rattle.text.specs.Text.{decimal, filled_by}
 use Rattle.decimals.specs.Shown.{decimals}
@@ -15,8 +15,8 @@ plain n =
     (exact n)
 
 -- what byte b of a form stands for, n the next number
-unfoldable pub part : ℕ → ℕ → List ℕ
-part b n = cond (eqb b 35) (decimal n) (cond (eqb b 64) (exact n) (cond (eqb b 126) (plain n) (b ∷ [])))
+unfoldable pub stands_for : ℕ → ℕ → List ℕ
+stands_for b n = cond (eqb b 35) (decimal n) (cond (eqb b 64) (exact n) (cond (eqb b 126) (plain n) (b ∷ [])))
 
 -- how many numbers it takes
 unfoldable pub takes : ℕ → ℕ
@@ -24,4 +24,4 @@ takes b = cond (eqb b 35 || eqb b 64 || eqb b 126) 1 0
 
 -- the form f with the numbers ns put in
 abbrev pub formed : List ℕ → List ℕ → List ℕ
-formed f ns = filled_by part takes f ns
+formed f ns = filled_by stands_for takes f ns

@@ -14,16 +14,16 @@ ghost use Rattle.svg.specs.Form as Form;
 
 use decimals::Decimal;
 use std::slice::Iter;
-use text::{Marks, Page};
+use text::{Page, Slots};
 
 // The place of 0 mm.
 pub const ORIGIN: u64 = 20000000;
 
 // The place of a coordinate that a node has.
-pub fn place_of(x: f64) -> u64
+fn place_of(x: f64) -> u64
     ensures { result ≡ Place.place_of x }
 {
-    if !nodes::is_held(x) {
+    if !nodes::is_on_sheet(x) {
         return ORIGIN;
     }
     let d = Decimal::of(x);
@@ -92,11 +92,11 @@ fn put_plain(page: &mut Page, n: u64)
     page.decimal(n.abs_diff(ORIGIN) / 10000);
 }
 
-// The marks of a picture's forms.
-struct PlaceMarks;
+// The slots of a picture's forms.
+struct PlaceSlots;
 
-impl Marks for PlaceMarks {
-    ghost stands = { Form.part };
+impl Slots for PlaceSlots {
+    ghost stands = { Form.stands_for };
 
     ghost takes = { Form.takes };
 
@@ -111,10 +111,10 @@ impl Marks for PlaceMarks {
     }
 }
 
-// The form with the numbers in place of its marks, in order.
+// The form with the numbers in its slots, in order.
 pub fn put_form(page: &mut Page, form: &[u8], numbers: &[u64])
     requires { Room page.old (Form.formed form.now numbers.now) }
     ensures { Wrote page.old (Form.formed form.now numbers.now) page.new }
 {
-    page.form::<PlaceMarks>(form, numbers);
+    page.form::<PlaceSlots>(form, numbers);
 }

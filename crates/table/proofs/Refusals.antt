@@ -1,7 +1,7 @@
 -- The laws of `first_of`, by which every list of tests is taken apart. `first`: either a test of the list holds, and the
 -- result is its number; or none does, and the result is 0. `all_pass`: where each number of the list is a refusal's,
 -- the result is 0 only if none holds. `away`: then a result that is not 0 is a refusal's number. And the order of all
--- entries, by its numbers (`order`) and by the names of its tests (`clear`).
+-- entries, by its numbers (`order`) and by the names of its tests (`passes_all`).
 use Prim.Native.Nat.{ℕ}
 use mathlib.Core.Path.{◌≡◌, refl, sym, ap, ◌∙◌, subst}
 use mathlib.Core.Bool.{Bool, true, false, not, cond}
@@ -9,7 +9,7 @@ use mathlib.Core.List.{List, [], ◌∷◌, map, Memᴰ}
 use lib.Dec.{T, eqb}
 use lib.Ieee.Fits.{and_l, and_r}
 use borrow.Author.Tests.{eq-eqb}
-use Rattle.table.specs.Refusals.{Refusal, first_of, Tests, in_order, Passes, Clear, turns_away, numbered, First, holds, passes}
+use Rattle.table.specs.Refusals.{Refusal, first_of, Tests, in_order, Passes, PassesAll, turns_away, numbered, First, holds, passes}
 
 -- with a first test r
 module _ (r : Refusal) (rs : List Refusal) where
@@ -62,8 +62,8 @@ pub order : (t : Tests) → map (λ (r : Refusal). r.number) (in_order t) ≡ 1 
 order t = refl
 
 -- ---- where none holds, by their names
-pub clear : (t : Tests) → Passes (in_order t) → Clear t
-clear t h =
+pub passes_all : (t : Tests) → Passes (in_order t) → PassesAll t
+passes_all t h =
     record {
       counts = h.0;
       practice = h.1.0;

@@ -50,7 +50,7 @@ abbrev pub Passes : List Refusal → Type 0
 Passes rs = All (λ (r : Refusal). r.test ≡ false) rs
 
 -- so of the tests in order, by their names
-pub record Clear (t : Tests) : Type 0 where
+pub record PassesAll (t : Tests) : Type 0 where
   pub counts : t.counts ≡ false
   pub practice : t.practice ≡ false
   pub units : t.units ≡ false

@@ -1,5 +1,5 @@
--- The loop of a run: what holds between two blocks, and when it has ended. Of what the operating system reads and writes no contract can speak, so the input stands for the
--- bytes that the loop stepped over, one block after the other, and what was written for its length.
+-- The loop of a run: what holds between two blocks, and when it has ended. Of what the operating system reads and writes no contract can speak, so the input
+-- stands for the bytes that the loop stepped over, one block after the other, and what was written for its length.
 use Rattle.std.specs.Prelude.{ℕ, ◌+◌, ◌*◌, ◌≤◌, ◌≡◌, true, false, List, length, ℤ, Float}
 use Rattle.report.specs.Report.{most_text}
 use Rattle.state.specs.declared.State.{State}

@@ -3,4 +3,3 @@ pub mod Writing
 pub mod Pages
 pub mod Decimal
 pub mod Forms
-pub mod Chunks

@@ -8,7 +8,7 @@
 
 ghost use Rattle.std.specs.Prelude.{◌≡◌, ℕ, List, [], ◌∷◌, ◌+◌, ◌<◌, drop, get_or};
 ghost use Rattle.std.specs.Slice.Iter.{iter_rest};
-ghost use Rattle.text.specs.Text.{decimal, part, takes, filled, filled_by};
+ghost use Rattle.text.specs.Text.{decimal, stands_for, takes, filled, filled_by};
 ghost use Rattle.text.specs.Page.{Room, Wrote};
 
 use std::slice::Iter;
@@ -21,9 +21,9 @@ pub struct Page<'a> {
     pub at: usize,
 }
 
-// The marks of a kind of form: what a byte of a form stands for where n is the next of the form's numbers, and how many it takes of
+// The slots of a kind of form: what a byte of a form stands for where n is the next of the form's numbers, and how many it takes of
 // those that are left.
-pub trait Marks {
+pub trait Slots {
     ghost stands: { ℕ → ℕ → List ℕ };
 
     ghost takes: { ℕ → ℕ };
@@ -62,8 +62,8 @@ impl Page<'_> {
         self.byte(digit(n % 10));
     }
 
-    // A form of any kind, with the numbers in place of its marks, in order.
-    pub fn form<M: Marks>(&mut self, form: &[u8], numbers: &[u64])
+    // A form of any kind, with the numbers in its slots, in order.
+    pub fn form<M: Slots>(&mut self, form: &[u8], numbers: &[u64])
         requires { Room self.old (filled_by M.stands M.takes form.now numbers.now) }
         ensures { Wrote self.old (filled_by M.stands M.takes form.now numbers.now) self.new }
     {
@@ -73,12 +73,12 @@ impl Page<'_> {
         }
     }
 
-    // A form whose one mark is '#', a number in decimal.
+    // A form whose one slot is '#', a number in decimal.
     pub fn filled(&mut self, form: &[u8], numbers: &[u64])
         requires { Room self.old (filled form.now numbers.now) }
         ensures { Wrote self.old (filled form.now numbers.now) self.new }
     {
-        self.form::<Decimals>(form, numbers);
+        self.form::<NumberSlots>(form, numbers);
     }
 }
 
@@ -90,15 +90,15 @@ pub fn next_number(numbers: &mut Iter<'_, u64>) -> u64
     numbers.next().copied().unwrap_or(0)
 }
 
-// The forms with one mark.
-pub struct Decimals;
+// The forms with one slot.
+struct NumberSlots;
 
-impl Marks for Decimals {
-    ghost stands = { part };
+impl Slots for NumberSlots {
+    ghost stands = { stands_for };
 
     ghost takes = { takes };
 
-    #[tactic(auto, unfolding(crate::specs::Text::part, crate::specs::Text::takes))]
+    #[tactic(auto, unfolding(crate::specs::Text::stands_for, crate::specs::Text::takes))]
     fn put(page: &mut Page, b: u8, numbers: &mut Iter<'_, u64>) {
         if b == b'#' {
             return page.decimal(next_number(numbers));

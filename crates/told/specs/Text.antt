@@ -34,16 +34,16 @@ told_text (Ring n used v) cells = row_text n used v cells
 told_text (Block r) cells = refused_block r.block (number_of r.why)
 
 -- what an accepted row has to satisfy to be printed: no fewer nodes than before, and the cells within the list
-pub record Shown (used : ℕ) (v : Row) (cells : List ℕ) : Type 0 where
+pub record PrintableRow (used : ℕ) (v : Row) (cells : List ℕ) : Type 0 where
   pub grown : v.code ≡ 0 → used ≤ v.nodes
   pub listed : v.code ≡ 0 → v.cells * 4 ≤ length cells
 
 -- and so what was told; "its cell list has 124" cells of four numbers each
-abbrev pub CanShow : Tells → List ℕ → Type 0
-CanShow Nothing cells = Unit {0}
-CanShow (Ring n used v) cells = Shown used v cells
-CanShow (Block r) cells = Unit {0}
+abbrev pub Printable : Tells → List ℕ → Type 0
+Printable Nothing cells = Unit {0}
+Printable (Ring n used v) cells = PrintableRow used v cells
+Printable (Block r) cells = Unit {0}
 
 pub record CanTell (t : Tells) (cells : List ℕ) : Type 0 where
-  pub shown : CanShow t cells
+  pub printable : Printable t cells
   pub few : length cells ≤ 496

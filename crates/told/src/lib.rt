@@ -6,7 +6,7 @@
 ghost use Rattle.std.specs.Prelude.{true, ◌≤◌, length};
 ghost use Rattle.table.specs.Answers as Answers;
 ghost use Rattle.report.specs.Report.{Printed, most_text};
-ghost use Rattle.told.specs.Text.{tells_of, row_text, Shown, told_text, CanTell};
+ghost use Rattle.told.specs.Text.{tells_of, row_text, PrintableRow, told_text, CanTell};
 
 use blocks::Refused;
 use nodes::NodeNumber;
@@ -35,7 +35,7 @@ fn print_answer(
     answer: Answer,
     cells: &[NodeNumber],
 ) -> usize
-    requires { Shown used (Answers.values answer) cells.now × (length cells.now ≤ 496) × (most_text ≤ length text.old) }
+    requires { PrintableRow used (Answers.values answer) cells.now × (length cells.now ≤ 496) × (most_text ≤ length text.old) }
     ensures { Printed true text.old (row_text ring used (Answers.values answer) cells.now) result text.new }
 {
     match answer {

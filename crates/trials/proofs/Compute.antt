@@ -81,7 +81,7 @@ unfolding Corner.quotient Corner.by_quadrant Corner.measure Corner.bad Corner.me
 in_corner = tt
 
 unfoldable pub in_diagonal : Unit {0}
-unfolding Obstacles.clear_of Obstacles.blocks Obstacles.runs_over Obstacles.unobstructed Judge.in_range Diagonal.cosine_next Diagonal.cosine_prev
+unfolding Obstacles.clear_of Obstacles.crosses_edge Obstacles.runs_over Obstacles.unobstructed Judge.in_range Diagonal.cosine_next Diagonal.cosine_prev
     Diagonal.meets_rule Judge.larger Diagonal.score Diagonal.better Diagonal.best_to
 in_diagonal = tt
 
@@ -97,7 +97,8 @@ unfolding Keys.rounded Keys.key Nodes.has_key Nodes.number Nodes.add_node Nodes.
 in_cells = tt
 
 unfoldable pub in_divider : Unit {0}
-unfolding Sets.between Sets.cosines_out Sets.limits_out Call.counts_out Call.outside Call.any_outside Call.units_out NodesFlat.held Call.usable Call.rims_out
+unfolding Sets.between Sets.cosines_out Sets.limits_out
+    Call.counts_out Call.outside Call.any_outside Call.units_out NodesFlat.on_sheet Call.usable Call.rims_out
     Call.lists_over Call.room_out_of Divide.refused Divide.answered Divide.core Divide.divide
 in_divider = tt
 
@@ -105,7 +106,7 @@ in_divider = tt
 unfoldable pub in_program : Unit {0}
 unfolding Table.tab Fields.pair Fields.word Fields.signed Fields.coordinate Fields.check_to Fields.any_used Blocks.head_wrong Blocks.size_wrong
     Blocks.unused_wrong Blocks.tested Blocks.refused_block Blocks.accepted_block Blocks.read_block NodesFlat.nodes_in QuadsFlat.over_cells Lent.divide_lent
-    Text.bytes Text.digits Text.decimal Text.marks Text.filled_to Text.filled_by Text.part Text.takes Report.hundredths Report.ring_line Report.nodes_line
+    Text.bytes Text.digits Text.decimal Text.slots Text.filled_to Text.filled_by Text.stands_for Text.takes Report.hundredths Report.ring_line Report.nodes_line
     Report.quad_line Report.quad_lines Report.ring_text Report.refused_ring Report.refused_block Told.row_text Told.told_text Step.ends Step.waits Step.divides
     Step.taken Step.answered Step.step_of Run.onward Run.ran Run.read_to Run.whole_run Run.printed
 in_program = tt

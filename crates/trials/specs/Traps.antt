@@ -148,7 +148,7 @@ in_doubles_of =
     0xbfad_d000_0000_0000 ∷ 0x3fc0_6000_0000_0000 ∷ 0xbf96_9555_5555_5555 ∷ 0x3fc0_a155_5555_5555 ∷ [])
     (cell 6 3 1 4 ∷ cell 6 4 2 5 ∷ cell 6 5 0 3 ∷ cell 10 8 7 9 ∷ cell 10 9 0 5 ∷ cell 10 5 2 8 ∷ [])
 
--- and another
+-- and one that doubles and exact arithmetic answer alike, since Card 11 refuses the diagonal whose midpoint they judge differently
 unfoldable pub in_doubles_again : Trial
 in_doubles_again =
     gives

@@ -246,7 +246,8 @@ in_use_of =
 
 -- ---- 02, Card 12: the rim marks, which were 7 in every place that was not used
 abbrev pub marking : List GridPoint → List GridPoint → List ℕ → ℕ → Call
-marking r c ts u = record { ring = r; chain = c; size = 1; nodes = replicate 16 no_node; node_count_of = u; rims = ts; cells = replicate 8 no_cell; cell_count_of = 0 }
+marking r c ts u =
+    record { ring = r; chain = c; size = 1; nodes = replicate 16 no_node; node_count_of = u; rims = ts; cells = replicate 8 no_cell; cell_count_of = 0 }
 
 -- a piece that is done again: 3 is the snap point of the abandoned attempt, and 7 the straight middle of the same edge
 unfoldable pub again : Call

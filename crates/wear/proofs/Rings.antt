@@ -107,7 +107,8 @@ forth : (l : List ℕ) → length l ≡ 34 → bytes_of (record_in l) ≡ l
 forth l h =
     let a : take 34 l ≡ take 33 l ++ (get_or l 33 0 ∷ []) = take-suc l 33 0 (omega arith) in
     let b : take 33 l ≡ take 32 l ++ (get_or l 32 0 ∷ []) = take-suc l 32 0 (omega arith) in
-    let c : (take 32 l ++ (get_or l 32 0 ∷ [])) ++ (get_or l 33 0 ∷ []) ≡ bytes_of (record_in l) = append_assoc (take 32 l) (get_or l 32 0 ∷ []) (get_or l 33 0 ∷ []) in
+    let c : (take 32 l ++ (get_or l 32 0 ∷ [])) ++ (get_or l 33 0 ∷ []) ≡ bytes_of (record_in l) =
+    append_assoc (take 32 l) (get_or l 32 0 ∷ []) (get_or l 33 0 ∷ []) in
     sym c ∙ ap (λ (m : List ℕ). m ++ (get_or l 33 0 ∷ [])) (sym b) ∙ sym a ∙ take_all 34 l (omega arith)
 
 -- ---- the three ways of an answer

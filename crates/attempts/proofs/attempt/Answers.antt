@@ -13,22 +13,31 @@ add_corners-u-requires c =
 pub add_middles-m-requires : goal.add_middles-m-requires
 add_middles-m-requires c =
     let f = c.requires.0 in
-    let a = c.add_corners-u.ensures in
-    (one.add-middles c.args.piece.now.edges.now f a refl, one.listed c.args.piece.now.edges.now f a refl, c.args.piece.now.marked ∙ one.ends c.args.piece.now.edges.now f a refl, held a c.requires.2, refl)
+    let a = c.add_corners-u.ensures in (
+      one.add-middles c.args.piece.now.edges.now f a refl,
+      one.listed c.args.piece.now.edges.now f a refl,
+      c.args.piece.now.marked ∙ one.ends c.args.piece.now.edges.now f a refl,
+      held a c.requires.2,
+      refl,
+    )
 
 pub mean-p-requires : goal.mean-p-requires
 mean-p-requires c =
     let f = c.requires.0 in
     let a = c.add_corners-u.ensures in
     let n = one.many c.args.piece.now.edges.now f a refl in
-    (omega (arith, n, f.fair.some), omega (arith, n, f.fair.few), one.corner-room c.args.piece.now.edges.now f a refl c.add_middles-m.ensures.0 refl)
+    (omega (arith, n, f.valid.some), omega (arith, n, f.valid.few), one.corner-room c.args.piece.now.edges.now f a refl c.add_middles-m.ensures.0 refl)
 
 pub add_node-z-requires : goal.add_node-z-requires
 add_node-z-requires c =
     let f = c.requires.0 in
     let a = c.add_corners-u.ensures in
-    let b = c.add_middles-m.ensures.0 in
-    (one.after-middles c.args.piece.now.edges.now f a refl b refl, one.centre-ranged c.args.piece.now.edges.now f a refl b refl c.mean-p.ensures, one.centre-room c.args.piece.now.edges.now f a refl b refl c.mean-p.ensures, held b (held a c.requires.2))
+    let b = c.add_middles-m.ensures.0 in (
+      one.after-middles c.args.piece.now.edges.now f a refl b refl,
+      one.centre-ranged c.args.piece.now.edges.now f a refl b refl c.mean-p.ensures,
+      one.centre-room c.args.piece.now.edges.now f a refl b refl c.mean-p.ensures,
+      held b (held a c.requires.2),
+    )
 
 pub mark_rims-requires : goal.mark_rims-requires
 mark_rims-requires c =
@@ -68,4 +77,5 @@ returns c =
     let e = c.add_node-z.ensures in
     one.answer c.args.piece.now.edges.now f a refl b refl d e.0 e.1 c.args.cells.now c.args.piece.now.sides.now c.args.rims.now c.add_middles-m.ensures.1
     c.first_failing-fails.ensures c.put_cells.ensures
-    (marked _ _ _ _ _ _ _ _ _ (one.used-up c.args.piece.now.edges.now f a refl b refl d e.0 e.1) (omega (arith, one.as-many c.args.piece.now.edges.now f a refl b refl, f.fair.few)) c.mark_rims.ensures)
+    (marked _ _ _ _ _ _ _ _ _ (one.used-up c.args.piece.now.edges.now f a refl b refl d e.0 e.1)
+    (omega (arith, one.as-many c.args.piece.now.edges.now f a refl b refl, f.valid.few)) c.mark_rims.ensures)

@@ -25,7 +25,8 @@ module _ (c : goal.After-from) where
   is-byte = c.from.ensures ∙ get_or-take 508 c.args.bytes.now c.loop-i.i 0 below
 
   small : c.from.result * (c.loop-i.i + 1) ≤ 129540
-  small = mul-le-mul {n₁ = c.from.result} {m₁ = c.loop-i.i + 1} {n₂ = 255} {m₂ = 508} (omega (arith, is-byte, c.type_inv.bytes c.loop-i.i)) (omega (arith, below))
+  small =
+      mul-le-mul {n₁ = c.from.result} {m₁ = c.loop-i.i + 1} {n₂ = 255} {m₂ = 508} (omega (arith, is-byte, c.type_inv.bytes c.loop-i.i)) (omega (arith, below))
 
 pub overflow_cast-sum : goal.overflow_cast-sum
 overflow_cast-sum c = omega (arith, below c)

@@ -27,7 +27,8 @@ placed-requires c =
     let cs = replicate a.cell_places no_cell in
     let n = length-replicate a.cell_places no_cell in
     let f = most-cuts L.result L.ensures in (
-      sum_fits L.result f (replicate 496 0) refl (by_args (goal.at.placed-requires c).Start cs) (values d.result) _ _ _ (d.ensures cs n) (omega (arith, n, c.ranges.cell_places))
+      sum_fits L.result f (replicate 496 0) refl (by_args (goal.at.placed-requires c).Start cs)
+          (values d.result) _ _ _ (d.ensures cs n) (omega (arith, n, c.ranges.cell_places))
           c.ranges.cell_count.fits,
       counts_in L.result f (replicate 496 0) refl (by_args (goal.at.placed-requires c).Start cs) (values d.result) _ _ _ (d.ensures cs n),
     )
@@ -42,7 +43,8 @@ returns c =
     let f = most-cuts L.result L.ensures in
     let g = laid-fits L.result f (replicate 496 0) refl (by_args (goal.at.returns c).Start cs) (values d.result) _ _ _ (d.ensures cs n) c.placed.result
     c.placed.ensures in (
-      (λ cells e. laid-numbers L.result f (replicate 496 0) refl (by_args (goal.at.returns c).Start cells) (values d.result) _ _ _ (d.ensures cells e) c.placed.result
+      (λ cells e.
+          laid-numbers L.result f (replicate 496 0) refl (by_args (goal.at.returns c).Start cells) (values d.result) _ _ _ (d.ensures cells e) c.placed.result
           c.placed.ensures delivered L.ensures),
       g.0,
       (λ h. omega (arith, g.1 h, n)),

@@ -30,7 +30,7 @@ loop-k-preserved c =
     let b : o.k < n = omega (arith, c.loop-k-test.true, taken s) in
     let e : c.from.result ≡ cell_in l o.k =
     ap (λ f. cell_in f 0) (sym c.from.ensures)
-    ∙ four_among l (length l / 4) n o.k c.as_chunks.result.0.now c.as_chunks.ensures.front (omega arith) (omega (arith, many s, c.requires.0)) b in
+    ∙ four_among l (length l / 4) n o.k c.as_chunks.result.0.now c.as_chunks.ensures.front (omega (arith, many s, c.requires.0)) b in
     let w : set o.cells (c.args.laid.now.at + o.k) c.from.result ≡ written c.args.cells.now c.args.laid.now.at l (o.k + 1) =
     rw add-one (λ j. set (o.invariant.2 j) (c.args.laid.now.at + o.k) (e j)) in
     (omega (arith, b), length-set o.cells (c.args.laid.now.at + o.k) c.from.result ∙ o.invariant.1, w)

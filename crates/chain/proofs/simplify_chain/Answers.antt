@@ -36,7 +36,8 @@ joined c =
           (kept_more r o.points o.snaps o.count o.previous o.i o.invariant (omega (arith, c.requires.count)) (sym (staying c.before) ∙ w.if-stays.true)
           _ refl (c.requires.points o.i)
           _ (w.point_at_arclength.ensures ∙ (λ j. point_at_arclength r (lit 5 1 *f (u j +f v j)))))
-      | else-stays w ↦ rw (w.points-is, w.snaps-is, w.count-is, w.previous-is) (kept_same r o.points o.snaps o.count o.previous o.i o.invariant (sym (staying c.before) ∙ w.if-stays.false))
+      | else-stays w ↦ rw (w.points-is, w.snaps-is, w.count-is, w.previous-is)
+          (kept_same r o.points o.snaps o.count o.previous o.i o.invariant (sym (staying c.before) ∙ w.if-stays.false))
     ]
 
 pub returns-then-n-eq0 : goal.returns-then-n-eq0

@@ -1,7 +1,7 @@
 use Rattle.std.proofs.Common.{rules, ap, ◌∙◌, arith, length-set, get_or-take, get_or, ◌<◌}
 use Rattle.vector.specs.Grid.{origin}
 use Rattle.laws.proofs.Table.{more, tab_none}
-use Rattle.clean_steps.proofs.Choices.{point}
+use Rattle.clean_steps.proofs.KeptPoints.{point}
 use Rattle.clean.proofs.Answer.{copied}
 use Rattle.clean.proofs.cleared.Goals as goal
 

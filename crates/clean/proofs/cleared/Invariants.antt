@@ -1,7 +1,7 @@
--- `cleared`, the loop's invariant: the first i points are those of the choice.
+-- `cleared`, the loop's invariant: the first i points are those that are kept.
 use Rattle.std.proofs.Common.{◌≡◌, length, take}
 use Rattle.laws.specs.Table.{tab}
-use Rattle.clean_steps.proofs.Choices.{point}
+use Rattle.clean_steps.proofs.KeptPoints.{point}
 use Rattle.clean.proofs.cleared.Given as goal
 
 abbrev pub invariant-loop-i : goal.invariant-loop-i

@@ -11,5 +11,6 @@ loop-i-init c =
     let r = c.args.part.now in (
       omega arith,
       refl,
-      scan.by_points r 0 _ _ _ (scan.before-first r c.requires.1) (rings.at_place r 0 c.requires.1) (rings.at_following r 0 _ c.next.ensures.0) _ c.corner_at.ensures,
+      scan.by_points r 0 _ _ _ (scan.before-first r c.requires.1)
+          (rings.at_place r 0 c.requires.1) (rings.at_following r 0 _ c.next.ensures.0) _ c.corner_at.ensures,
     )

@@ -7,7 +7,8 @@ use Rattle.diagonal.specs.Diagonal.{best_to}
 use Rattle.diagonal.proofs.Choosing as choosing
 use Rattle.diagonal.proofs.Choosing.{held, Scored}
 use Rattle.diagonal.proofs.best_diagonal.Goals as goal
-use Rattle.diagonal.proofs.best_diagonal.Goals.{in-Some+then-improves+then-is_unobstructed, in-Some+else-improves, else-improves-via-then-improves+else-is_unobstructed, else-improves-via-else-improves, in_default}
+use Rattle.diagonal.proofs.best_diagonal.Goals.{in-Some+then-improves+then-is_unobstructed, in-Some+else-improves}
+use Rattle.diagonal.proofs.best_diagonal.Goals.{else-improves-via-then-improves+else-is_unobstructed, else-improves-via-else-improves, in_default}
 
 pub loop-k-init : goal.loop-k-init
 unfolding best_to
@@ -39,5 +40,6 @@ loop-k-preserved c =
             ]),
             subst (Scored r) (sym w.best-is) s,
           )
-      | in_default w ↦ (ap held w.best-is ∙ choosing.refused L r o.k o.auto.k o.best e (choosing.refusing _ _ _ j w.in_default.not-Some), subst (Scored r) (sym w.best-is) s)
+      | in_default w ↦
+          (ap held w.best-is ∙ choosing.refused L r o.k o.auto.k o.best e (choosing.refusing _ _ _ j w.in_default.not-Some), subst (Scored r) (sym w.best-is) s)
     ]

@@ -1,13 +1,12 @@
--- `close`: laws in proofs/Reaching.
-use Rattle.draw.proofs.Reaching.{sendable_last, ends_so}
+-- `close`: laws in proofs/Given.
+use Rattle.draw.proofs.Reaching.{ends_so}
+use Rattle.draw.proofs.Given.{sendable_last, ends_step}
 use Rattle.draw.proofs.close.Goals as goal
 
 pub send-requires : goal.send-requires
-send-requires g c =
-    let l = c.requires in
-    sendable_last l.0.before l.0.reached l.0.last c.finish.new.self l.1 c.finish.ensures.moves
+send-requires g c = sendable_last c.requires.0 c.requires.1 c.finish.new.self c.finish.ensures.moves
 
-pub returns : goal.returns
-returns g c =
-    let l = c.requires in
-    ends_so l.0.before l.0.reached l.0.last c.finish.new.self l.1 c.finish.ensures.moves _ c.in_ok-send.ensures c.end_of.result c.end_of.ensures
+pub returns-clause-ends : goal.returns-clause-ends
+returns-clause-ends g c =
+    let s = c.in_ok-send.ensures in
+    ends_step c.finish.new.self _ (ends_so c.args.d.now c.finish.new.self c.finish.ensures.moves) _ _ s.count _ _ s.bytes c.end_of.result c.end_of.ensures

@@ -25,7 +25,7 @@ told c cells o =
     let a = c.args in
     c.used_refusal.ensures
     ∙ fit a.limits a.own a.nodes.now a.node_count a.rims.now cells a.cell_count a.cell_places o (sym c.counts_over.ensures ∙ c.if-counts_over.false)
-    c.used_nodes-s.result.held (ap (λ (r : NodeSurvey). r.held) c.used_nodes-s.ensures.0)
+    c.used_nodes-s.result.on_sheet (ap (λ (r : NodeSurvey). r.on_sheet) c.used_nodes-s.ensures.0)
 
 pub returns-in_err-used_refusal-clause-code : goal.returns-in_err-used_refusal-clause-code
 returns-in_err-used_refusal-clause-code c = λ cells o.

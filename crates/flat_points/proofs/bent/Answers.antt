@@ -6,8 +6,8 @@ use lib.ListN.{get_or, set}
 use lib.Seq.{get_or-take}
 use Rattle.vector.specs.Grid.{origin}
 use Rattle.nearness.specs.Nearness.{is_flat}
-use Rattle.clean_steps.specs.Choices.{bent_places}
-use Rattle.clean_steps.specs.Chosen.{chosen}
+use Rattle.clean_steps.specs.Places.{bent_places}
+use Rattle.clean_steps.specs.KeptPlaces.{kept_points}
 use Rattle.clean_steps.proofs.Filter.{Filter}
 use Rattle.clean_steps.proofs.Turns.{bent-keep, bent_skip}
 use Rattle.flat_points.proofs.bent.Goals as goal
@@ -29,7 +29,7 @@ loop-i-preserved c =
     elim c.if-not-flat.branch [
       | then-not-flat w ↦
           rw (w.places-is, w.count-is)
-          (subst (λ (x : ℕ). Filter r (bent_places r.tol (chosen r)) (set l.places l.count x) (l.count + 1) (l.i + 1)) (sym d)
+          (subst (λ (x : ℕ). Filter r (bent_places r.tol (kept_points r)) (set l.places l.count x) (l.count + 1) (l.i + 1)) (sym d)
           (bent-keep r l.places l.count l.i l.invariant h j m c.prev.ensures.0 c.next.ensures.0 f.result e (ap not w.if-not-flat.true)))
       | else-not-flat w ↦
           rw (w.places-is, w.count-is)

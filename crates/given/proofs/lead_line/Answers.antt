@@ -1,9 +1,8 @@
 -- `lead_line`: none where no mark calls for it, and else the outline that was lent.
-use mathlib.Core.Path.{sym, ap, ◌∙◌, subst}
+use mathlib.Core.Path.{sym, ap, ◌∙◌}
 use Rattle.vector.specs.declared.Ring.{Ring}
-use lib.Dec.{T}
-use Rattle.laws.proofs.Booleans.{is_true, is_false}
-use Rattle.given.proofs.LeadLines.{none-sought, outline-asks, few-loops, points-fit, held}
+use Rattle.laws.proofs.Booleans.{is_true}
+use Rattle.given.proofs.LeadLines.{outline-asks, few-loops, points-fit, held}
 use Rattle.given.proofs.lead_line.Goals as goal
 
 pub points-own-requires : goal.points-own-requires

@@ -14,4 +14,5 @@ returns c =
     let k = c.from_fn.ensures.items in
     let many = length-take-le n l (omega (arith, k.long, c.requires)) in
     ext_get_or 0 (take n l) ms many
-    (λ i h. get_or-take n l i 0 (omega (arith, many)) ∙ made_of l (λ i. get_or ms i 0) (λ i y q k. search (rules, tests)) 20 k i 0 (omega (arith, many, c.requires)))
+    (λ i h. get_or-take n l i 0 (omega (arith, many))
+    ∙ made_of l (λ i. get_or ms i 0) (λ i y q k. search (rules, tests)) 20 k i 0 (omega (arith, many, c.requires)))

@@ -17,4 +17,5 @@ loop-k-preserved c =
     let z = cell.cells-length r.centre r.middles.now r.corners.now l.k in
     cell.turn c.args.cells.now l.cells (l.k * 4) (cells_to r.centre r.middles.now r.corners.now l.k) _ _ l.invariant (omega (arith, z))
     (omega (arith, z, c.requires, c.loop-k-test.true)) c.put_cell.ensures
-    ∙ cell.one_more r.centre r.middles.now r.corners.now c.args.cells.now l.k _ (c.cell.ensures ∙ cell.cells_at r.centre r.middles.now r.corners.now n l.k c.loop-k-test.true)
+    ∙ cell.one_more r.centre r.middles.now r.corners.now c.args.cells.now l.k _
+    (c.cell.ensures ∙ cell.cells_at r.centre r.middles.now r.corners.now n l.k c.loop-k-test.true)

@@ -6,14 +6,14 @@ use lib.Ieee.{Float, nan}
 use Rattle.text.specs.Text.{decimal}
 use Rattle.text.proofs.Pages.{room-one, room-two, wrote-two, room-first, room-second, room-third, wrote-three}
 use Rattle.decimals.specs.Shown.{shown}
-use Rattle.listing.specs.Sheet.{right, line}
+use Rattle.listing.specs.Sheet.{right_aligned, line}
 use Rattle.listing.proofs.line.Goals as goal
 
 abbrev number : ℕ → List ℕ
-number i = right 8 (decimal i)
+number i = right_aligned 8 (decimal i)
 
 abbrev coordinate : List Float → ℕ → List ℕ
-coordinate l k = right 28 (shown (get_or l k nan))
+coordinate l k = right_aligned 28 (shown (get_or l k nan))
 
 pub put_number-requires : goal.put_number-requires
 unfolding line

@@ -33,5 +33,6 @@ loop-i-preserved c =
     let u = c.requires.0 in (
       omega arith,
       wrote-turn (lines s.nodes.now) (line s.nodes.now) (λ i. refl) s.count
-          (record { fits = omega (arith, c.requires.1, lines_long s.nodes.now s.count (omega (arith, u.few))) }) c.loop-i-test.true l.invariant.1 c.line.ensures,
+          (record { fits = omega (arith, c.requires.1, lines_long s.nodes.now s.count (omega (arith, u.few))) })
+          c.loop-i-test.true l.invariant.1 c.line.ensures,
     )

@@ -2,7 +2,7 @@
 use Rattle.std.proofs.Common.{refl, sym, ◌∙◌, arith}
 use Rattle.laws.proofs.Search.{below-given, below-absent}
 use Rattle.vector.proofs.Rings as rings
-use Rattle.chain.specs.Kept.{stretches_in}
+use Rattle.chain.specs.Stretches.{stretches_in}
 use Rattle.marks.specs.Marks.{mark}
 use Rattle.marks.proofs.Edges.{mark-snap, mark-straight, marked-none, marked-snap, marked-straight}
 use Rattle.marks.proofs.mark_edges.Goals as goal

@@ -3,7 +3,7 @@ use Rattle.std.proofs.Common.{ℕ, ◌≡◌, true, false, ap, ◌∙◌, arith,
 use Rattle.std.proofs.lemmas.Iterator.{first_from_Range}
 use Rattle.laws.specs.Bounded.{below}
 use Rattle.laws.proofs.Search.{below-found, first-start}
-use Rattle.chain.specs.Kept.{stretch_in}
+use Rattle.chain.specs.Stretches.{stretch_in}
 use Rattle.marks.specs.Marks.{joins}
 use Rattle.marks.proofs.stretch_between.Goals as goal
 

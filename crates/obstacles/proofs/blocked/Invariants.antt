@@ -2,8 +2,8 @@
 use mathlib.Core.Bool.{false}
 use mathlib.Core.Path.{◌≡◌}
 use Rattle.laws.specs.Bounded.{any}
-use Rattle.obstacles.specs.Obstacles.{blocks}
+use Rattle.obstacles.specs.Obstacles.{crosses_edge}
 use Rattle.obstacles.proofs.blocked.Given as goal
 
 abbrev pub invariant-scan : goal.invariant-scan
-invariant-scan l = (l.found ≡ false) × (any (blocks l.part l.k) l.e ≡ false)
+invariant-scan l = (l.found ≡ false) × (any (crosses_edge l.part l.k) l.e ≡ false)

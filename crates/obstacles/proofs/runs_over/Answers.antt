@@ -18,6 +18,7 @@ pub returns : goal.returns
 returns c =
     let r = c.args.part.now in
     let d = c.new-diagonal in
-    any_from_yields_List (strictly_between d.result.a d.result.b) _ _ c.any.result c.any.ensures.ran (YieldsList-from_slice r cc) (λ x b q k. search (rules, tests))
+    any_from_yields_List (strictly_between d.result.a d.result.b) _ _ c.any.result c.any.ensures.ran
+    (YieldsList-from_slice r cc) (λ x b q k. search (rules, tests))
     ∙ (λ i. list_any (strictly_between (d.ensures.0 i) (d.ensures.1 i)) r)
     ∙ blocking.over r c.args.k c.requires.1

@@ -23,9 +23,12 @@ loop-j-preserved c =
     let p = c.args.pieces.now in
     let part = c.part-c-items in
     let f : ℕ → EdgeMark = (λ k. edge_at marks p.corners (end p c.args.i + k)) in
-    let corner = ap (λ l. vertex l o.j) part.ensures.corners ∙ get_d_tab (λ k. vertex p.corners (end p c.args.i + k)) (size p c.args.i) o.j no_vertex (omega (arith, part.ensures.size.0)) in
-    let read = c.unwrap_or.ensures ∙ ap (λ r. unwrap_or r Straight) c.copied.ensures ∙ mark-read marks c.from.result c.get-mark.result c.get-mark.ensures.lookup in
-    let e : c.unwrap_or.result ≡ f o.j = read ∙ ap (λ k. get_or marks k Straight) (c.from.ensures ∙ ap (λ (v : Vertex). v.edge) (get_or_read part.result.now o.j c.c-item.result (omega arith) c.c-item.is no_vertex ∙ corner)) in (
+    let corner = ap (λ l. vertex l o.j) part.ensures.corners
+    ∙ get_d_tab (λ k. vertex p.corners (end p c.args.i + k)) (size p c.args.i) o.j no_vertex (omega (arith, part.ensures.size.0)) in
+    let read = c.unwrap_or.ensures ∙ ap (λ r. unwrap_or r Straight) c.copied.ensures
+    ∙ mark-read marks c.from.result c.get-mark.result c.get-mark.ensures.lookup in
+    let e : c.unwrap_or.result ≡ f o.j = read ∙ ap (λ k. get_or marks k Straight)
+    (c.from.ensures ∙ ap (λ (v : Vertex). v.edge) (get_or_read part.result.now o.j c.c-item.result (omega arith) c.c-item.is no_vertex ∙ corner)) in (
       length-set o.out o.j _ ∙ o.invariant.0,
       more f o.out o.j c.unwrap_or.result (omega (arith, o.invariant.0, part.ensures.size.2)) o.invariant.1 e,
       λ k h. get_or-set_other o.out o.j k _ Straight (λ d. omega (arith, d)) ∙ o.invariant.2 k (omega arith),

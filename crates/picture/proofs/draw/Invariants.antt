@@ -1,4 +1,4 @@
--- `draw`. The loop's invariant: what the first blocks reach, and as many bytes were written as are drawn of them (`At`). A turn ends the run, or comes to
+-- `draw`. The loop's invariant: what the first blocks reach, and that what is drawn of them was written (`At`). A turn ends the run, or comes to
 -- the next block.
 use Prim.Native.Nat.{◌+◌, ◌-◌, ◌/◌, ◌<◌}
 use mathlib.Core.Bool.{cond}
@@ -10,7 +10,7 @@ use Rattle.picture.proofs.draw.Given as goal
 
 abbrev pub invariant-loop-f : goal.invariant-loop-f
 invariant-loop-f g l =
-    At l.job l.run.state l.run.ring l.run.nodes l.run.rims l.sent
+    At l.job l.run.state l.run.ring l.run.nodes l.run.rims l.sent (g.W.Write.contents l.initial.output) (g.W.Write.contents l.output)
     × (length l.job < 4294967296)
     × (l.f ≡ frame_of (extent_of l.job))
 

@@ -5,7 +5,7 @@ use Rattle.std.proofs.lemmas.Result.{on_ok_weaker}
 use Rattle.frame.specs.Head.{edges_of}
 use native.Mathlib.Numerals.{add-one}
 use Rattle.picture.specs.Picture.{Reached}
-use Rattle.picture.proofs.Drawing.{can_step, due, drew, turned}
+use Rattle.picture.proofs.Drawing.{can_step, due, drew, drew_more, turned}
 use native.Mathlib.Omega.{arith}
 use Rattle.picture.proofs.turn.Goals as goal
 
@@ -34,8 +34,12 @@ returns g c =
     let h = c.requires in
     let p = c.step-told in
     let b = c.block_at.ensures in
+    let s = p.new.self in
     let t = turned _ _ _ _ _ _ h.0 h.2 _ b _ _ _ _ _ p.ensures.0 in
+    let f = c.edges.ensures ∙ ap edges_of h.3 in
+    let d = c.draw_step.ensures in
     record {
-      reached = subst (λ (m : ℕ). Reached a.job.now m p.new.self.state p.new.self.ring p.new.self.nodes p.new.self.rims) (sym (add-one a.run.now.state.block)) t;
-      drew = on_ok_weaker c.draw_step.result (λ d. drew _ _ _ _ _ _ h.0 h.2 _ b _ _ _ _ _ p.ensures.0 _ (c.edges.ensures ∙ ap edges_of h.3) _ _ h.1 d) c.draw_step.ensures;
+      reached = subst (λ (m : ℕ). Reached a.job.now m s.state s.ring s.nodes s.rims) (sym (add-one a.run.now.state.block)) t;
+      drew = on_ok_weaker c.draw_step.result (λ n. drew _ _ _ _ _ _ h.0 h.2 _ b _ _ _ _ _ p.ensures.0 _ f _ _ h.1 n) d.sends;
+      bytes = on_ok_weaker c.draw_step.result (λ w. drew_more _ _ _ _ _ _ h.0 h.2 _ b _ _ _ _ _ p.ensures.0 _ f _ _ w) d.bytes;
     }

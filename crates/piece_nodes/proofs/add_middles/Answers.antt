@@ -15,7 +15,7 @@ use Rattle.piece_nodes.proofs.Adding as adding
 use Rattle.quads.proofs.Turns as turns
 use native.Mathlib.Omega.{arith}
 use Rattle.piece_nodes.proofs.add_middles.Goals as goal
-use Rattle.piece_nodes.proofs.add_middles.Goals.{After-add_node-r, After-edge_middle-m}
+use Rattle.piece_nodes.proofs.add_middles.Goals.{After-edge_middle-m}
 
 -- the middle of edge i is that of the definition
 abbrev Mid : After-edge_middle-m → Type 0
@@ -46,13 +46,18 @@ add_node-r-requires c =
     let l = c.loop-i in
     let t : l.i < length c.args.vs.now = omega (arith, c.requires.2) in
     let r = c.requires.0 in
-    let e = ap (λ (m : Middle). m.at) (mid (goal.at.add_node-r-requires c).After-edge_middle-m) in
-    (adding.usable r l.invariant.0 (omega (arith, c.requires.2)), subst InRange (sym e) (r.ranged l.i t), adding.ahead r l.invariant.0 t e, adding.held l.invariant.0 c.requires.3)
+    let e = ap (λ (m : Middle). m.at) (mid (goal.at.add_node-r-requires c).After-edge_middle-m) in (
+      adding.usable r l.invariant.0 (omega (arith, c.requires.2)),
+      subst InRange (sym e) (r.ranged l.i t),
+      adding.ahead r l.invariant.0 t e,
+      adding.held l.invariant.0 c.requires.3,
+    )
 
 pub loop-i-preserved : goal.loop-i-preserved
 loop-i-preserved c =
     let m = mid (goal.at.loop-i-preserved c).After-edge_middle-m in
     let l = c.loop-i in (
-      adding.next l.invariant.0 (omega (arith, c.loop-i-test.true, c.requires.0.few)) (ap (λ (m : Middle). m.at) m) c.add_node-r.ensures.0 c.add_node-r.ensures.1,
+      adding.next l.invariant.0 (omega (arith, c.loop-i-test.true, c.requires.0.few))
+          (ap (λ (m : Middle). m.at) m) c.add_node-r.ensures.0 c.add_node-r.ensures.1,
       any_next _ l.i l.far _ l.invariant.1 (ap (λ (m : Middle). m.far) m),
     )

@@ -24,7 +24,8 @@ loop-j-preserved c =
     let a = end p c.args.i in
     let part = c.part-c-items in
     let corner =
-    get_or_read part.result.now o.j c.c-item.result (omega arith) c.c-item.is no_vertex ∙ ap (λ l. vertex l o.j) part.ensures.corners ∙ get_d_tab (λ k. vertex p.corners (a + k)) (size p c.args.i) o.j no_vertex (omega (arith, part.ensures.size.0)) in (
+    get_or_read part.result.now o.j c.c-item.result (omega arith) c.c-item.is no_vertex ∙ ap (λ l. vertex l o.j) part.ensures.corners
+    ∙ get_d_tab (λ k. vertex p.corners (a + k)) (size p c.args.i) o.j no_vertex (omega (arith, part.ensures.size.0)) in (
       length-set o.out o.j _ ∙ o.invariant.0,
       more (side_of p a) o.out o.j _ (omega (arith, o.invariant.0, part.ensures.size.2)) o.invariant.1 (ap (λ (v : Vertex). ltb v.edge 60) corner),
       λ k h. get_or-set_other o.out o.j k _ false (λ d. omega (arith, d)) ∙ o.invariant.2 k (omega arith),

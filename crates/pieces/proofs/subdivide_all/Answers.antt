@@ -68,7 +68,8 @@ subdivide-t-requires c =
 
 pub returns-in-Some : goal.returns-in-Some
 returns-in-Some c =
-    course.after-failure c.requires.0 _ c.loop-i.invariant (read (goal.at.returns-in-Some c).After-piece_sides-sides) c.subdivide-t.ensures (omega arith) (c.fill.ensures.after (λ y e. e)) c.in-Some.is
+    course.after-failure c.requires.0 _ c.loop-i.invariant (read (goal.at.returns-in-Some c).After-piece_sides-sides) c.subdivide-t.ensures
+    (omega arith) (c.fill.ensures.after (λ y e. e)) c.in-Some.is
 
 pub overflow_add-at : goal.overflow_add-at
 overflow_add-at c =
@@ -80,4 +81,5 @@ none-of (Some k) h = absurd (h k refl)
 
 pub loop-i-preserved : goal.loop-i-preserved
 loop-i-preserved c =
-    course.go_on c.requires.0 _ c.loop-i.invariant (read (goal.at.loop-i-preserved c).After-piece_sides-sides) c.subdivide-t.ensures (none-of _ c.in_default.not-Some)
+    course.go_on c.requires.0 _ c.loop-i.invariant
+    (read (goal.at.loop-i-preserved c).After-piece_sides-sides) c.subdivide-t.ensures (none-of _ c.in_default.not-Some)

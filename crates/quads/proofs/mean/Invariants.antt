@@ -8,4 +8,5 @@ use Rattle.quads.proofs.mean.Given as goal
 
 abbrev pub invariant-loop-v : goal.invariant-loop-v
 invariant-loop-v l =
-    (l.x ≡ total (λ (k : ℕ). (node_in_of l.nodes (get_or l.vs k 0)).x) l.v-index) × (l.y ≡ total (λ (k : ℕ). (node_in_of l.nodes (get_or l.vs k 0)).y) l.v-index)
+    (l.x ≡ total (λ (k : ℕ). (node_in_of l.nodes (get_or l.vs k 0)).x) l.v-index)
+    × (l.y ≡ total (λ (k : ℕ). (node_in_of l.nodes (get_or l.vs k 0)).y) l.v-index)

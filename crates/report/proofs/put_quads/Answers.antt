@@ -18,16 +18,20 @@ unfolding Report.quad_lines bytes
 filled-requires c =
     let s = c.args in
     room_on
-    (line-of s.cells.now c.as_chunks.result.0.now c.as_chunks.ensures.front c.loop-a.a-index (omega (arith, c.loop-a-test.true, c.as_chunks.ensures.front_len)) _ _ _ _ c.from.ensures c.from-in-loop-a.ensures
+    (line-of s.cells.now c.as_chunks.result.0.now c.as_chunks.ensures.front c.loop-a.a-index
+    (omega (arith, c.loop-a-test.true, c.as_chunks.ensures.front_len)) _ _ _ _ c.from.ensures c.from-in-loop-a.ensures
     c.from-in-loop-a-2.ensures c.from-in-loop-a-3.ensures)
-    (room-turn (Report.quad_lines s.cells.now) (Report.quad_line s.cells.now) (λ i. refl) (length s.cells.now / 4) c.requires (omega (arith, c.loop-a-test.true, c.as_chunks.ensures.front_len)) c.loop-a.invariant)
+    (room-turn (Report.quad_lines s.cells.now) (Report.quad_line s.cells.now) (λ i. refl) (length s.cells.now / 4) c.requires
+    (omega (arith, c.loop-a-test.true, c.as_chunks.ensures.front_len)) c.loop-a.invariant)
 
 pub loop-a-preserved : goal.loop-a-preserved
 unfolding Report.quad_lines bytes
 loop-a-preserved c =
     let s = c.args in
-    wrote-turn (Report.quad_lines s.cells.now) (Report.quad_line s.cells.now) (λ i. refl) (length s.cells.now / 4) c.requires (omega (arith, c.loop-a-test.true, c.as_chunks.ensures.front_len)) c.loop-a.invariant
+    wrote-turn (Report.quad_lines s.cells.now) (Report.quad_line s.cells.now) (λ i. refl) (length s.cells.now / 4) c.requires
+    (omega (arith, c.loop-a-test.true, c.as_chunks.ensures.front_len)) c.loop-a.invariant
     (wrote_as
-    (line-of s.cells.now c.as_chunks.result.0.now c.as_chunks.ensures.front c.loop-a.a-index (omega (arith, c.loop-a-test.true, c.as_chunks.ensures.front_len)) _ _ _ _ c.from.ensures c.from-in-loop-a.ensures
+    (line-of s.cells.now c.as_chunks.result.0.now c.as_chunks.ensures.front c.loop-a.a-index
+    (omega (arith, c.loop-a-test.true, c.as_chunks.ensures.front_len)) _ _ _ _ c.from.ensures c.from-in-loop-a.ensures
     c.from-in-loop-a-2.ensures c.from-in-loop-a-3.ensures)
     c.filled.ensures)

@@ -5,16 +5,16 @@ use lib.ListN.{get_or}
 use borrow.Author.Rules.{rules}
 use Rattle.std.proofs.Math.ListN.{get_or-map}
 use Rattle.reserve.specs.Reserve.{node_places, cell_places}
-use Rattle.reserve.specs.Sheet.{sheet, node_sheet, cell_sheet, nodes_at, cells_at_of}
+use Rattle.reserve.specs.Sheet.{sheet, node_column, cell_column, nodes_at, cells_at_of}
 use Rattle.reserve.proofs.Rows.{sheet-rows}
 use Rattle.reserve.proofs.places_for.Goals as goal
 
 nodes_in_row : (r : ℕ) → (get_or sheet (r - 3) (0, 0)).0 ≡ nodes_at r
-unfolding nodes_at node_sheet
+unfolding nodes_at node_column
 nodes_in_row r = sym (get_or-map (λ (row : ℕ × ℕ). row.0) sheet (r - 3) (0, 0))
 
 cells_in_row : (r : ℕ) → (get_or sheet (r - 3) (0, 0)).1 ≡ cells_at_of r
-unfolding cells_at_of cell_sheet
+unfolding cells_at_of cell_column
 cells_in_row r = sym (get_or-map (λ (row : ℕ × ℕ). row.1) sheet (r - 3) (0, 0))
 
 pub returns-then-cuts-eq32-clause-nodes : goal.returns-then-cuts-eq32-clause-nodes

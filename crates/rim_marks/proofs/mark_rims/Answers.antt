@@ -17,7 +17,8 @@ returns c =
     let d = a.v - a.u in
     let long : length (take d (drop a.u a.rims.now)) ≡ d = simp (length-take, length-drop) (omega (arith, c.requires.0, c.requires.1)) in
     let filled : c.fill.new.self ≡ replicate d 0 = c.fill.ensures.after (λ y e. e) ∙ ap (λ (n : ℕ). replicate n 0) long in
-    let clear = put_mid-paste a.u d a.rims.now c.fill.new.self (replicate d 0) d filled refl (sym (length-replicate d 0)) ∙ sym (cleared-paste a.rims.now a.u d (omega (arith, c.requires.0, c.requires.1))) in
+    let clear = put_mid-paste a.u d a.rims.now c.fill.new.self (replicate d 0) d filled refl (sym (length-replicate d 0))
+    ∙ sym (cleared-paste a.rims.now a.u d (omega (arith, c.requires.0, c.requires.1))) in
     let same = a.round.now.as_many in
     c.set_rims-2.ensures
     ∙ ap (λ (rs : List ℕ). set_at rs a.round.now.middles.now a.sides.now n)

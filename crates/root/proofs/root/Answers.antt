@@ -19,7 +19,8 @@ pub float_from_bits-result : goal.float_from_bits-result
 float_from_bits-result c = no_nan_bits c.root_positive.result c.root_positive.ensures.1
 
 pub returns-then-b-lt9218868437227405312 : goal.returns-then-b-lt9218868437227405312
-returns-then-b-lt9218868437227405312 c = c.root_positive.ensures.0 ∙ ap root_of (of_bits-to_bits binary64 c.args.x (held (goal.at.returns-then-b-lt9218868437227405312 c).Start))
+returns-then-b-lt9218868437227405312 c =
+    c.root_positive.ensures.0 ∙ ap root_of (of_bits-to_bits binary64 c.args.x (held (goal.at.returns-then-b-lt9218868437227405312 c).Start))
 
 pub returns-then-x : goal.returns-then-x
 returns-then-x c = infinite c.args.x (held (goal.at.returns-then-x c).Start) c.if-x.true c.if-b-lt9218868437227405312.false

@@ -13,4 +13,5 @@ pub returns-then-v-b : goal.returns-then-v-b
 returns-then-v-b c =
     let n = c.args.n in
     let a = c.root_head-a.result in
-    over n a (quot n a) (left n a) c.requires.0 c.requires.1 c.root_head-a.ensures (has (goal.at.returns-then-v-b c).After-root_head-a).split (has (goal.at.returns-then-v-b c).After-root_head-a).under c.if-v-b.true
+    over n a (quot n a) (left n a) c.requires.0 c.requires.1 c.root_head-a.ensures
+    (has (goal.at.returns-then-v-b c).After-root_head-a).split (has (goal.at.returns-then-v-b c).After-root_head-a).under c.if-v-b.true

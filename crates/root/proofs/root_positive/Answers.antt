@@ -52,7 +52,8 @@ overflow_sub-n c = (leads (goal.at.overflow_sub-n c).After-from-z).low
 
 pub root_digits-s-requires : goal.root_digits-s-requires
 root_digits-s-requires c =
-    subst (λ (x : ℕ). (2 ^ 52 ≤ x) × (x < 2 ^ 54)) (sym (kept (c.if-f-gt0.m * 2 ^ shift c.if-f-gt0.k c.from-z.result) (handed (goal.at.root_digits-s-requires c).After-from-z)))
+    subst (λ (x : ℕ). (2 ^ 52 ≤ x) × (x < 2 ^ 54))
+    (sym (kept (c.if-f-gt0.m * 2 ^ shift c.if-f-gt0.k c.from-z.result) (handed (goal.at.root_digits-s-requires c).After-from-z)))
     ((handed (goal.at.root_digits-s-requires c).After-from-z).from, omega (arith, (handed (goal.at.root_digits-s-requires c).After-from-z).to))
 
 pub returns : goal.returns

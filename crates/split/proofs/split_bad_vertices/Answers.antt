@@ -1,6 +1,5 @@
 -- `split_bad_vertices`: the start shows the ring alone, and what is left after all pops is read off.
 use Rattle.std.proofs.Common.{◌≡◌, ℕ, ◌≤◌, List, length, take, refl, ap, ◌∙◌, arith}
-use lib.Dec.{lit<}
 use lib.ListN.{get_or-replicate}
 use lib.Seq.{get_or-take, length-take-le}
 use Rattle.vector.specs.Rings.{most_points}
@@ -44,7 +43,8 @@ returns c =
       λ es len. Popped.shows-end ring.points es q.new.self _
           (q.ensures.1 es len _
           (Popped.follows-begin _ _ sl _ _ _ _ _ _ p.new.self p.ensures ring.points es ring.count n
-          (omega (arith, c.requires.0.count, c.requires.0.places)) (omega (arith, len, c.requires.0.count)) (own-front v.result ring.count v.ensures.1 c.requires.0.count))),
+          (omega (arith, c.requires.0.count, c.requires.0.places))
+          (omega (arith, len, c.requires.0.count)) (own-front v.result ring.count v.ensures.1 c.requires.0.count))),
       Popped.held-end q.new.self q.ensures.0,
       q.ensures.0.packed,
     )

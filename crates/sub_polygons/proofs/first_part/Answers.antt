@@ -12,7 +12,8 @@ make_sub_polygon-requires c = (
   omega arith,
   omega arith,
   c.args.part.now.sheet,
-  Segments.seg_straight c.args.part.now.corners.now c.segment.result (length c.args.part.now.corners.now) c.args.v (c.args.k + 1) (omega arith) c.segment.ensures.0,
+  Segments.seg_straight c.args.part.now.corners.now c.segment.result
+      (length c.args.part.now.corners.now) c.args.v (c.args.k + 1) (omega arith) c.segment.ensures.0,
   c.segment.ensures.1,
 )
 
@@ -21,10 +22,12 @@ returns c =
     let g = c.segment in
     let m = c.make_sub_polygon.ensures in (
       λ es len. m.0 es len
-          ∙ Segments.first-is c.args.part.now.ring.now c.args.part.now.corners.now (length c.args.part.now.corners.now) c.args.v c.args.k (omega arith) g.result es (omega arith) g.ensures.0,
+          ∙ Segments.first-is c.args.part.now.ring.now c.args.part.now.corners.now
+          (length c.args.part.now.corners.now) c.args.v c.args.k (omega arith) g.result es (omega arith) g.ensures.0,
       m.1
           ∙ ap turned_area
-          (Segments.first-points c.args.part.now.ring.now c.args.part.now.corners.now (length c.args.part.now.corners.now) c.args.v c.args.k (omega arith) g.result (omega arith) g.ensures.0),
+          (Segments.first-points c.args.part.now.ring.now c.args.part.now.corners.now
+          (length c.args.part.now.corners.now) c.args.v c.args.k (omega arith) g.result (omega arith) g.ensures.0),
       m.2,
       m.3,
       m.4,

@@ -37,12 +37,14 @@ turn c =
     let road =
     YieldsList-from_enumerate {s = c.into_iter-i-iterator.result}
     (YieldsList-from_zip (YieldsList-from_rev_slice vs (cc)) (YieldsList-from_skip 1 (YieldsList-from_rev_slice vs (cc)) (cc))) (cc) in
-    let t = YieldsList-turn road c.loop-i.yielded c.loop-i.i-iterator c.loop-i.yielded_by c.next.result c.next.new.self (x.i, (x.a, x.b)) x.is c.next.ensures.steps in
+    let t = YieldsList-turn road c.loop-i.yielded c.loop-i.i-iterator c.loop-i.yielded_by c.next.result c.next.new.self
+    (x.i, (x.a, x.b)) x.is c.next.ensures.steps in
     let many = length-pairs vs in
     let r = length-reverse vs in
     let l : n + 1 < length vs = omega (arith, t.0, length-enumerate_from 0 (pairs vs), many) in
     let e = t.1 ∙ get_or-enumerate_from 0 (pairs vs) n (x.i, (x.a.now, x.b.now)) (omega (arith, l, many)) in
-    let p = ap (λ (q : ℕ × (Vertex × Vertex)). q.1) e ∙ get_or-zip (reverse vs) (drop 1 (reverse vs)) n (x.a.now, x.b.now) (omega (arith, l, r)) (omega (arith, l, r, length-drop 1 (reverse vs))) in
+    let p = ap (λ (q : ℕ × (Vertex × Vertex)). q.1) e
+    ∙ get_or-zip (reverse vs) (drop 1 (reverse vs)) n (x.a.now, x.b.now) (omega (arith, l, r)) (omega (arith, l, r, length-drop 1 (reverse vs))) in
     let k : length vs - 1 - (1 + n) ≡ length vs - 2 - n = omega arith in (
       l,
       ap (λ (q : ℕ × (Vertex × Vertex)). q.0) e ∙ omega arith,

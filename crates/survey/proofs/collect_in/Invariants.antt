@@ -4,12 +4,12 @@ use mathlib.Core.Path.{◌≡◌}
 use mathlib.Core.List.{List}
 use lib.ListN.{length}
 use lib.Ieee.{Float}
-use Rattle.nodes.specs.declared.nearby.Window.{Window}
+use Rattle.nodes.specs.declared.nearby.RingBox.{RingBox}
 use Rattle.nodes.specs.Nearby.{most_nearby}
 use Rattle.survey.specs.Survey.{GoesOn}
 use Rattle.survey.proofs.collect_in.Given as goal
 
-abbrev pub State : List Float → Window → ℕ → List ℕ → List Float → ℕ → ℕ → List ℕ → List Float → ℕ → Type 0
+abbrev pub State : List Float → RingBox → ℕ → List ℕ → List Float → ℕ → ℕ → List ℕ → List Float → ℕ → Type 0
 State nodes w from numbers₀ xs₀ n i numbers xs k =
     (k ≤ most_nearby) × (length numbers ≡ most_nearby) × (length xs ≡ most_nearby) × GoesOn nodes w from numbers₀ xs₀ n i numbers xs k
 

@@ -8,30 +8,30 @@ use Rattle.svg.specs.Place.{origin}
 use Rattle.svg.proofs.place_of.Goals as goal
 use Rattle.decimals.proofs.Value.{shown-le}
 
-pub returns-then-not-is_held : goal.returns-then-not-is_held
-returns-then-not-is_held c = out-place c.args.x (sym c.is_held.ensures ∙ not-true c.is_held.result c.if-not-is_held.true-raw)
+pub returns-then-not-is_on_sheet : goal.returns-then-not-is_on_sheet
+returns-then-not-is_on_sheet c = out-place c.args.x (sym c.is_on_sheet.ensures ∙ not-true c.is_on_sheet.result c.if-not-is_on_sheet.true-raw)
 
 pub of-d-requires : goal.of-d-requires
-of-d-requires c = within c.args.x (sym c.is_held.ensures ∙ not-false c.is_held.result c.if-not-is_held.false-raw)
+of-d-requires c = within c.args.x (sym c.is_on_sheet.ensures ∙ not-false c.is_on_sheet.result c.if-not-is_on_sheet.false-raw)
 
 pub overflow_sub-result : goal.overflow_sub-result
 overflow_sub-result c =
-    let h = c.is_held in
-    omega (arith, c.of-d.ensures.1, shown-le c.args.x (within c.args.x (sym h.ensures ∙ not-false h.result c.if-not-is_held.false-raw)))
+    let h = c.is_on_sheet in
+    omega (arith, c.of-d.ensures.1, shown-le c.args.x (within c.args.x (sym h.ensures ∙ not-false h.result c.if-not-is_on_sheet.false-raw)))
 
 pub returns-then-d : goal.returns-then-d
 returns-then-d c =
-    let h = c.is_held in
+    let h = c.is_on_sheet in
     ap (λ (n : ℕ). origin - n) c.of-d.ensures.1
-    ∙ low-place c.args.x (sym h.ensures ∙ not-false h.result c.if-not-is_held.false-raw) (sym c.of-d.ensures.0 ∙ c.if-d.true)
+    ∙ low-place c.args.x (sym h.ensures ∙ not-false h.result c.if-not-is_on_sheet.false-raw) (sym c.of-d.ensures.0 ∙ c.if-d.true)
 
 pub overflow_add-result : goal.overflow_add-result
 overflow_add-result c =
-    let h = c.is_held in
-    omega (arith, c.of-d.ensures.1, shown-le c.args.x (within c.args.x (sym h.ensures ∙ not-false h.result c.if-not-is_held.false-raw)))
+    let h = c.is_on_sheet in
+    omega (arith, c.of-d.ensures.1, shown-le c.args.x (within c.args.x (sym h.ensures ∙ not-false h.result c.if-not-is_on_sheet.false-raw)))
 
 pub returns-else-d : goal.returns-else-d
 returns-else-d c =
-    let h = c.is_held in
+    let h = c.is_on_sheet in
     ap (λ (n : ℕ). origin + n) c.of-d.ensures.1
-    ∙ high-place c.args.x (sym h.ensures ∙ not-false h.result c.if-not-is_held.false-raw) (sym c.of-d.ensures.0 ∙ c.if-d.false)
+    ∙ high-place c.args.x (sym h.ensures ∙ not-false h.result c.if-not-is_on_sheet.false-raw) (sym c.of-d.ensures.0 ∙ c.if-d.false)

@@ -19,4 +19,5 @@ send-requires g c =
 pub returns-clause-written : goal.returns-clause-written
 returns-clause-written g c =
     let same = in_front _ _ _ _ c.print-n.ensures in
-    subst (λ (t : List ℕ). OnOk c.send.result (Appends (g.W.Write.contents c.args.output.now) (g.W.Write.contents c.send.new.output) t)) same c.send.ensures.written
+    subst (λ (t : List ℕ). OnOk c.send.result (Appends (g.W.Write.contents c.args.output.now) (g.W.Write.contents c.send.new.output) t))
+    same c.send.ensures.written

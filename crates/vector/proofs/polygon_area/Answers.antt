@@ -21,7 +21,8 @@ loop-i-preserved c =
     let d = signed.back t.result (omega (arith, t.ensures.1)) in
     let e : c.plus-total.result ≡ to_z w64 l.total-bits +ℤ t.result = c.plus-total.ensures ∙ ap (λ (z : ℤ). to_z w64 l.total-bits +ℤ z) d in
     let g : t.result ≡ Fan.triangle (get_or r 0 Grid.origin) (get_or r l.i Grid.origin) (get_or r c.next.result Grid.origin) =
-    t.ensures.0 ∙ ap (λ (p : GridPoint). Fan.triangle p (get_or r l.i Grid.origin) (get_or r c.next.result Grid.origin)) (c.in-Some.ensures.item.3.1 Grid.origin) in
+    t.ensures.0
+    ∙ ap (λ (p : GridPoint). Fan.triangle p (get_or r l.i Grid.origin) (get_or r c.next.result Grid.origin)) (c.in-Some.ensures.item.3.1 Grid.origin) in
     let f : to_z w64 l.total-bits +ℤ t.result ≡ Fan.fan_to r (l.i + 1) =
     rings.fan_step r l.i _ c.loop-i-test.true c.next.ensures.0 _ _ l.invariant g in
     let k : nat_abs c.plus-total.result < 2 ^ 63 =

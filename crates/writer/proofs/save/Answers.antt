@@ -37,8 +37,11 @@ returns-in_err-test-clause-bytes c =
 pub write_block-requires : goal.write_block-requires
 write_block-requires c =
     let a = c.args in
-    let h : 512 ≤ length a.out.now = omega (arith, space (goal.at.write_block-requires c).In_ok-test) in
-    (h, few-ring a.ring.now a.chain.now a.size a.number (length a.out.now) (passed (goal.at.write_block-requires c).In_ok-test), omega (arith, low (goal.at.write_block-requires c).In_ok-test))
+    let h : 512 ≤ length a.out.now = omega (arith, space (goal.at.write_block-requires c).In_ok-test) in (
+      h,
+      few-ring a.ring.now a.chain.now a.size a.number (length a.out.now) (passed (goal.at.write_block-requires c).In_ok-test),
+      omega (arith, low (goal.at.write_block-requires c).In_ok-test),
+    )
 
 pub slice_bounds-write_block-count : goal.slice_bounds-write_block-count
 slice_bounds-write_block-count c = omega (arith, long (goal.at.slice_bounds-write_block-count c).After-write_block)

@@ -4,7 +4,6 @@ use native.Mathlib.Omega.{arith}
 use Rattle.text.proofs.Pages.{wrote_none, room-one, room-two, wrote-two, room-turn, wrote-turn}
 use Rattle.frame.specs.Head as Head
 use Rattle.frame.proofs.Frame.put_ticks.Goals as goal
-use Rattle.frame.proofs.Frame.put_ticks.Goals.{After-put_below}
 
 pub loop-i-init : goal.loop-i-init
 unfolding Head.ticks_text

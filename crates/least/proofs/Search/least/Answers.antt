@@ -17,7 +17,8 @@ returns c =
     let r = c.find_map.ensures.runs in
     let u = r.0 in
     let up : ItemsCountUp u 3 (points a.ring.now + 1) =
-    subst (λ (x : ℕ). ItemsCountUp u x (points a.ring.now + 1)) (ap (λ x. x.start) r.1) (subst (λ (x : ℕ). ItemsCountUp u u.from.start x) (ap (λ x. x.end) r.1 ∙ ap (λ (n : ℕ). n + 1) c.points.ensures) (range_runs u u.seen)) in
+    subst (λ (x : ℕ). ItemsCountUp u x (points a.ring.now + 1)) (ap (λ x. x.start) r.1)
+    (subst (λ (x : ℕ). ItemsCountUp u u.from.start x) (ap (λ x. x.end) r.1 ∙ ap (λ (n : ℕ). n + 1) c.points.ensures) (range_runs u u.seen)) in
     least_found t w n (points a.ring.now) c.find_map.result
     (first_mapped _ u (λ k y. (y < n) × (first_of_count t w n k ≡ y)) (λ k. first_of_count t w n k ≡ n) (λ x y q. search rules) (λ x q. search rules)
     (λ x y q p. search rules) 3 (points a.ring.now + 1) up c.find_map.result r.2)

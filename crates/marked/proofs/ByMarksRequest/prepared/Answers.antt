@@ -16,7 +16,8 @@ points-own-requires c =
 pub surviving_marks-edges-requires : goal.surviving_marks-edges-requires
 surviving_marks-edges-requires c =
     let r = c.args.self.ring.now in (
-      marks-of c.requires.0 r (lent_in c.args.self.marking) c.args.self.size (tested _ _ _ _ c.requires.1) c.points-own.result c.points-own.ensures.1 (ap (λ (w : Ring). w.count) c.points-own.ensures.0)
+      marks-of c.requires.0 r (lent_in c.args.self.marking) c.args.self.size
+          (tested _ _ _ _ c.requires.1) c.points-own.result c.points-own.ensures.1 (ap (λ (w : Ring). w.count) c.points-own.ensures.0)
           (read r c.points-own.result c.points-own.ensures.0) c.clean_polygon-clean.result c.clean_polygon-clean.ensures,
       (tested _ _ _ _ c.requires.1).outline,
     )
@@ -24,6 +25,7 @@ surviving_marks-edges-requires c =
 pub returns : goal.returns
 returns c =
     let r = c.args.self.ring.now in
-    prepares c.requires.0 r (lent_in c.args.self.marking) c.args.self.size (tested _ _ _ _ c.requires.1) c.points-own.result c.points-own.ensures.1 (ap (λ (w : Ring). w.count) c.points-own.ensures.0)
+    prepares c.requires.0 r (lent_in c.args.self.marking) c.args.self.size
+    (tested _ _ _ _ c.requires.1) c.points-own.result c.points-own.ensures.1 (ap (λ (w : Ring). w.count) c.points-own.ensures.0)
     (read r c.points-own.result c.points-own.ensures.0) c.clean_polygon-clean.result c.clean_polygon-clean.ensures c.surviving_marks-edges.result
     c.surviving_marks-edges.ensures

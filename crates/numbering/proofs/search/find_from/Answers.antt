@@ -1,4 +1,4 @@
-use Rattle.std.proofs.Common.{◌∙◌, ◌≡◌, sym, arith, refl, ℕ, suc, ◌+◌, ◌-◌, ◌≤◌, ◌<◌}
+use Rattle.std.proofs.Common.{◌∙◌, ◌≡◌, sym, arith, refl, ℕ, suc, ◌+◌, ◌≤◌, ◌<◌}
 use native.Mathlib.Decide.{dec_le}
 use Rattle.numbering.proofs.Found.{block_hit, block_pass, ends}
 use Rattle.numbering.proofs.search.find_from.Goals as goal
@@ -29,7 +29,8 @@ pub returns-in_default : goal.returns-in_default
 returns-in_default g c =
     let e = c.block_end-to.ensures in
     let t = last c.len-count.result c.loop-start.start c.block_end-to.result e.0 e.1 (omega arith) e.4 in
-    rw (← c.len-count.ensures) (ends _ _ _ _ (block_pass _ _ _ _ _ (omega (arith, e.0)) e.1 c.loop-start.invariant.1 (sym c.in_default.is ∙ c.find_block.ensures)) t)
+    rw (← c.len-count.ensures)
+    (ends _ _ _ _ (block_pass _ _ _ _ _ (omega (arith, e.0)) e.1 c.loop-start.invariant.1 (sym c.in_default.is ∙ c.find_block.ensures)) t)
 
 pub returns-else-count-from-lt16 : goal.returns-else-count-from-lt16
 returns-else-count-from-lt16 g c = rw (← c.len-count.ensures) (ends _ _ _ _ c.loop-start.invariant.1 (omega (arith, c.loop-start.invariant.0)))

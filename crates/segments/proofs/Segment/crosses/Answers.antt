@@ -26,5 +26,6 @@ returns-else-interior c =
       | then-den-ne0 w ↦
           crossing.outside _ _ _ _ _ _ _ d1 d2 ac _ c.cross-den.ensures w.if-den-ne0.true _ w.cross.ensures _ w.ratio.ensures _ w.interior.ensures
           _ w.value-is c.if-interior.false
-      | else-den-ne0 w ↦ crossing.parallel _ _ _ _ _ _ _ d1 d2 ac _ c.cross-den.ensures w.if-den-ne0.false _ (w.value-is ∙ crossing.none c.cross-den.result w.if-den-ne0.false)
+      | else-den-ne0 w ↦
+          crossing.parallel _ _ _ _ _ _ _ d1 d2 ac _ c.cross-den.ensures w.if-den-ne0.false _ (w.value-is ∙ crossing.none c.cross-den.result w.if-den-ne0.false)
     ]

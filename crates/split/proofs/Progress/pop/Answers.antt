@@ -42,7 +42,8 @@ chosen g k e = sym (ap answer e) ∙ g.split_polygon_at.ensures
 range : (g : After-split_polygon_at) (k : ℕ) → g.split_polygon_at.result ≡ Some k
     → (2 ≤ k) × (k + 2 ≤ length g.part-vs.result.now) × (g.args.self.now.done.cuts < 32)
 range g k e =
-    let r = Popped.range g.args.limits (points g) g.args.self.now.done.cuts (at g) k (length g.part-vs.result.now) (length_tab _ _) (omega (arith, g.part-vs.ensures.size.1)) (chosen g k e) in
+    let r = Popped.range g.args.limits (points g) g.args.self.now.done.cuts (at g) k
+    (length g.part-vs.result.now) (length_tab _ _) (omega (arith, g.part-vs.ensures.size.1)) (chosen g k e) in
     (r.0, r.1, omega (arith, r.2, g.requires.3))
 
 -- the top's place, and that it is there

@@ -4,4 +4,4 @@ use Rattle.text.proofs.Forms.{Filling}
 use Rattle.text.proofs.Page.form.Given as goal
 
 abbrev pub invariant-loop-b : goal.invariant-loop-b
-invariant-loop-b g l = Filling g.M.Marks.stands g.M.Marks.takes l.form l.numbers l.initial.self (iter_rest l.left) l.b-index l.self
+invariant-loop-b g l = Filling g.M.Slots.stands g.M.Slots.takes l.form l.numbers l.initial.self (iter_rest l.left) l.b-index l.self

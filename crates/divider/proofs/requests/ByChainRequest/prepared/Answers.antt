@@ -4,7 +4,7 @@ use mathlib.Core.Path.{subst}
 use mathlib.Core.List.{List}
 use lib.ListN.{length}
 use Rattle.vector.specs.declared.GridPoint.{GridPoint}
-use Rattle.chain.specs.Kept.{stretches_in, Simplifies}
+use Rattle.chain.specs.Stretches.{stretches_in, Simplifies}
 use Rattle.marks.specs.Edges.{Marked}
 use Rattle.divider.proofs.Preparing.{reads, read, prepares}
 use Rattle.divider.proofs.requests.ByChainRequest.prepared.Goals as goal

@@ -23,7 +23,8 @@ returns-in-Closed c =
 pub returns-in-None : goal.returns-in-None
 returns-in-None c =
     let a = c.args in
-    ring_full a.x a.y a.o a.self.now.ring a.self.now.chain a.self.now.out c.requires c.in-Ring.is _ c.fails-in-None.result c.in-None.ensures c.fails-in-None.ensures
+    ring_full a.x a.y a.o a.self.now.ring a.self.now.chain
+    a.self.now.out c.requires c.in-Ring.is _ c.fails-in-None.result c.in-None.ensures c.fails-in-None.ensures
 
 pub returns-in-Some : goal.returns-in-Some
 returns-in-Some c =
@@ -40,8 +41,9 @@ returns-in-None-put_point c =
 pub returns-in-Some-put_point : goal.returns-in-Some-put_point
 returns-in-Some-put_point c =
     let a = c.args in
-    chain_more a.x a.y a.o a.self.now.ring a.self.now.chain a.self.now.out c.requires c.in-Chain.is c.put_point-in-Chain.new.places c.in-Some-put_point.run' (
+    chain_more a.x a.y a.o a.self.now.ring a.self.now.chain
+    a.self.now.out c.requires c.in-Chain.is c.put_point-in-Chain.new.places c.in-Some-put_point.chain_points (
       c.in-Some-put_point.ensures.0,
       c.in-Some-put_point.ensures.1,
-      c.in-Some-put_point.ensures.2 ∙ as_passed a.x a.y c.ranges.x c.ranges.y (take (a.o.run * 2) a.self.now.chain),
+      c.in-Some-put_point.ensures.2 ∙ as_passed a.x a.y c.ranges.x c.ranges.y (take (a.o.chain_points * 2) a.self.now.chain),
     )

@@ -9,6 +9,7 @@ use Rattle.parts.proofs.list.RingPart.rotated_points.Given as goal
 abbrev pub invariant-loop-i : goal.invariant-loop-i
 invariant-loop-i l =
     (length l.out.points ≡ 60) × (l.out.count ≡ length l.self.corners.now)
-    × (take (length l.yielded) l.out.points ≡ tab (λ k. corner_point l.self.ring.now l.self.corners.now ((l.v + k) % length l.self.corners.now)) (length l.yielded))
+    × (take (length l.yielded) l.out.points
+    ≡ tab (λ k. corner_point l.self.ring.now l.self.corners.now ((l.v + k) % length l.self.corners.now)) (length l.yielded))
     × AllOnSheet l.out.points
     × ((k : ℕ) → length l.yielded ≤ k → get_or l.out.points k origin ≡ origin)
