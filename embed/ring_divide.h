@@ -81,8 +81,8 @@
  * What the library takes:
  *
  *   stack      NAME_STACK bytes a call of NAME, as read from the compiled code by embed/stack (no function calls itself);
- *              what memcpy, memmove and memset take comes on top
- *   functions  memcpy, memmove and memset, and no other
+ *              what memcpy and memset take comes on top
+ *   functions  memcpy and memset, and no other
  *   data       none that is written, so it is re-entrant: calls on other lists may run at the same time or interrupt one another
  *   doubles    rounding to nearest, subnormals kept: the mode that a program starts in
  *   processor  the archive is for x86-64, its base instructions (SSE2), with the calling convention of Linux. That is the one
@@ -99,15 +99,15 @@
 extern "C" {
 #endif
 
-#define RING_DIVIDE_STACK 27072
-#define RING_DIVIDE_PRACTICE_STACK 27120
-#define RING_DIVIDE_SET_STACK 27072
-#define RING_DIVIDE_MARKED_SET_STACK 23584
-#define RING_DIVIDE_MARKED_STACK 23584
-#define SMALLEST_REFUSED_STACK 28768
+#define RING_DIVIDE_STACK 27168
+#define RING_DIVIDE_PRACTICE_STACK 27216
+#define RING_DIVIDE_SET_STACK 27168
+#define RING_DIVIDE_MARKED_SET_STACK 24144
+#define RING_DIVIDE_MARKED_STACK 24144
+#define SMALLEST_REFUSED_STACK 28864
 #define BLOCKS_WRITE_STACK 56
-#define NODE_SHEET_STACK 208
-#define WEAR_ADD_STACK 40
+#define NODE_SHEET_STACK 192
+#define WEAR_ADD_STACK 32
 #define RING_ROOT_BITS_STACK 8
 
 #define BLOCKS_WRITE_BYTES 1024

@@ -8,10 +8,11 @@ use Rattle.vector.specs.Rings.{most_points}
 use Rattle.marks.specs.declared.EdgeMark.TheVariants.{Snap}
 use Rattle.marks.specs.Part.{Part, no_part}
 use Rattle.nodes.specs.Growth.{InRange}
+use Rattle.quads.specs.Quads.{middle, mean}
 use Rattle.quads.specs.Flat.{Listed}
 use Rattle.cells.specs.Cells.{Attempt, subdivide}
 use Rattle.cells.specs.Pieces.{Outcome, done, failed, nodes_over, cells_over}
-use Rattle.cells.specs.Stages.{mark_at}
+use Rattle.cells.specs.Stages.{end, mark_at, first_nodes}
 
 -- ---- what a piece brings: at most 60 corners, on the sheet, and snap points that are finite and within 1,024 mm
 pub record ValidPiece (p : Part) : Type 0 where
@@ -19,6 +20,14 @@ pub record ValidPiece (p : Part) : Type 0 where
   pub few : length p.points ≤ most_points
   pub corner : (i : ℕ) → i < length p.points → OnSheet (get_or p.points i origin)
   pub snap : (i : ℕ) (q : Point) → i < length p.points → mark_at p i ≡ Snap q → InRange q
+
+-- ---- the second attempt at a piece, over the nodes that the first left, has the first one's corners, straight middles and centre
+pub record SameStart (share : Float) (ns : List Point) (p : Part) : Type 0 where
+  pub corner : (i : ℕ) → end (first_nodes share ns p) p.points i ≡ end ns p.points i
+  pub middle : (i : ℕ)
+      → middle (end (first_nodes share ns p) p.points i) (end (first_nodes share ns p) p.points (suc i)) ≡ middle (end ns p.points i)
+      (end ns p.points (suc i))
+  pub centre : mean (end (first_nodes share ns p) p.points) (length p.points) ≡ mean (end ns p.points) (length p.points)
 
 -- ---- cells
 -- an attempt at n corners gives n cells, of listed nodes

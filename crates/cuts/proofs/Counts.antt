@@ -4,6 +4,7 @@
 --   the cuts are at most those of the set, and at most n - 3;
 --   the pieces are one more than the cuts, and their corners are n and two for each cut;
 --   the log holds each cut.
+-- THEOREM `marked-sound`. The ring that a divider call splits, three points or more with their marks, is such a ring.
 use Prim.Native.Nat.{ℕ, ◌+◌, ◌*◌, ◌≤◌}
 use native.Mathlib.Omega.{arith}
 use mathlib.Core.Path.{◌≡◌, refl, ap}
@@ -11,7 +12,11 @@ use mathlib.Core.List.{List, [], ◌∷◌, ◌++◌}
 use lib.ListN.{length, length-append}
 use Rattle.laws.specs.All.{All}
 use Rattle.laws.proofs.Lists.{all_snoc}
+use Rattle.vector.specs.declared.GridPoint.{GridPoint}
+use Rattle.chain.specs.Chain.{Stretch}
 use Rattle.marks.specs.Part.{Part}
+use Rattle.marks.specs.Marks.{marked}
+use Rattle.marks.proofs.SnapRange.{marks-many}
 use Rattle.limits.specs.declared.Limits.{Limits}
 use Rattle.split.specs.Split.{Stack, split_bad_vertices}
 use Rattle.cuts.specs.Counts.{Sound, corners, Counted}
@@ -71,3 +76,7 @@ counted L p s =
       corners = m;
       logged = c.logged;
     }
+
+pub marked-sound : (c : List Stretch) (r : List GridPoint) → 3 ≤ length r → Sound (marked c r)
+unfolding marked
+marked-sound c r h = record { three = h; edged = marks-many c r (length r) }

@@ -20,7 +20,8 @@ ghost use Rattle.table.specs.Refusals.{first_of};
 ghost use Rattle.call.specs.Divide.{Whole, outcome_of, answered, core, ring_tests};
 ghost use Rattle.call.specs.Lent.{lent, lent_lists};
 ghost use Rattle.divider.specs.Promise.{Leaves, Promise};
-ghost use Rattle.divider.specs.Steps.{lists_in, returned, CanDivideRing, divide_by, divide_into, HasRoom};
+ghost use Rattle.entry.specs.Refusal.{lists_refusal};
+ghost use Rattle.divider.specs.Steps.{Passing, lists_in, returned, CanDivideRing, divide_by, divide_into, HasRoom};
 
 mod requests;
 
@@ -111,7 +112,7 @@ fn lay_out(
 
 // The core, which every entry calls: a ring of `own` points, cleaned and with its marks, wherever they came from, and the
 // used nodes nearby. Refusals 5 to 7, or its pieces and their cells.
-fn divide_core(
+pub fn divide_core(
     limits: Limits,
     ring: &MarkedRing,
     own: usize,
@@ -152,6 +153,80 @@ pub struct CellRoom {
     pub at: usize,
 }
 
+// Kept: the steps of a call are three functions, though they are one walk. What a function holds is cleared as it begins: a
+// call that an early test refuses is not to pay for the nodes nearby, nor one that a test of the lists refuses for the ring.
+
+// The last steps of a call that no test before the core refuses: the ring that is prepared, and the core.
+fn prepared_steps<R: Request>(
+    limits: Limits,
+    request: R,
+    nodes: &mut [f64],
+    node_count: usize,
+    rims: &mut [u8],
+    cells: &mut [NodeNumber],
+    room: CellRoom,
+    found: Collected<'_>,
+) -> Result<Answer, Refusal>
+    requires room { HasRoom limits room cells.old }
+    requires tested { R.early limits request ≡ 0 }
+    requires passing { Passing limits (R.points request) (R.part request) }
+    requires lists { (cs : List Cell) → length cs ≡ room.places
+        → lists_refusal limits (R.points request) (lent_lists nodes.old node_count rims.old cs room.used) ≡ 0 }
+    requires nearby { ValidCollected nodes.old node_count found }
+    ensures { (cs : List Cell) → length cs ≡ room.places
+        → Leaves (divide_by limits (R.early limits request) (R.points request) (R.part request)
+        (lent_lists nodes.old node_count rims.old cs room.used) (lists_in nodes.old node_count rims.old cells.old room.at))
+        (returned result node_count room.at) nodes.old nodes.new rims.new cells.old cells.new }
+{
+    let own = request.own();
+    let marked = request.prepared();
+    divide_core(
+        limits, &marked, own, nodes, node_count, rims, cells, room.at, found,
+    )
+}
+
+// The steps of a call that no early test refuses: the tests of the lists, and the last steps.
+fn tested_steps<R: Request>(
+    limits: Limits,
+    request: R,
+    nodes: &mut [f64],
+    node_count: usize,
+    rims: &mut [u8],
+    cells: &mut [NodeNumber],
+    room: CellRoom,
+) -> Result<Answer, Refusal>
+    requires room { HasRoom limits room cells.old }
+    requires tested { R.early limits request ≡ 0 }
+    requires passing { Passing limits (R.points request) (R.part request) }
+    ensures { (cs : List Cell) → length cs ≡ room.places
+        → Leaves (divide_by limits (R.early limits request) (R.points request) (R.part request)
+        (lent_lists nodes.old node_count rims.old cs room.used) (lists_in nodes.old node_count rims.old cells.old room.at))
+        (returned result node_count room.at) nodes.old nodes.new rims.new cells.old cells.new }
+{
+    let own = request.own();
+    let w = request.ring_box(limits);
+    let mut numbers = [0; MOST_NEARBY];
+    let mut xs = [0.0; MOST_NEARBY];
+    let near = entry::lists_refusal(
+        limits,
+        own,
+        nodes,
+        node_count,
+        rims,
+        room.places,
+        room.used,
+        w,
+        &mut numbers,
+        &mut xs,
+    )?;
+    let found = Collected {
+        near,
+        numbers: &numbers,
+        xs: &xs,
+    };
+    prepared_steps(limits, request, nodes, node_count, rims, cells, room, found)
+}
+
 // The steps of a call: its tests, the ring that is prepared, and the core. The first that refuses ends them.
 fn divide_steps<R: Request>(
     limits: Limits,
@@ -169,31 +244,7 @@ fn divide_steps<R: Request>(
         (returned result node_count room.at) nodes.old nodes.new rims.new cells.old cells.new }
 {
     request.refusal(limits)?;
-    let own = request.own();
-    let w = request.ring_box(limits);
-    let mut numbers = [0; MOST_NEARBY];
-    let mut xs = [0.0; MOST_NEARBY];
-    let near = entry::lists_refusal(
-        limits,
-        own,
-        nodes,
-        node_count,
-        rims,
-        room.places,
-        room.used,
-        w,
-        &mut numbers,
-        &mut xs,
-    )?;
-    let marked = request.prepared();
-    let found = Collected {
-        near,
-        numbers: &numbers,
-        xs: &xs,
-    };
-    divide_core(
-        limits, &marked, own, nodes, node_count, rims, cells, room.at, found,
-    )
+    tested_steps(limits, request, nodes, node_count, rims, cells, room)
 }
 
 // A request with a set of limits, its cells written as numbers: every entry, whatever the marks come from.

@@ -1,11 +1,11 @@
 -- The loop of `draw`: what holds between two bytes, what it writes, and how a text ends. Definitions only.
-use Rattle.std.specs.Prelude.{ℕ, ◌+◌, ◌*◌, ◌≤◌, ◌≡◌, Bool, cond, Option, Some, None, List, [], ◌∷◌, ◌++◌, length}
+use Rattle.std.specs.Prelude.{ℕ, ◌+◌, ◌*◌, ◌≤◌, ◌≡◌, Bool, cond, ltb, Option, Some, None, List, [], ◌∷◌, ◌++◌, length}
 use Rattle.std.specs.Io.KnownBytes.{Appends}
 use Rattle.drawing.specs.declared.State.{State}
 use Rattle.drawing.specs.declared.held.Drawing.{Drawing}
 use Rattle.drawing.specs.Parsing.{Parser, parser_of, fed, ends, Run, after, ran, finished, latest_first}
 use Rattle.drawing.specs.declared.Wrong.{Wrong}
-use Rattle.drawing.specs.declared.Wrong.TheVariants.{Refused, Misread, NoRing, RingFull, ChainFull, SecondChain, LongLine, LongText}
+use Rattle.drawing.specs.declared.Wrong.TheVariants.{Refused, Misread, NoRing, RingFull, ChainFull, SecondChain, LongLine, LongText, Other}
 use Rattle.draw.specs.declared.Bad.{Bad}
 use Rattle.draw.specs.declared.Ended.{Ended}
 
@@ -51,6 +51,7 @@ line_of s ChainFull = s.line
 line_of s SecondChain = s.line
 line_of s LongLine = s.line
 line_of s LongText = s.line
+line_of s (Other n) = cond (ltb n 21) s.draft.began s.line
 
 abbrev pub bad_of : Option Wrong → State → Option Bad
 bad_of None s = None

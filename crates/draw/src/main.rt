@@ -13,18 +13,15 @@ ghost use Rattle.std.specs.Prelude.{◌≡◌, ◌+◌, [], length, None, IfOk, 
 ghost use Rattle.std.specs.Io.KnownBytes.{Appends, Consumes};
 ghost use Rattle.drawing.specs.Drawing.{number_of};
 ghost use Rattle.drawing.specs.Parsing as Parsing;
-ghost use Rattle.drawing.specs.declared.Wrong.TheVariants.{Refused, Misread};
 ghost use Rattle.draw.specs.declared.Failure.TheVariants.{Reading, Writing};
 ghost use Rattle.draw.specs.Reached.{Reached, LineEnded, Sendable, Ends, step_of, closing, ending, line_of, written};
 ghost use Rattle.draw.specs.Given.{Gave, Gives, Broken};
 ghost use Rattle.draw.specs.Said.{came_to, said, number_of_failure};
 
 use drawing::{Drawing, State, Wrong};
-use lines::Fault;
 use std::io;
 use std::io::{Read, Write};
 use stream::WriteFailed;
-use writer::Refusal;
 
 // Why a run can be cut short: the input cannot be read, or the output written.
 #[derive(Clone, Copy, Debug, PartialEq, Eq)]
@@ -63,6 +60,7 @@ fn line_of(s: State, wrong: Wrong) -> u32
 {
     match wrong {
         Wrong::Refused(_) => s.draft.began,
+        Wrong::Other(number) if number < 21 => s.draft.began,
         _ => s.line,
     }
 }
@@ -169,45 +167,26 @@ fn draw<R: Read, W: Write>(input: &mut R, output: &mut W) -> Result<Ended, Failu
     Ok(end_of(d.state, sent))
 }
 
-// The words for what the writer refuses. No coordinate that a line says is off the sheet, so that 2 has no words of its own.
-#[tactic(auto, unfolding(crate::specs::Said::said, crate::specs::Said::said_more, text::specs::Text::bytes))]
-fn refused_words(refusal: Refusal) -> &'static [u8]
-    ensures { result.now ≡ said (number_of (Refused refusal)) }
-{
-    match refusal {
-        Refusal::Counts => b"expected 3 to 60 points in the ring that begins here\n",
-        Refusal::Units => b"draw: standard output failed\n",
-        Refusal::Destination => b"expected no more than 32768 rings\n",
-    }
-}
-
-#[tactic(auto, unfolding(crate::specs::Said::said, crate::specs::Said::said_more, text::specs::Text::bytes))]
-fn misread_words(fault: Fault) -> &'static [u8]
-    ensures { result.now ≡ said (number_of (Misread fault)) }
-{
-    match fault {
-        Fault::Unknown => {
-            b"expected `ring SIZE`, `chain`, or a point `x y` in mm, such as 12.5 -3\n"
-        }
-        Fault::NoSize => b"expected a sheet size after `ring`, a whole number from 1 to 2048\n",
-        Fault::Beyond => b"expected coordinates from -1024 to 1024 mm\n",
-    }
-}
-
-// The words for what is wrong.
+// The words for what is wrong, by its number, since a `Wrong` may hold any. No coordinate that a line says is off the sheet, so
+// that 2 has no words of its own.
 #[tactic(auto, unfolding(crate::specs::Said::said, crate::specs::Said::said_more, text::specs::Text::bytes))]
 fn words(wrong: Wrong) -> &'static [u8]
     ensures { result.now ≡ said (number_of wrong) }
 {
-    match wrong {
-        Wrong::Refused(refusal) => refused_words(refusal),
-        Wrong::Misread(fault) => misread_words(fault),
-        Wrong::NoRing => b"expected `ring SIZE` before the first point or `chain`\n",
-        Wrong::RingFull => b"expected no more than 60 points in a ring\n",
-        Wrong::ChainFull => b"expected no more than 60 points in a chain\n",
-        Wrong::SecondChain => b"expected no more than one `chain` in a ring\n",
-        Wrong::LongLine => b"expected no more than 80 characters beside a comment\n",
-        Wrong::LongText => b"expected no more than 16777216 characters in a drawing\n",
+    match u32::from(wrong) {
+        1 => b"expected 3 to 60 points in the ring that begins here\n",
+        12 => b"expected no more than 32768 rings\n",
+        21 => b"expected `ring SIZE`, `chain`, or a point `x y` in mm, such as 12.5 -3\n",
+        22 => b"expected a sheet size after `ring`, a whole number from 1 to 2048\n",
+        23 => b"expected coordinates from -1024 to 1024 mm\n",
+        24 => b"expected `ring SIZE` before the first point or `chain`\n",
+        25 => b"expected no more than 60 points in a ring\n",
+        26 => b"expected no more than 60 points in a chain\n",
+        27 => b"expected no more than one `chain` in a ring\n",
+        28 => b"expected no more than 80 characters beside a comment\n",
+        29 => b"expected no more than 16777216 characters in a drawing\n",
+        30 => b"draw: standard input failed\n",
+        _ => b"draw: standard output failed\n",
     }
 }
 
@@ -230,7 +209,9 @@ fn main(rt: HostRuntime) {
         }
         Ok(Ended { bad: None, .. }) => {}
         Ok(Ended { bad: Some(bad), .. }) => {
-            let _ = write!(output, "line {}: ", bad.line);
+            let _ = stream::write_all(&mut output, b"line ");
+            let _ = stream::print_decimal(&mut output, u64::from(bad.line));
+            let _ = stream::write_all(&mut output, b": ");
             let _ = stream::write_all(&mut output, words(bad.wrong));
         }
     }

@@ -14,7 +14,7 @@ use Rattle.writer.proofs.Passed.{low-number, agrees}
 use Rattle.drawing.specs.declared.Wrong.{Wrong}
 use Rattle.drawing.specs.declared.Wrong.TheVariants.{Refused}
 use Rattle.drawing.specs.declared.Phase.{Phase}
-use Rattle.drawing.specs.declared.Phase.TheVariants.{Closed, Ring, Chain}
+use Rattle.drawing.specs.declared.Phase.TheVariants.{Closed, Ring, Chain, Other}
 use Rattle.drawing.specs.declared.Draft.{Draft}
 use Rattle.drawing.specs.Drawing.{Drawn, before, failed, still, complete, closed_of, closes_at, closes, begun_of, afresh, begins, ValidDraft, Did}
 
@@ -27,6 +27,7 @@ opened d k = go d.draft.phase k
     go Closed k = absurd (k refl)
     go Ring k = refl
     go Chain k = refl
+    go (Other n) k = refl
 
 module _ (o : Draft) (ring chain : List ℤ) (out : List ℕ) (f : ValidDraft o) where
   abbrev D : Drawn

@@ -9,9 +9,9 @@ use Rattle.writer.specs.declared.Refusal.{Refusal}
 use Rattle.writer.specs.Write as Write
 use Rattle.writer.specs.Write.{tested, pair_bytes}
 use Rattle.drawing.specs.declared.Wrong.{Wrong}
-use Rattle.drawing.specs.declared.Wrong.TheVariants.{Refused, Misread, NoRing, RingFull, ChainFull, SecondChain, LongLine, LongText}
+use Rattle.drawing.specs.declared.Wrong.TheVariants.{Refused, Misread, NoRing, RingFull, ChainFull, SecondChain, LongLine, LongText, Other as OtherWrong}
 use Rattle.drawing.specs.declared.Phase.{Phase}
-use Rattle.drawing.specs.declared.Phase.TheVariants.{Closed, Ring, Chain}
+use Rattle.drawing.specs.declared.Phase.TheVariants.{Closed, Ring, Chain, Other}
 use Rattle.drawing.specs.declared.Draft.{Draft}
 use Rattle.drawing.specs.declared.held.Lists.{Lists}
 
@@ -25,10 +25,21 @@ number_of ChainFull = 26
 number_of SecondChain = 27
 number_of LongLine = 28
 number_of LongText = 29
+number_of (OtherWrong n) = n
 
 abbrev pub said_of : Option Wrong → ℕ
 said_of None = 0
 said_of (Some w) = number_of w
+
+-- the number of a phase, and the phase of a number
+abbrev pub number_of_phase : Phase → ℕ
+number_of_phase Closed = 0
+number_of_phase Ring = 1
+number_of_phase Chain = 2
+number_of_phase (Other n) = n
+
+abbrev pub phase_of : ℕ → Phase
+phase_of n = cond (eqb n 0) Closed (cond (eqb n 1) Ring (cond (eqb n 2) Chain (Other n)))
 
 -- the ring that is open, its points and its chain's, x and y in turn, and the blocks that the last line wrote
 pub record Drawn : Type 0 where
@@ -76,6 +87,7 @@ abbrev pub closes_at : Phase → Drawn → Drawn
 closes_at Closed d = stays d
 closes_at Ring d = complete (tested d.ring d.chain d.draft.size d.draft.block 1024) d
 closes_at Chain d = complete (tested d.ring d.chain d.draft.size d.draft.block 1024) d
+closes_at (Other n) d = complete (tested d.ring d.chain d.draft.size d.draft.block 1024) d
 
 unfoldable pub closes : Drawn → Drawn
 closes d = closes_at d.draft.phase d
@@ -96,6 +108,7 @@ abbrev pub chain_at : Phase → Draft → Draft
 chain_at Closed o = failed o NoRing
 chain_at Chain o = failed o SecondChain
 chain_at Ring o = record o { phase = Chain; wrote = false }
+chain_at (Other n) o = record o { phase = Chain; wrote = false }
 
 abbrev pub chain_of : Draft → Draft
 chain_of o = chain_at o.phase o
@@ -117,6 +130,7 @@ joined n ps x y = cond (eqb n 60) ps (ps ++ point_of x y)
 abbrev pub points_at : Phase → ℤ → ℤ → Drawn → Drawn
 points_at Closed x y d = fails NoRing d
 points_at Ring x y d = record { draft = corner_of d.draft; ring = joined d.draft.corners d.ring x y; chain = d.chain; out = [] }
+points_at (Other n) x y d = record { draft = corner_of d.draft; ring = joined d.draft.corners d.ring x y; chain = d.chain; out = [] }
 points_at Chain x y d = record { draft = chain_point_of d.draft; ring = d.ring; chain = joined d.draft.chain_points d.chain x y; out = [] }
 
 unfoldable pub points : ℤ → ℤ → Drawn → Drawn

@@ -29,6 +29,8 @@ pub enum Wrong {
     SecondChain,
     LongLine,
     LongText,
+    // Another number, which no step says: a state that a caller makes may hold any.
+    Other(u32),
 }
 
 // The number that is said of it.
@@ -45,6 +47,7 @@ impl From<Wrong> for u32 {
             Wrong::SecondChain => 27,
             Wrong::LongLine => 28,
             Wrong::LongText => 29,
+            Wrong::Other(number) => number,
         }
     }
 }
@@ -80,6 +83,36 @@ pub enum Phase {
     Closed,
     Ring,
     Chain,
+    // Another number than 0 to 2, which no step makes: a state that a caller makes may hold any. A ring is open, as at `Ring`.
+    Other(u32),
+}
+
+// Its number: 0, 1 and 2, or that other one.
+impl From<Phase> for u32 {
+    ghost from_gives = { λ phase n. n ≡ Draws.number_of_phase phase };
+
+    fn from(phase: Phase) -> u32 {
+        match phase {
+            Phase::Closed => 0,
+            Phase::Ring => 1,
+            Phase::Chain => 2,
+            Phase::Other(number) => number,
+        }
+    }
+}
+
+// The phase of a number.
+impl From<u32> for Phase {
+    ghost from_gives = { λ n phase. phase ≡ Draws.phase_of n };
+
+    fn from(number: u32) -> Phase {
+        match number {
+            0 => Phase::Closed,
+            1 => Phase::Ring,
+            2 => Phase::Chain,
+            _ => Phase::Other(number),
+        }
+    }
 }
 
 // The ring that is open: the line that it begins at; its sheet size and how many points there are of it and of its chain; the
@@ -189,7 +222,7 @@ impl Lists {
     {
         match o.phase {
             Phase::Closed => o.fails(Wrong::NoRing),
-            Phase::Ring => match put_point(&mut self.ring, o.corners, x, y) {
+            Phase::Ring | Phase::Other(_) => match put_point(&mut self.ring, o.corners, x, y) {
                 None => o.fails(Wrong::RingFull),
                 Some(corners) => Draft {
                     corners,
@@ -230,7 +263,7 @@ fn chain_line(o: Draft) -> Draft
     match o.phase {
         Phase::Closed => o.fails(Wrong::NoRing),
         Phase::Chain => o.fails(Wrong::SecondChain),
-        Phase::Ring => Draft {
+        Phase::Ring | Phase::Other(_) => Draft {
             phase: Phase::Chain,
             wrote: false,
             ..o

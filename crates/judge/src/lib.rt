@@ -32,13 +32,13 @@ fn in_range(limits: Limits, c: f64) -> bool
 
 // The cosines of the diagonal from o to q with the two steps from o.
 #[derive(Clone, Copy)]
-struct Cosines {
-    next: f64,
-    prev: f64,
+pub struct Cosines {
+    pub next: f64,
+    pub prev: f64,
 }
 
 impl Cosines {
-    fn of(o: GridPoint, q: GridPoint, next: Normed, prev: Normed) -> Cosines
+    pub fn of(o: GridPoint, q: GridPoint, next: Normed, prev: Normed) -> Cosines
         requires { OnSheet o × OnSheet q }
         ensures { result ≡ record { next = cosine next.step (sub q o); prev = cosine prev.step (sub q o) } }
     {
@@ -50,7 +50,7 @@ impl Cosines {
     }
 
     // The larger of the two, by which the best diagonal is chosen.
-    fn larger(self) -> f64
+    pub fn larger(self) -> f64
         ensures { result ≡ Judge.larger self.next self.prev }
     {
         larger(self.next, self.prev)

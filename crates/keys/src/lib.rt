@@ -59,7 +59,7 @@ impl SoughtKey {
     }
 
     // Where the two are equal, as nearly always when their keys are, no key is worked out.
-    fn is_key_of(self, x: f64) -> bool
+    pub fn is_key_of(self, x: f64) -> bool
         requires { Within 1024 x × Sought self }
         ensures { result ≡ eq_z (key_of self) (Keys.key x) }
     {

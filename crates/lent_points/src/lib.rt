@@ -56,7 +56,7 @@ pub fn any_outside(l: &[i32]) -> bool
 }
 
 // The sheet size is out of limits.
-fn size_out(size: u32) -> bool
+pub fn size_out(size: u32) -> bool
     ensures { result ≡ (eqb size 0 || ltb 2048 size) }
 {
     size == 0 || 2048 < size

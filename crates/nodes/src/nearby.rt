@@ -73,7 +73,7 @@ impl Span {
     }
 
     // Whether the key lies strictly between those of the ends: the scaled coordinate is rounded to no key beyond the two.
-    fn strict(self, k: SoughtKey) -> bool
+    pub fn strict(self, k: SoughtKey) -> bool
         ensures { result ≡ well_in self k.scaled }
     {
         (self.least <= k.scaled) & (k.scaled <= self.most)
@@ -100,7 +100,7 @@ impl RingBox {
     }
 
     // Kept: two keys and no SoughtPoint, whose ghost field would ask what is not asked here.
-    fn strict(self, kx: SoughtKey, ky: SoughtKey) -> bool
+    pub fn strict(self, kx: SoughtKey, ky: SoughtKey) -> bool
         ensures { result ≡ well_inside self kx.scaled ky.scaled }
     {
         let a = self.x;

@@ -32,9 +32,17 @@ pub fn any_of_16_out(x: f64x16) -> bool
     !(above & below).all()
 }
 
-// Whether all are finite and within 1,024 mm: 01's refusal 3 asks it of every used node.
+// Whether all are finite and within 1,024 mm: 01's refusal 3 asks it of every used node. It ends at the first block that has one
+// which is not, so that a bad list is refused as soon as that.
 pub fn all_on_sheet(l: &[f64]) -> bool
     ensures { result ≡ Flat.all_on_sheet l.now (length l.now) }
 {
-    !any_out(l)
+    let (blocks, rest) = l.as_chunks::<16>();
+    // Kept: a `for`, since a closure would not know that a block has 16 numbers.
+    for block in blocks {
+        if any_of_16_out(f64x16::from_array(*block)) {
+            return false;
+        }
+    }
+    !any_out(rest)
 }

@@ -149,3 +149,8 @@ pub front_is : (w : List ℕ) (t : Bool) → pointwise eqb (take 1 w) (45 ∷ []
 unfolding has_minus
 front_is [] t e = e
 front_is (b ∷ w) t e = sym (and-true (eqb b 45)) ∙ e
+
+-- no scale is zero
+pub scale_some : (w : List ℕ) (s : Met) → s ≡ scanned w → 0 < s.scale
+unfolding scanned
+scale_some w s a = rw a (below w (length w)).one

@@ -46,6 +46,16 @@ behind minus b =
 unfoldable pub read : List ℕ → Option Said
 read w = cond (has_minus w) (behind true (drop 1 w)) (behind false w)
 
+-- the sign, the digits and the scale of what stands behind a sign, number or not; of more than 19 bytes, those of nothing
+unfoldable pub spelled_behind : Bool → List ℕ → Said
+spelled_behind minus b =
+    let s = scanned b in
+    cond (ltb 19 (length b)) (record { minus = false; value = 0; scale = 1 }) (record { minus = minus; value = s.value; scale = s.scale })
+
+-- and those of a word
+unfoldable pub spelled : List ℕ → Said
+spelled w = cond (has_minus w) (spelled_behind true (drop 1 w)) (spelled_behind false w)
+
 -- "rounded to the nearest 1/8192 mm (halves away from zero)": n / d mm, its sign aside, are so many units
 unfoldable pub units : ℕ → ℕ → ℕ
 units n d = (n * 16384 + d) / (2 * d)

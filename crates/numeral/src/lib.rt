@@ -68,7 +68,7 @@ impl Met {
 
 // What was met in a word's bytes behind its sign, also where they are no number.
 #[tactic(auto, unfolding(crate::specs::Numeral::scan_to, crate::specs::Numeral::scanned), using(crate::proofs::Bounds::small))]
-fn scan(body: &[u8]) -> Met
+pub fn scan(body: &[u8]) -> Met
     requires { length body.now ≤ 19 }
     ensures { result ≡ Numeral.scanned body.now }
 {
@@ -111,6 +111,33 @@ pub fn read(word: &[u8]) -> Option<Said>
     match word.strip_prefix(b"-") {
         Some(body) => behind(true, body),
         None => behind(false, word),
+    }
+}
+
+// The sign, the digits and the scale of a word's bytes behind its sign, also where they are no number.
+#[tactic(auto, unfolding(crate::specs::Numeral::spelled_behind, crate::specs::Numeral::scanned, crate::specs::Numeral::scan_to), using(crate::proofs::Bounds::scale_some))]
+fn spelled_behind(minus: bool, body: &[u8]) -> Said
+    ensures said { result ≡ Numeral.spelled_behind minus body.now }
+    ensures some { 0 < result.scale }
+{
+    let nothing = body.len() > 19;
+    let s = scan(if nothing { b"" } else { body });
+    Said {
+        minus: minus && !nothing,
+        value: s.value,
+        scale: s.scale,
+    }
+}
+
+// Those of a word, which `read` tells of a number alone.
+#[tactic(auto, unfolding(crate::specs::Numeral::spelled), using(crate::proofs::Bounds::front_is))]
+pub fn spelled(word: &[u8]) -> Said
+    ensures said { result ≡ Numeral.spelled word.now }
+    ensures some { 0 < result.scale }
+{
+    match word.strip_prefix(b"-") {
+        Some(body) => spelled_behind(true, body),
+        None => spelled_behind(false, word),
     }
 }
 

@@ -44,7 +44,7 @@ impl PartList {
     {
         let a = usize::from(self.ends[self.count]);
         let b = a + ps.len();
-        self.corners[a..b].copy_from_slice(ps);
+        vector::copy(ps, &mut self.corners[a..b]);
         self.count += 1;
         self.ends[self.count] = b as u8;
     }

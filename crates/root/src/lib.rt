@@ -91,7 +91,7 @@ pub fn root_bits(b: u64) -> u64
 }
 
 // Over doubles. The logic has one NaN, whose bits no promise over f64 can name; `root_bits` names them.
-fn root(x: f64) -> f64
+pub fn root(x: f64) -> f64
     ensures { result ≡ root_of x }
 {
     if x > 0.0 {
@@ -109,7 +109,7 @@ fn root(x: f64) -> f64
 
 // The length of v, and the distance of two points, in mm.
 #[tactic(auto, unfolding(crate::specs::Norm::norm))]
-fn norm(v: Point) -> f64
+pub fn norm(v: Point) -> f64
     ensures { result ≡ Norm.norm v }
 {
     root(v.dot(v))

@@ -2,7 +2,7 @@
 use Rattle.std.specs.Prelude.{ℕ, ◌≤◌, ◌≡◌, false, List, length, Option}
 use Rattle.stream.specs.Reads.{Reads}
 use Rattle.told.specs.declared.Told.{Told}
-use Rattle.job.specs.Step.{step_of, Steps}
+use Rattle.job.specs.Step.{step_of, Steps, no_cells}
 use Rattle.job.specs.Run.{Bytes, start, no_points, no_nodes, no_rims}
 use Rattle.run.specs.declared.Job.{Job}
 
@@ -12,6 +12,7 @@ pub record Begins (j : Job) : Type 0 where
   pub points : j.ring ≡ no_points
   pub nodes : j.nodes ≡ no_nodes
   pub rims : j.rims ≡ no_rims
+  pub cells : j.cells ≡ no_cells
 
 -- the step over one more block of a run that has not ended leaves k of j, and tells t
 pub record Onward (j k : Job) (t : Told) : Type 0 where

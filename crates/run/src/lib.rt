@@ -5,8 +5,8 @@
 // loop's invariant is that the state, the node list with its rim marks and the count of bytes written were reached by the
 // bytes read so far, which are those that the reader gave, and that the writer got their text. So a run that ends has written
 // `printed` of all that the reader had, by `Gives`, in specs/Given; where a read failed, `printed` of the whole blocks before it
-// and of part of a block. A run that stops before is not proved. What is left to the calls of the operating system is said in
-// stream.
+// and of part of a block. A run that stops before with no error is not proved. What is left to the calls of the operating system
+// is said in stream.
 
 #![tactic(auto)]
 

@@ -18,6 +18,9 @@ pub use points::Points;
 use table::{Answer, Row};
 use text::Page;
 
+// No ring's text is longer.
+pub const MOST_RING: usize = 80000;
+
 // Where a node is, as places of a picture.
 #[derive(Clone, Copy)]
 pub struct Spot {
@@ -221,7 +224,14 @@ fn put_outline(page: &mut Page, ring: u64, corners: u64, cuts: u64, points: &Poi
 
 // An accepted ring: its outline, its cells and their edges.
 #[tactic(auto, using(crate::proofs::Turns::in_turn), unfolding(text::specs::Text::bytes, crate::specs::Scene::divided_text))]
-fn put_divided(page: &mut Page, ring: u64, corners: u64, cuts: u64, points: &Points, lists: &Lists)
+pub fn put_divided(
+    page: &mut Page,
+    ring: u64,
+    corners: u64,
+    cuts: u64,
+    points: &Points,
+    lists: &Lists,
+)
     requires { Room page.old (Handed.divided ring corners cuts points.now lists.now) }
     ensures { Wrote page.old (Handed.divided ring corners cuts points.now lists.now) page.new }
 {
@@ -233,7 +243,7 @@ fn put_divided(page: &mut Page, ring: u64, corners: u64, cuts: u64, points: &Poi
 // A refused ring: its outline, and its number in it.
 // Kept: its number, which is what is drawn, and may be any; 8, of a failing cell, is no `Refusal`.
 #[tactic(auto, using(crate::proofs::Turns::in_turn), unfolding(text::specs::Text::bytes, crate::specs::Scene::refused_text))]
-fn put_refused(page: &mut Page, ring: u64, code: u64, corners: u64, k: u64, points: &Points)
+pub fn put_refused(page: &mut Page, ring: u64, code: u64, corners: u64, k: u64, points: &Points)
     requires { Room page.old (Handed.refused ring code corners k points.now) }
     ensures { Wrote page.old (Handed.refused ring code corners k points.now) page.new }
 {

@@ -1,2 +1,3 @@
--- What reads gave.
+-- What reads gave, and how a number is written.
 pub mod Reads
+pub mod Shown

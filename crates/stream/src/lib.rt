@@ -15,8 +15,11 @@
 
 ghost use Rattle.std.specs.Prelude.{◌≡◌, ◌+◌, ◌^◌, ◌≤◌, ◌<◌, max, length, take, IfOk, IfErr, OnOk, OnErr};
 ghost use Rattle.std.specs.Io.KnownBytes.{Appends, Consumes, IsAtEnd};
+ghost use Rattle.std.specs.Fmt.{decimal};
 ghost use Rattle.stream.specs.Reads.{Reads};
+ghost use Rattle.stream.specs.Shown.{sixteen};
 
+use std::io;
 use std::io::{Cursor, Error, Read, Write};
 
 // A read failed; so many bytes had come.
@@ -122,6 +125,20 @@ pub fn write_all<W: Write>(output: &mut W, text: &[u8]) -> Result<(), WriteFaile
 {
     let mut sent: u64 = 0;
     write_counted(output, text, &mut sent)
+}
+
+// Writes a number in decimal digits.
+pub fn print_decimal<W: Write>(output: &mut W, n: u64) -> io::Result<()>
+    ensures { OnOk result (Appends (W.contents output.old) (W.contents output.new) (decimal n)) }
+{
+    write!(output, "{n}")
+}
+
+// Writes a number in sixteen hexadecimal digits.
+pub fn print_hex<W: Write>(output: &mut W, n: u64) -> io::Result<()>
+    ensures { OnOk result (Appends (W.contents output.old) (W.contents output.new) (sixteen n)) }
+{
+    write!(output, "{n:016x}")
 }
 
 // How much of an error's text stands before its number in brackets.

@@ -43,8 +43,8 @@ fn segment(vs: &[Vertex], v: usize, m: usize) -> [Vertex; MOST_POINTS]
 {
     let mut out = [Vertex::BLANK; MOST_POINTS];
     let ahead = m.min(vs.len() - v);
-    out[..ahead].copy_from_slice(&vs[v..v + ahead]);
-    out[ahead..m].copy_from_slice(&vs[..m - ahead]);
+    vector::copy(&vs[v..v + ahead], &mut out[..ahead]);
+    vector::copy(&vs[..m - ahead], &mut out[ahead..m]);
     out[m - 1].edge = Vertex::STRAIGHT;
     out
 }

@@ -1,38 +1,16 @@
--- Whether one of the numbers so far is not on the sheet, as a pass by blocks finds it out.
-use Prim.Native.Nat.{ℕ, ◌+◌, ◌*◌, ◌≤◌}
-use native.Mathlib.Omega.{arith}
-use mathlib.Core.Path.{◌≡◌, sym, ap, ◌∙◌}
+-- Whether all the numbers are on the sheet, as a pass by blocks finds it out.
+use Prim.Native.Nat.{ℕ, ◌≤◌}
+use mathlib.Core.Path.{◌≡◌, ◌∙◌}
 use mathlib.Core.Bool.{Bool, false, not, ◌||◌}
-use mathlib.Core.List.{List, ◌++◌}
+use mathlib.Core.List.{List}
 use lib.ListN.{length, take, drop}
-use lib.Seq.{take-add}
-use lib.Ieee.{Float, nan}
+use lib.Ieee.{Float}
 use Rattle.std.specs.List.{fold, list_any}
-use Rattle.std.proofs.lemmas.List.{take-append-drop}
-use Rattle.std.proofs.lemmas.List.Folds.{list_any-append}
-use Rattle.nodes.specs.Flat.{on_sheet, all_on_sheet}
-use Rattle.nodes.proofs.Ranged.{listed, any_fold, front_on_sheet}
+use Rattle.nodes.specs.Flat.{all_on_sheet}
+use Rattle.nodes.proofs.Ranged.{front_on_sheet}
+use Rattle.nodes.proofs.Passes.{off_sheet, whole}
 
-abbrev pub off_sheet : Float → Bool
-off_sheet x = not (on_sheet x)
-
--- one list after another
-joined : (l m : List Float) (b c : Bool) → b ≡ list_any off_sheet l → c ≡ fold (λ b x. b || off_sheet x) false m → (b || c) ≡ list_any off_sheet (l ++ m)
-joined l m b c e f = (λ j. e j || (f ∙ listed off_sheet m false) j) ∙ sym (list_any-append off_sheet l m)
-
--- a block after those before it
-pub block : (l : List Float) (i : ℕ) (b c : Bool)
-    → b ≡ list_any off_sheet (take (i * 16) l) → c ≡ fold (λ b x. b || off_sheet x) false (take 16 (drop (i * 16) l))
-    → (b || c) ≡ list_any off_sheet (take ((i + 1) * 16) l)
-block l i b c e f =
-    let z : i * 16 + 16 ≡ (i + 1) * 16 = omega arith in
-    joined (take (i * 16) l) (take 16 (drop (i * 16) l)) b c e f ∙ ap (list_any off_sheet) (sym (take-add (i * 16) 16 l) ∙ ap (λ (k : ℕ). take k l) z)
-
--- and the rest: all are on the sheet
+-- of the first k: those before the place n, and the rest
 pub told : (l : List Float) (k n : ℕ) (b c : Bool) → k ≤ length l → b ≡ list_any off_sheet (take n (take k l))
     → c ≡ fold (λ b x. b || off_sheet x) false (drop n (take k l)) → not (b || c) ≡ all_on_sheet l k
-unfolding all_on_sheet
-told l k n b c h e f =
-    ap not (joined (take n (take k l)) (drop n (take k l)) b c e f ∙ ap (list_any off_sheet) (take-append-drop n (take k l))
-    ∙ sym (listed off_sheet (take k l) false) ∙ any_fold off_sheet nan (take k l) false)
-    ∙ front_on_sheet l k h
+told l k n b c h e f = whole (take k l) n b c e f ∙ front_on_sheet l k h

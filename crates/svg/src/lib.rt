@@ -20,7 +20,7 @@ use text::{Page, Slots};
 pub const ORIGIN: u64 = 20000000;
 
 // The place of a coordinate that a node has.
-fn place_of(x: f64) -> u64
+pub fn place_of(x: f64) -> u64
     ensures { result ≡ Place.place_of x }
 {
     if !nodes::is_on_sheet(x) {

@@ -6,9 +6,9 @@
 
 #![tactic(auto)]
 
-ghost use Rattle.std.specs.Prelude.{◌≡◌, ℕ, List, [], ◌∷◌, ◌+◌, ◌<◌, drop, get_or};
+ghost use Rattle.std.specs.Prelude.{◌≡◌, ℕ, List, [], ◌∷◌, ◌+◌, ◌≤◌, ◌<◌, length, drop, get_or};
 ghost use Rattle.std.specs.Slice.Iter.{iter_rest};
-ghost use Rattle.text.specs.Text.{decimal, stands_for, takes, filled, filled_by};
+ghost use Rattle.text.specs.Text.{decimal, stands_for, takes, filled, filled_by, Written};
 ghost use Rattle.text.specs.Page.{Room, Wrote};
 
 use std::slice::Iter;
@@ -41,6 +41,29 @@ fn digit(n: u64) -> u8
     48 + n as u8
 }
 
+#[tactic(auto, using(crate::proofs::Writing::one_byte))]
+pub fn put_byte(out: &mut [u8], at: usize, b: u8) -> usize
+    requires { at < length out.old }
+    ensures { Written out.old at (b ∷ []) result out.new }
+{
+    out[at] = b;
+    at + 1
+}
+
+// The digits of n before the last, and the last, from a place on; answers the place after them.
+// Kept: a list and a place, where the others take the page: a page that goes through calls of itself stays in memory, and with it
+// the place of every byte that is written, which took three times as long.
+pub fn put_decimal(out: &mut [u8], at: usize, n: u64) -> usize
+    requires { at + length (decimal n) ≤ length out.old }
+    ensures { Written out.old at (decimal n) result out.new }
+{
+    if n < 10 {
+        return put_byte(out, at, digit(n));
+    }
+    let next = put_decimal(out, at, n / 10);
+    put_byte(out, next, digit(n % 10))
+}
+
 impl Page<'_> {
     #[tactic(auto, using(crate::proofs::Writing::one_byte))]
     pub fn byte(&mut self, b: u8)
@@ -51,15 +74,11 @@ impl Page<'_> {
         self.at += 1;
     }
 
-    // The digits before the last, and the last.
     pub fn decimal(&mut self, n: u64)
         requires { Room self.old (decimal n) }
         ensures { Wrote self.old (decimal n) self.new }
     {
-        if n >= 10 {
-            self.decimal(n / 10);
-        }
-        self.byte(digit(n % 10));
+        self.at = put_decimal(self.out, self.at, n);
     }
 
     // A form of any kind, with the numbers in its slots, in order.

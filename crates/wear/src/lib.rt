@@ -123,7 +123,7 @@ fn total(cuts: &[u8]) -> u64
 fn highest(cuts: &[u8]) -> u64
     ensures { result ≡ Rule.highest cuts.now }
 {
-    cuts.iter().map(|c| u64::from(*c)).max().unwrap_or(0)
+    cuts.iter().fold(0, |most, c| most.max(u64::from(*c)))
 }
 
 // The three values of a record that holds no more than 32 rings.
@@ -164,7 +164,7 @@ fn stored(r: &Record, cuts: u8) -> Record
 // Kept: the number as C hands it over, any of which is taken, and 0 alone is told from the others. With an Option of the cuts each
 // caller would take the number apart.
 #[tactic(auto, unfolding(crate::specs::Wear::added, crate::specs::Wear::reported, crate::specs::Wear::refused))]
-fn add(r: &mut Record, code: u64, cuts: u64) -> Result<Values, Refused>
+pub fn add(r: &mut Record, code: u64, cuts: u64) -> Result<Values, Refused>
     ensures { (result ≡ (Rule.added r.old code cuts).values) × (r.new ≡ (Rule.added r.old code cuts).kept) }
 {
     if invalid(r) {

@@ -107,7 +107,7 @@ pub fn read_list<R: Read, T: Field>(input: &mut R, list: &mut [T], n: usize)
 
 // The first elements of a list over those of another, as many as both have.
 // Kept: std's `copy_from_slice` is for two lists of one length.
-fn copy<T: Copy>(from: &[T], to: &mut [T])
+pub fn copy<T: Copy>(from: &[T], to: &mut [T])
     ensures { to.new ≡ take (min (length from.now) (length to.old)) from.now ++ drop (min (length from.now) (length to.old)) to.old }
 {
     let n = from.len().min(to.len());
@@ -115,7 +115,7 @@ fn copy<T: Copy>(from: &[T], to: &mut [T])
 }
 
 // Byte i of a destination before a call.
-fn found(i: usize) -> u8 {
+pub fn found(i: usize) -> u8 {
     ((i % 256 * 37 + 91) % 256) as u8
 }
 
@@ -135,7 +135,7 @@ pub fn read_packed<R: Read>(input: &mut R, bytes: &mut [u8], n: usize) {
 }
 
 // What byte i of a destination must be after a call that wrote its first n bytes.
-fn left(want: u8, i: usize, n: usize) -> u8 {
+pub fn left(want: u8, i: usize, n: usize) -> u8 {
     if i < n { want } else { found(i) }
 }
 

@@ -16,7 +16,7 @@ pub struct Tally {
 
 impl Tally {
     // One more. Like all counts here it goes round at 2^64.
-    fn ran(self, same: bool) -> Tally
+    pub fn ran(self, same: bool) -> Tally
         ensures { (result.ran ≡ (self.ran + 1) % 2 ^ 64) × (result.differ ≡ (self.differ + cond same 0 1) % 2 ^ 64) }
     {
         self + Tally {
@@ -35,7 +35,7 @@ impl Tally {
     }
 
     // Of a list whose rows are wrong on purpose: how many they are, and how many were told to differ.
-    fn print_told<W: Write>(self, output: &mut W, name: &str, how: &str) {
+    pub fn print_told<W: Write>(self, output: &mut W, name: &str, how: &str) {
         let _ = write!(
             output,
             "{name}{how}: {} wrong on purpose, {} told\n",

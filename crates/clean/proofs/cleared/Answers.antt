@@ -20,4 +20,4 @@ pub returns : goal.returns
 returns c =
     let l = c.loop-i in
     let r = c.args.r.now in
-    copied r l.point-items c.copy_from_slice.new.self l.i l.invariant.0 (omega (arith, l.invariant.0, c.loop-i-test.false)) l.invariant.1 (search rules)
+    copied r l.point-items c.copy.new.to l.i l.invariant.0 (omega (arith, l.invariant.0, c.loop-i-test.false)) l.invariant.1 (search rules)

@@ -1,16 +1,32 @@
--- `put_spaces`: a turn writes one more space.
-use mathlib.Core.List.{[], ◌∷◌}
+-- `put_spaces`: the places are filled at once.
+use Prim.Native.Nat.{ℕ, ◌+◌, ◌-◌}
 use native.Mathlib.Omega.{arith}
-use Rattle.text.proofs.Pages.{wrote_none, room-turn, wrote-turn}
-use Rattle.listing.proofs.Texts.{spaces, more-spaces}
+use mathlib.Core.Path.{◌≡◌, refl, sym, ap, ◌∙◌}
+use mathlib.Core.List.{List, ◌++◌, append_assoc}
+use lib.ListN.{length, replicate, take, drop, length-take, length-drop}
+use lib.Seq.{drop-drop}
+use borrow.Rule.Slice.PartMut.{put_mid}
+use Rattle.std.proofs.lemmas.List.{length-replicate}
+use Rattle.text.specs.Text.{put}
 use Rattle.listing.proofs.put_spaces.Goals as goal
 
-pub loop-init : goal.loop-init
-loop-init c = wrote_none c.args.page.now (record { fits = omega (arith, c.requires.fits) })
-
-pub byte-requires : goal.byte-requires
-byte-requires c = room-turn spaces (λ i. 32 ∷ []) more-spaces c.args.n c.requires c.loop-test.true c.loop.invariant
-
-pub loop-preserved : goal.loop-preserved
-loop-preserved c =
-    wrote-turn spaces (λ i. 32 ∷ []) more-spaces c.args.n c.requires c.loop-test.true c.loop.invariant c.byte.ensures
+pub returns : goal.returns
+unfolding put
+returns c =
+    let p = c.args.page.now in
+    let l : List ℕ = p.out.now in
+    let n : ℕ = c.args.n in
+    let t : List ℕ = replicate n 32 in
+    let s : length t ≡ n = length-replicate n 32 in
+    let k : p.at + n - p.at ≡ n = omega arith in
+    let long : length (take (p.at + n - p.at) (drop p.at l)) ≡ n = simp (length-take, length-drop) (omega (arith, c.requires.fits, s)) in
+    let filled : c.fill.new.self ≡ t = c.fill.ensures.after (λ y e. e) ∙ ap (λ (m : ℕ). replicate m 32) long in
+    record {
+      list = refl;
+      text = record {
+        place = ap (λ (m : ℕ). p.at + m) (sym s);
+        list = (λ j. put_mid p.at (k j) l (filled j))
+            ∙ ap (λ (r : List ℕ). take p.at l ++ (t ++ r)) (drop-drop n p.at l ∙ ap (λ (m : ℕ). drop (p.at + m) l) (sym s))
+            ∙ sym (append_assoc (take p.at l) t (drop (p.at + length t) l));
+      };
+    }

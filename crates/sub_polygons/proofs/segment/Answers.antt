@@ -84,10 +84,10 @@ module _ (vs : List Vertex) (b : Vertex) (qs rs : List Vertex) (v m a : ℕ) (n 
 pub returns : goal.returns
 returns c =
     let e = c.min-ahead.ensures in (
-      done c.args.vs.now _ c.copy_from_slice.new.self c.copy_from_slice-2.new.self c.args.v c.args.m c.min-ahead.result c.requires.3
+      done c.args.vs.now _ c.copy.new.to c.copy-2.new.to c.args.v c.args.m c.min-ahead.result c.requires.3
           (omega (arith, c.requires.0, c.requires.3)) (omega (arith, e)) (omega (arith, e, c.requires.1)) (λ h. omega (arith, e, h))
-          c.copy_from_slice.ensures.after c.copy_from_slice-2.ensures.after c.requires.2 c.index-out-m.result _,
-      rest c.args.vs.now _ c.copy_from_slice.new.self c.copy_from_slice-2.new.self c.args.v c.args.m c.min-ahead.result c.requires.3
+          c.copy.ensures c.copy-2.ensures c.requires.2 c.index-out-m.result _,
+      rest c.args.vs.now _ c.copy.new.to c.copy-2.new.to c.args.v c.args.m c.min-ahead.result c.requires.3
           (omega (arith, c.requires.0, c.requires.3)) (omega (arith, e)) (omega (arith, e, c.requires.1)) (λ h. omega (arith, e, h))
-          c.copy_from_slice.ensures.after c.copy_from_slice-2.ensures.after c.requires.2 _ refl refl,
+          c.copy.ensures c.copy-2.ensures c.requires.2 _ refl refl,
     )

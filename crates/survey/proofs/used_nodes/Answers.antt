@@ -13,6 +13,7 @@ use Rattle.std.proofs.lemmas.Simd.{length-chunk}
 use Rattle.laws.proofs.Chunks.{chunk_is, chunk_at}
 use Rattle.survey.specs.Survey.{Gathered}
 use Rattle.survey.proofs.Gathering as gathering
+use Rattle.nodes.proofs.Passes.{off_sheet, block}
 use Rattle.survey.proofs.Tested as tested
 use Rattle.survey.proofs.used_nodes.Goals as goal
 use Rattle.survey.proofs.used_nodes.Invariants.{State}
@@ -74,9 +75,9 @@ loop-b-preserved c =
     let z : q.b * 8 + 8 ≡ (q.b + 1) * 8 = omega arith in
     record {
       tested =
-          tested.block (take (a.old * 2) a.nodes.now) q.b q.out c.any_of_16_out-out.result i.tested (
+          block (take (a.old * 2) a.nodes.now) q.b q.out c.any_of_16_out-out.result i.tested (
           c.any_of_16_out-out.ensures
-          ∙ ap (fold (λ b x. b || tested.off_sheet x) false)
+          ∙ ap (fold (λ b x. b || off_sheet x) false)
           (is a.nodes.now a.old c.requires.0 c.as_chunks.result.0.now e.front e.front_len q.b c.loop-b-test.true)
           );
       gathered = subst (λ (n : ℕ). Gathered a.nodes.now a.w n a.numbers.now a.xs.now k.new.numbers k.new.xs k.result) z
@@ -95,5 +96,5 @@ returns c =
     let e = c.as_chunks.ensures in
     let d = e.back ∙ ap (λ (k : ℕ). drop k (take (a.old * 2) a.nodes.now)) (omega (arith, e.front_len)) in
     let h = tested.told a.nodes.now (a.old * 2) _ c.loop-b.out c.any_out.result c.requires.0 s.tested
-    (c.any_out.ensures ∙ ap (fold (λ b x. b || tested.off_sheet x) false) d) in
+    (c.any_out.ensures ∙ ap (fold (λ b x. b || off_sheet x) false) d) in
     (λ j. record { on_sheet = h j; near = record { ring_box = a.w; old = a.old; count = g.count j } }, g.are, g.are_x)

@@ -9,7 +9,7 @@ use Rattle.std.specs.List.{list_any}
 use Rattle.nodes.specs.declared.nearby.RingBox.{RingBox}
 use Rattle.nodes.specs.Nearby.{most_nearby}
 use Rattle.survey.specs.Survey.{Gathered}
-use Rattle.survey.proofs.Tested.{off_sheet}
+use Rattle.nodes.proofs.Passes.{off_sheet}
 use Rattle.survey.proofs.used_nodes.Given as goal
 
 -- i blocks are passed

@@ -5,4 +5,4 @@ use Rattle.run.proofs.Reaching.{zero_bits}
 use Rattle.run.proofs.Job.new.Goals as goal
 
 pub returns : goal.returns
-returns c = record { state = c.new.ensures; points = refl; nodes = ap (replicate 3072) zero_bits; rims = refl }
+returns c = record { state = c.new.ensures; points = refl; nodes = ap (replicate 3072) zero_bits; rims = refl; cells = refl }

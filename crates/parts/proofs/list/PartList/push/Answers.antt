@@ -6,4 +6,4 @@ use Rattle.parts.proofs.list.PartList.push.Goals as goal
 pub returns : goal.returns
 returns c =
     pushed-at c.args.self.now c.requires.0 (search rules) (search rules) c.args.ps.now c.requires.3 c.from-a.result _ _ c.from-a.ensures
-    (omega arith) c.copy_from_slice.ensures.after _ refl refl refl
+    (omega arith) c.copy.ensures _ refl refl refl

@@ -1,0 +1,6 @@
+-- `copy`, the loop's invariant: the first i elements are those of the other list.
+use Rattle.std.proofs.Common.{◌≡◌, length, take}
+use Rattle.vector.proofs.lists.copy.Given as goal
+
+abbrev pub invariant-loop-i : goal.invariant-loop-i
+invariant-loop-i g l = (length l.to ≡ length l.from) × (take l.i l.to ≡ take l.i l.from)
